@@ -1,0 +1,245 @@
+// Times the calls of the static library on the workloads: one round, a line `WORKLOAD CALL NANOSECONDS` for each.
+// A call added to `calls` is timed on every workload; bench/run says what it is set beside.
+use std::hint::black_box;
+use std::time::Instant;
+
+mod reader {
+    // Slices go as a pointer and a length.
+    extern "C" {
+        fn forthwn_refusal(bytes: *const u8, len: usize) -> u32;
+        fn forthwn_read(
+            bytes: *const u8,
+            len: usize,
+            final_states: *mut u16,
+            final_states_len: usize,
+            final_weights: *mut u32,
+            final_weights_len: usize,
+            fields: *mut u16,
+            fields_len: usize,
+            arc_weights: *mut u32,
+            arc_weights_len: usize,
+            head: *mut [u32; 4],
+        ) -> u32;
+        fn forthwn_write(
+            n: u32,
+            m: u32,
+            f: u32,
+            start: u32,
+            final_states: *const u16,
+            final_states_len: usize,
+            final_weights: *const u32,
+            final_weights_len: usize,
+            fields: *const u16,
+            fields_len: usize,
+            arc_weights: *const u32,
+            arc_weights_len: usize,
+            out: *mut u8,
+            out_len: usize,
+            len: *mut u32,
+        ) -> u32;
+        fn forthwn_compose(
+            left: *const u8,
+            left_len: usize,
+            right: *const u8,
+            right_len: usize,
+            table: *mut u8,
+            table_len: usize,
+            origins: *mut u16,
+            origins_len: usize,
+            states: *mut u32,
+            states_len: usize,
+            len: *mut u32,
+        ) -> u32;
+    }
+
+    // What reading fills: the four buffers at their least lengths, and states, arcs, finals and start.
+    #[derive(Clone)]
+    pub struct Parts {
+        pub final_states: Vec<u16>,
+        pub final_weights: Vec<u32>,
+        pub fields: Vec<u16>,
+        pub arc_weights: Vec<u32>,
+        pub head: [u32; 4],
+    }
+
+    impl Parts {
+        pub fn new() -> Parts {
+            Parts { final_states: vec![1; 1024], final_weights: vec![1; 1024], fields: vec![1; 12288], arc_weights: vec![1; 3072], head: [0; 4] }
+        }
+
+        // The plain clearing that reading is set beside.
+        pub fn clear(&mut self) {
+            self.final_states.fill(0);
+            self.final_weights.fill(0);
+            self.fields.fill(0);
+            self.arc_weights.fill(0);
+        }
+    }
+
+    // What composing fills: the bytes, the origins and the states to work in, at their least lengths.
+    pub struct Composed {
+        pub table: Vec<u8>,
+        pub origins: Vec<u16>,
+        pub states: Vec<u32>,
+    }
+
+    impl Composed {
+        pub fn new() -> Composed {
+            Composed { table: vec![1; 59404], origins: vec![1; 6144], states: vec![1; 1024] }
+        }
+    }
+
+    pub fn refusal(bytes: &[u8]) -> u32 {
+        unsafe { forthwn_refusal(bytes.as_ptr(), bytes.len()) }
+    }
+
+    pub fn read(bytes: &[u8], p: &mut Parts) -> u32 {
+        let (a, b, c, d) = (&mut p.final_states, &mut p.final_weights, &mut p.fields, &mut p.arc_weights);
+        unsafe {
+            forthwn_read(
+                bytes.as_ptr(), bytes.len(),
+                a.as_mut_ptr(), a.len(), b.as_mut_ptr(), b.len(), c.as_mut_ptr(), c.len(), d.as_mut_ptr(), d.len(),
+                &mut p.head,
+            )
+        }
+    }
+
+    // The refusal and the number of bytes.
+    pub fn write(p: &Parts, out: &mut [u8]) -> (u32, u32) {
+        let (a, b, c, d) = (&p.final_states, &p.final_weights, &p.fields, &p.arc_weights);
+        let [n, m, f, start] = p.head;
+        let mut len = 0;
+        let refusal = unsafe {
+            forthwn_write(
+                n, m, f, start,
+                a.as_ptr(), a.len(), b.as_ptr(), b.len(), c.as_ptr(), c.len(), d.as_ptr(), d.len(),
+                out.as_mut_ptr(), out.len(), &mut len,
+            )
+        };
+        (refusal, len)
+    }
+
+    // The refusal and the number of bytes.
+    pub fn compose(left: &[u8], right: &[u8], c: &mut Composed) -> (u32, u32) {
+        let (a, b, d) = (&mut c.table, &mut c.origins, &mut c.states);
+        let mut len = 0;
+        let refusal = unsafe {
+            forthwn_compose(
+                left.as_ptr(), left.len(), right.as_ptr(), right.len(),
+                a.as_mut_ptr(), a.len(), b.as_mut_ptr(), b.len(), d.as_mut_ptr(), d.len(), &mut len,
+            )
+        };
+        (refusal, len)
+    }
+}
+
+// The median of samples of at least 20 microseconds each, as openfst.cc takes it.
+fn median_ns(call: &mut dyn FnMut()) -> f64 {
+    let begun = Instant::now();
+    let mut count = 0.0;
+    while begun.elapsed().as_nanos() < 5_000_000 {
+        call();
+        count += 1.0;
+    }
+    let each = begun.elapsed().as_nanos() as f64 / count;
+    let batch = ((20_000.0 / each) as u32).max(1);
+    let samples = if each > 200_000.0 { 51 } else { 301 };
+    let mut times: Vec<f64> = (0..samples)
+        .map(|_| {
+            let begun = Instant::now();
+            for _ in 0..batch {
+                call();
+            }
+            begun.elapsed().as_nanos() as f64 / f64::from(batch)
+        })
+        .collect();
+    times.sort_by(f64::total_cmp);
+    times[times.len() / 2]
+}
+
+fn file(folder: &str, name: &str) -> Vec<u8> {
+    let path = format!("{folder}/{name}");
+    std::fs::read(&path).unwrap_or_else(|e| panic!("{path}: {e}"))
+}
+
+// A transducer's parts; stops where it is not read, or not written back as the same bytes.
+fn parts_of(bytes: &[u8]) -> reader::Parts {
+    let mut parts = reader::Parts::new();
+    let mut out = vec![1; 59404];
+    assert_eq!(reader::read(bytes, &mut parts), 0, "read");
+    assert_eq!(reader::write(&parts, &mut out), (0, bytes.len() as u32), "write");
+    assert!(out.starts_with(bytes) && out[bytes.len()..].iter().all(|&x| x == 0), "the bytes written");
+    parts
+}
+
+// Buffers to compose into; stops where the composition is not what the workload has.
+fn composed_of(left: &[u8], right: &[u8], joined: &[u8]) -> reader::Composed {
+    let mut composed = reader::Composed::new();
+    assert_eq!(reader::compose(left, right, &mut composed), (0, joined.len() as u32), "compose");
+    let (bytes, behind) = composed.table.split_at(joined.len());
+    assert!(bytes == joined && behind.iter().all(|&x| x == 0), "the bytes composed");
+    assert!(composed.states.iter().all(|&x| x == 0), "the states");
+    composed
+}
+
+// One state with as many arcs onto itself as there may be.
+fn loops(input: u16, output: u16) -> Vec<u8> {
+    let head: [u16; 6] = [8, 1, 1, 3072, 0, 0];
+    let arc: [u16; 8] = [12, 3, 0, input, output, 0, 0, 0];
+    let fields = head.into_iter().chain(std::iter::repeat(arc).take(3072).flatten());
+    fields.flat_map(u16::to_le_bytes).collect()
+}
+
+// Composing such a pair enumerates 3,072 times 3,072 steps and then ends in 12.
+fn round_of_loops() {
+    let (left, right, mut composed) = (loops(1, 2), loops(2, 3), reader::Composed::new());
+    assert_eq!(reader::compose(&left, &right, &mut composed), (12, 0), "compose");
+    let ns = median_ns(&mut || {
+        black_box(reader::compose(black_box(&left), black_box(&right), &mut composed));
+    });
+    println!("loops compose {ns:.1}");
+}
+
+fn round(folder: &str, name: &str) {
+    let (left, right) = (file(folder, "left.tab"), file(folder, "right.tab"));
+    let mut composed = composed_of(&left, &right, &file(folder, "joined.tab"));
+    let (left_parts, right_parts) = (parts_of(&left), parts_of(&right));
+    let (mut read_left, mut read_right) = (left_parts.clone(), right_parts.clone());
+    let (mut clear_left, mut clear_right) = (left_parts.clone(), right_parts.clone());
+    let (mut out_left, mut out_right) = (vec![0u8; 59404], vec![0u8; 59404]);
+    let (mut zero_left, mut zero_right) = (vec![0u8; 59404], vec![0u8; 59404]);
+    let mut calls: Vec<(&str, Box<dyn FnMut()>)> = vec![
+        ("refusal", Box::new(|| {
+            black_box(reader::refusal(black_box(&left)) + reader::refusal(black_box(&right)));
+        })),
+        ("read", Box::new(|| {
+            black_box(reader::read(black_box(&left), &mut read_left) + reader::read(black_box(&right), &mut read_right));
+        })),
+        ("clear-parts", Box::new(|| {
+            black_box(&mut clear_left).clear();
+            black_box(&mut clear_right).clear();
+        })),
+        ("write", Box::new(|| {
+            black_box(reader::write(black_box(&left_parts), &mut out_left));
+            black_box(reader::write(black_box(&right_parts), &mut out_right));
+        })),
+        ("clear-bytes", Box::new(|| {
+            black_box(&mut zero_left).fill(0);
+            black_box(&mut zero_right).fill(0);
+        })),
+        ("compose", Box::new(|| {
+            black_box(reader::compose(black_box(&left), black_box(&right), &mut composed));
+        })),
+    ];
+    for (call, run) in &mut calls {
+        println!("{name} {call} {:.1}", median_ns(run));
+    }
+}
+
+fn main() {
+    let folder = std::env::args().nth(1).expect("usage: reader FOLDER_OF_WORKLOADS NAME..");
+    for name in std::env::args().skip(2) {
+        round(&format!("{folder}/{name}"), &name);
+    }
+    round_of_loops();
+}

@@ -1,0 +1,245 @@
+-- The heads, the walk, 11 and 12, each with its law in `ComposeSays`; what is written is `write_out`'s.
+use borrow.Author.Needs.{needs}
+use native.Mathlib.Omega.{arith}
+use Rattle.wire.specs.Bytes.{Bytes}
+use Rattle.transducer.specs.Format.{decode}
+use Rattle.compose.proofs.ComposeSays.{says-11, says-12, says-same}
+use Rattle.compose.proofs.Opening.{Opening, opening, head-inside, first-key}
+use Rattle.compose.proofs.entry.compose_into.Statement.{statement}
+use Rattle.compose.proofs.entry.compose_into.Tie as tie
+
+-- The way back from a place to an earlier one.
+abbrev lent : tie.After-header → tie.After-shared-slice-known2
+lent c = c .before .before .before .before
+
+abbrev entry : tie.After-shared-slice-known2 → tie.Start
+entry c = c .before .before
+
+abbrev heads : tie.After-pack → tie.After-header2
+heads c = c .before .before .before .before .before .before .before .before .before
+
+abbrev packed : tie.After-walk-all → tie.After-pack
+packed c = c .before .before .before .before .before .before
+
+-- The bytes are bytes.
+left-bytes : (c : tie.After-shared-slice-known2) → Bytes (entry c .args .left .now)
+left-bytes c = λ i. omega (arith, c .before .shared-slice-known .given i)
+
+right-bytes : (c : tie.After-shared-slice-known2) → Bytes (entry c .args .right .now)
+right-bytes c = λ i. omega (arith, c .shared-slice-known2 .given i)
+
+-- The two heads.
+left-head : (c : tie.After-header2) → Opening (entry (lent (c .before)) .args .left .now) (c .before .header .result)
+left-head c =
+    let k = lent (c .before) in
+    opening (entry k .args .left .now) (c .before .header .result) (left-bytes k) (entry k .pre .left-accepted) (c .before .header .ensures)
+
+right-head : (c : tie.After-header2) → Opening (entry (lent (c .before)) .args .right .now) (c .header2 .result)
+right-head c =
+    let k = lent (c .before) in
+    opening (entry k .args .right .now) (c .header2 .result) (right-bytes k) (entry k .pre .right-accepted) (c .header2 .ensures)
+
+header-requires : tie.Need-header-requires
+header-requires c κs =
+    let k = c .before .before .before in
+    head-inside (entry k .args .left .now) (left-bytes k) (entry k .pre .left-accepted)
+
+header-requires-2 : tie.Need-header-requires-2
+header-requires-2 c κs = let k = lent c in head-inside (entry k .args .right .now) (right-bytes k) (entry k .pre .right-accepted)
+
+cast-lfirst : tie.Need-cast-lfirst
+cast-lfirst c = search needs
+
+mul-lfirst : tie.Need-mul-lfirst
+mul-lfirst c = search needs
+
+add-lfirst : tie.Need-add-lfirst
+add-lfirst c = search needs
+
+cast-rfirst : tie.Need-cast-rfirst
+cast-rfirst c = search needs
+
+mul-rfirst : tie.Need-mul-rfirst
+mul-rfirst c = search needs
+
+add-rfirst : tie.Need-add-rfirst
+add-rfirst c = search needs
+
+cast-first-arcs : tie.Need-cast-first-arcs
+cast-first-arcs c = search needs
+
+cast-first-arcs-2 : tie.Need-cast-first-arcs-2
+cast-first-arcs-2 c = search needs
+
+first-arcs-requires : tie.Need-first-arcs-requires
+first-arcs-requires c κs = let h = left-head (c .before .before .before .before) in (h .opened, h .states, h .arcs)
+
+cast-first-arcs-3 : tie.Need-cast-first-arcs-3
+cast-first-arcs-3 c = search needs
+
+cast-first-arcs-4 : tie.Need-cast-first-arcs-4
+cast-first-arcs-4 c = search needs
+
+first-arcs-requires-2 : tie.Need-first-arcs-requires-2
+first-arcs-requires-2 c κs = let h = right-head (c .before .before .before .before .before .before .before) in (h .opened, h .states, h .arcs)
+
+pack-requires : tie.Need-pack-requires
+pack-requires c κs =
+    let h = c .before .before .before .before .before .before .before .before in
+    (left-head h .small, right-head h .small, omega arith)
+
+walk-all-requires : tie.Need-walk-all-requires
+walk-all-requires c κs =
+    let p = c .before .before .before .before .before in
+    let h = heads p in
+    let k = lent (h .before) in
+    let pre = entry k .pre in (
+      record {
+        left-open = left-head h .opened;
+        left-index = c .before .before .before .before .before .before .before .before .before .first-arcs .ensures;
+        right-open = right-head h .opened;
+        right-index = c .before .before .before .before .before .before .first-arcs2 .ensures;
+      },
+      (
+        first-key (decode (entry k .args .left .now)) (decode (entry k .args .right .now)) (p .pack .result)
+            (h .before .header .result .start) (h .header2 .result .start) (p .pack .ensures) (left-head h .start) (right-head h .start),
+        (pre .table-long, pre .origins-long, pre .states-long),
+      ),
+    )
+
+refuse-requires : tie.Need-refuse-requires
+refuse-requires c κs = search needs
+
+same-length : tie.Need-same-length
+same-length c = search needs
+
+same-length-2 : tie.Need-same-length-2
+same-length-2 c = search needs
+
+same-length-3 : tie.Need-same-length-3
+same-length-3 c = search needs
+
+returns : tie.Need-returns
+returns c =
+    let w = c .before .before .before .before .before .before .before .before .before .before .before .before .before .before .before .before .before in
+    let k = lent (heads (packed w) .before) in
+    let pre = entry k .pre in
+    let said = w .walk-all .ensures in
+    says-11 _ _ (left-bytes k) (right-bytes k) (pre .left-accepted) (pre .right-accepted) _ _ _ _ _ _ _ _ _ _
+    (said .full (c .before .before .before .before .before .before .before .before .before .before .if1 .taken)) (said .table-kept) (said .origins-kept) (said .states-kept)
+    (c .before .before .before .before .before .before .refuse .ensures)
+
+refuse-requires-2 : tie.Need-refuse-requires-2
+refuse-requires-2 c κs = search needs
+
+same-length-4 : tie.Need-same-length-4
+same-length-4 c = search needs
+
+same-length-5 : tie.Need-same-length-5
+same-length-5 c = search needs
+
+same-length-6 : tie.Need-same-length-6
+same-length-6 c = search needs
+
+returns-2 : tie.Need-returns-2
+returns-2 c =
+    let w = c .before .before .before .before .before .before .before .before .before .before .before .before .before .before .before .before .before .before in
+    let k = lent (heads (packed w) .before) in
+    let pre = entry k .pre in
+    let said = w .walk-all .ensures in
+    let then2 = c .before .before .before .before .before .before .before .before .before .before in
+    says-12 _ _ (left-bytes k) (right-bytes k) (pre .left-accepted) (pre .right-accepted) _ _ _ _ (said .done (then2 .before .if1 .left)) _ _ _ _ _ _ _
+    (then2 .if2 .taken) (said .table-kept) (said .origins-kept) (said .states-kept) (c .before .before .before .before .before .before .refuse2 .ensures)
+
+cast-final-codes : tie.Need-cast-final-codes
+cast-final-codes c = search needs
+
+final-codes-requires : tie.Need-final-codes-requires
+final-codes-requires c κs =
+    let h = c .before .before .before .before .before .before .before .before .before .before .before .before .before .before .before .before .before .before .before .before .before .before .before .before in
+    (entry (lent (h .before)) .pre .left-accepted, left-head h .finals)
+
+cast-final-codes-2 : tie.Need-cast-final-codes-2
+cast-final-codes-2 c = search needs
+
+final-codes-requires-2 : tie.Need-final-codes-requires-2
+final-codes-requires-2 c κs =
+    let h = c .before .before .before .before .before .before .before .before .before .before .before .before .before .before .before .before .before .before .before .before .before .before .before .before .before .before in
+    (entry (lent (h .before)) .pre .right-accepted, right-head h .finals)
+
+write-out-requires : tie.Need-write-out-requires
+write-out-requires c κs =
+    let w = c .before .before .before .before .before .before .before .before .before .before .before .before .before .before .before .before .before in
+    let pre = entry (lent (heads (packed w) .before)) .pre in
+    let said = w .walk-all .ensures in
+    let else2 = c .before .before .before .before .before .before .before .before .before in (
+      record {
+        left-accepted = pre .left-accepted;
+        right-accepted = pre .right-accepted;
+        table-long = omega (arith, said .table-kept, pre .table-long);
+        origins-long = omega (arith, said .origins-kept, pre .origins-long);
+        states-long = omega (arith, said .states-kept, pre .states-long);
+      },
+      (
+        (c .before .before .before .before .before .before .before .final-codes .ensures, c .before .before .before .before .before .final-codes2 .ensures),
+        record { told = said .done (else2 .before .if1 .left); few-arcs = else2 .if2 .left },
+      ),
+    )
+
+same-length-7 : tie.Need-same-length-7
+same-length-7 c = search needs
+
+same-length-8 : tie.Need-same-length-8
+same-length-8 c = search needs
+
+same-length-9 : tie.Need-same-length-9
+same-length-9 c = search needs
+
+returns-3 : tie.Need-returns-3
+returns-3 c =
+    let w = c .before .before .before .before .before .before .before .before .before .before .before .before .before .before .before .before .before .before .before .before .before .before .before .before in
+    let k = lent (heads (packed w) .before) in
+    let pre = entry k .pre in
+    let said = w .walk-all .ensures in
+    says-same _ _ (left-bytes k) (right-bytes k) (pre .left-accepted) (pre .right-accepted) _ _ _ _ _ _ _ _ _ _
+    (said .table-kept) (said .origins-kept) (said .states-kept) (c .before .before .before .before .before .before .write-out .ensures)
+
+pub compose-into-spec : {M : Type 1} → statement M
+compose-into-spec =
+    tie.close
+    (tie.spec
+    header-requires
+    header-requires-2
+    cast-lfirst
+    mul-lfirst
+    add-lfirst
+    cast-rfirst
+    mul-rfirst
+    add-rfirst
+    cast-first-arcs
+    cast-first-arcs-2
+    first-arcs-requires
+    cast-first-arcs-3
+    cast-first-arcs-4
+    first-arcs-requires-2
+    pack-requires
+    walk-all-requires
+    refuse-requires
+    same-length
+    same-length-2
+    same-length-3
+    returns
+    refuse-requires-2
+    same-length-4
+    same-length-5
+    same-length-6
+    returns-2
+    cast-final-codes
+    final-codes-requires
+    cast-final-codes-2
+    final-codes-requires-2
+    write-out-requires
+    same-length-7
+    same-length-8
+    same-length-9
+    returns-3)

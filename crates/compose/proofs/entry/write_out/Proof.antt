@@ -1,0 +1,194 @@
+-- The finals, 13, and what is written, each with its law in `ComposeSays`.
+use borrow.Author.Needs.{needs}
+use native.Mathlib.Omega.{arith}
+use Rattle.wire.specs.Bytes.{Bytes}
+use Rattle.compose.proofs.ComposeSays.{finishable, Writable, writable, finals-kept, says-13-arcs, says-13-finals, says-written}
+use Rattle.compose.proofs.entry.write_out.Statement.{statement}
+use Rattle.compose.proofs.entry.write_out.Tie as tie
+
+-- The way back from a place to an earlier one.
+abbrev lent : tie.After-put-finals-arg2 → tie.After-shared-slice-known2
+lent c = c .before .before .before .before .before
+
+abbrev entry : tie.After-shared-slice-known2 → tie.Start
+entry c = c .before .before
+
+abbrev finals-put : tie.Else2 → tie.After-put-finals
+finals-put c = c .before .before .before .before
+
+abbrev arcs-moved : tie.After-put-head → tie.After-move-arcs
+arcs-moved c = c .before .before .before .before
+
+-- The bytes are bytes.
+left-bytes : (c : tie.After-shared-slice-known2) → Bytes (entry c .args .left .now)
+left-bytes c = λ i. omega (arith, c .before .shared-slice-known .given i)
+
+right-bytes : (c : tie.After-shared-slice-known2) → Bytes (entry c .args .right .now)
+right-bytes c = λ i. omega (arith, c .shared-slice-known2 .given i)
+
+fits : (c : tie.After-put-finals) → Writable (entry (lent (c .before)) .args .w) (c .put-finals .result)
+fits c =
+    let k = lent (c .before) in
+    let pre = entry k .pre in
+    writable _ _ (left-bytes k) (right-bytes k) (pre .0 .left-accepted) (pre .0 .right-accepted) _ _ _ _ (pre .1 .1 .told) (pre .1 .1 .few-arcs) _ _
+    (pre .1 .0 .0) (pre .1 .0 .1) _ _ (c .put-finals .ensures)
+
+put-finals-requires : tie.Need-put-finals-requires
+put-finals-requires c κs =
+    let k = lent c in
+    let pre = entry k .pre in
+    finishable _ _ (left-bytes k) (right-bytes k) (pre .0 .left-accepted) (pre .0 .right-accepted) _ _ _ _ (pre .1 .1 .told) (pre .1 .1 .few-arcs) _ _
+    (pre .1 .0 .0) (pre .1 .0 .1) (pre .0 .table-long) (pre .0 .states-long)
+
+refuse-requires : tie.Need-refuse-requires
+refuse-requires c κs = search needs
+
+same-length : tie.Need-same-length
+same-length c = search needs
+
+same-length-2 : tie.Need-same-length-2
+same-length-2 c = search needs
+
+same-length-3 : tie.Need-same-length-3
+same-length-3 c = search needs
+
+returns : tie.Need-returns
+returns c =
+    let put = c .before .before .before .before .before .before .before .before .before .before .before .before .before in
+    let k = lent (put .before) in
+    let pre = entry k .pre in
+    says-13-arcs _ _ (left-bytes k) (right-bytes k) (pre .0 .left-accepted) (pre .0 .right-accepted) _ _ _ _ (pre .1 .1 .told) (pre .1 .1 .few-arcs) _ _
+    (pre .1 .0 .0) (pre .1 .0 .1) _ _ (put .put-finals .ensures) _ _ _ _ (c .before .before .before .before .before .before .before .before .before .before .if1 .taken) (c .before .before .before .before .before .before .refuse .ensures)
+
+refuse-requires-2 : tie.Need-refuse-requires-2
+refuse-requires-2 c κs = search needs
+
+same-length-4 : tie.Need-same-length-4
+same-length-4 c = search needs
+
+same-length-5 : tie.Need-same-length-5
+same-length-5 c = search needs
+
+same-length-6 : tie.Need-same-length-6
+same-length-6 c = search needs
+
+returns-2 : tie.Need-returns-2
+returns-2 c =
+    let put = c .before .before .before .before .before .before .before .before .before .before .before .before .before .before in
+    let k = lent (put .before) in
+    let pre = entry k .pre in
+    says-13-finals _ _ (left-bytes k) (right-bytes k) (pre .0 .left-accepted) (pre .0 .right-accepted) _ _ _ _ (pre .1 .1 .told) (pre .1 .1 .few-arcs) _ _
+    (pre .1 .0 .0) (pre .1 .0 .1) _ _ (put .put-finals .ensures) _ _ _ _ (c .before .before .before .before .before .before .before .before .before .before .if2 .taken) (c .before .before .before .before .before .before .refuse2 .ensures)
+
+mul-behind : tie.Need-mul-behind
+mul-behind c = omega (arith, fits (finals-put c))
+
+add-behind : tie.Need-add-behind
+add-behind c = omega (arith, fits (finals-put c))
+
+mul-end : tie.Need-mul-end
+mul-end c = omega (arith, fits (finals-put c))
+
+add-end : tie.Need-add-end
+add-end c = omega (arith, fits (finals-put c))
+
+move-arcs-requires : tie.Need-move-arcs-requires
+move-arcs-requires c κs =
+    let put = finals-put (c .before) in
+    let k = lent (put .before) in
+    let pre = entry k .pre in
+    let kept =
+    finals-kept _ _ (left-bytes k) (right-bytes k) (pre .0 .left-accepted) (pre .0 .right-accepted) _ _ _ _ (pre .1 .1 .told) (pre .1 .1 .few-arcs) _ _
+    (pre .1 .0 .0) (pre .1 .0 .1) _ _ (put .put-finals .ensures) in
+    (omega (arith, fits put), omega (arith, fits put, kept, pre .0 .table-long))
+
+cast-put-head : tie.Need-cast-put-head
+cast-put-head c = omega (arith, fits (finals-put (c .before .before .before .before .before)))
+
+cast-put-head-2 : tie.Need-cast-put-head-2
+cast-put-head-2 c = omega (arith, fits (finals-put (c .before .before .before .before .before)))
+
+cast-put-head-3 : tie.Need-cast-put-head-3
+cast-put-head-3 c = omega (arith, fits (finals-put (c .before .before .before .before .before)))
+
+put-head-requires : tie.Need-put-head-requires
+put-head-requires c κs = search needs
+
+clear8-requires : tie.Need-clear8-requires
+clear8-requires c κs =
+    let put = finals-put (c .before .before .before .before .before .before .before .before .before) in
+    let head = c .before .before .before in
+    let moved = arcs-moved head in
+    let k = lent (put .before) in
+    let pre = entry k .pre in
+    let kept =
+    finals-kept _ _ (left-bytes k) (right-bytes k) (pre .0 .left-accepted) (pre .0 .right-accepted) _ _ _ _ (pre .1 .1 .told) (pre .1 .1 .few-arcs) _ _
+    (pre .1 .0 .0) (pre .1 .0 .1) _ _ (put .put-finals .ensures) in
+    omega (arith, fits put, kept, head .put-head .kept .0, moved .move-arcs .kept .0, pre .0 .table-long)
+
+mul-clear16 : tie.Need-mul-clear16
+mul-clear16 c = search needs
+
+clear16-requires : tie.Need-clear16-requires
+clear16-requires c κs = search needs
+
+clear32-requires : tie.Need-clear32-requires
+clear32-requires c κs = search needs
+
+cast-t47 : tie.Need-cast-t47
+cast-t47 c = omega (arith, fits (finals-put (c .before .before .before .before .before .before .before .before .before .before .before .before .before .before .before .before .before .before .before .before)))
+
+same-length-7 : tie.Need-same-length-7
+same-length-7 c = search needs
+
+same-length-8 : tie.Need-same-length-8
+same-length-8 c = search needs
+
+same-length-9 : tie.Need-same-length-9
+same-length-9 c = search needs
+
+returns-3 : tie.Need-returns-3
+returns-3 c =
+    let else2 = c .before .before .before .before .before .before .before .before .before .before .before .before .before .before .before .before .before .before .before .before in
+    let put = finals-put else2 in
+    let k = lent (put .before) in
+    let pre = entry k .pre in
+    says-written _ _ (left-bytes k) (right-bytes k) (pre .0 .left-accepted) (pre .0 .right-accepted) _ _ _ _ (pre .1 .1 .told) (pre .1 .1 .few-arcs) _ _
+    (pre .1 .0 .0) (pre .1 .0 .1) _ _ (put .put-finals .ensures) _ _ _ _ _ (else2 .before .if1 .left) (else2 .if2 .left) (pre .0 .table-long)
+    (c .before .before .before .before .before .before .before .before .before .before .before .before .before .before .before .before .before .before .move-arcs .ensures) (c .before .before .before .before .before .before .before .before .before .before .before .before .before .before .put-head .ensures)
+    (c .before .before .before .before .before .before .before .before .before .before .clear8 .ensures) (c .before .before .before .before .before .before .clear16 .ensures)
+    (c .before .before .clear32 .ensures)
+
+pub write-out-spec : {M : Type 1} → statement M
+write-out-spec =
+    tie.close
+    (tie.spec
+    put-finals-requires
+    refuse-requires
+    same-length
+    same-length-2
+    same-length-3
+    returns
+    refuse-requires-2
+    same-length-4
+    same-length-5
+    same-length-6
+    returns-2
+    mul-behind
+    add-behind
+    mul-end
+    add-end
+    move-arcs-requires
+    cast-put-head
+    cast-put-head-2
+    cast-put-head-3
+    put-head-requires
+    clear8-requires
+    mul-clear16
+    clear16-requires
+    clear32-requires
+    cast-t47
+    same-length-7
+    same-length-8
+    same-length-9
+    returns-3)

@@ -1,0 +1,186 @@
+-- A store loop over the keys, a record for each that is final. The invariant, `Finishing`: the finals of the first `s` keys are written and counted.
+use borrow.Author.Needs.{needs}
+use Prim.Native.Nat.{_<_, _-_}
+use native.Mathlib.Omega.{arith}
+use lib.ListN.{getD}
+use Rattle.compose.proofs.KeyFinals.{Finishing, key-parts, finishing-first, finishing-left, finishing-right, finishing-more, finishing-stop}
+use Rattle.compose.proofs.finish.put_finals.Statement.{statement}
+use Rattle.compose.proofs.finish.put_finals.Tie as tie
+
+abbrev Inv-loop : tie.InvT-loop
+Inv-loop lcodes rcodes states count table₀ finals₀ dear₀ s₀ table finals dear s = Finishing lcodes rcodes states count table₀ table finals dear s
+
+abbrev μ-loop : tie.MeasureT-loop
+μ-loop lcodes rcodes states count table₀ finals₀ dear₀ s₀ table finals dear s = count - s
+
+-- The way back from a place to an earlier one.
+abbrev unpacking : tie.After-b Inv-loop μ-loop → tie.After-unpack Inv-loop μ-loop
+unpacking c = c .before .before .before .before
+
+abbrev turn : tie.After-unpack Inv-loop μ-loop → tie.At-loop Inv-loop μ-loop
+turn c = c .before .before .before
+
+-- The parts of the key are below 1,024.
+parts : (c : tie.After-unpack Inv-loop μ-loop) → (c .unpack .result .left < 1024) × (c .unpack .result .right < 1024)
+parts c =
+    let h = turn c in
+    let start = h .before .before .before in
+    key-parts (getD (start .args .states .now) (h .loop .s) 0) (c .unpack .result) (c .unpack .ensures)
+    (start .pre .keys (h .loop .s) (c .before .before .loop-test .taken))
+
+loop-holds : tie.Need-loop-holds Inv-loop μ-loop
+loop-holds c =
+    let x = c .before .before .args in
+    finishing-first (x .lcodes .now) (x .rcodes .now) (x .states .now) (x .count) (x .table .now)
+
+cast-state : tie.Need-cast-state Inv-loop μ-loop
+cast-state c = omega arith
+
+mul-unpack : tie.Need-mul-unpack Inv-loop μ-loop
+mul-unpack c = omega arith
+
+shared-slice-read-unpack : tie.Need-shared-slice-read-unpack Inv-loop μ-loop
+shared-slice-read-unpack c = omega arith
+
+unpack-requires : tie.Need-unpack-requires Inv-loop μ-loop
+unpack-requires c κs = search needs
+
+cast-p : tie.Need-cast-p Inv-loop μ-loop
+cast-p c = omega arith
+
+cast-q : tie.Need-cast-q Inv-loop μ-loop
+cast-q c = omega arith
+
+mul-a : tie.Need-mul-a Inv-loop μ-loop
+mul-a c = omega (arith, parts (c .before .before))
+
+element-copy-out-a : tie.Need-element-copy-out-a Inv-loop μ-loop
+element-copy-out-a c = parts (c .before .before) .0
+
+mul-b : tie.Need-mul-b Inv-loop μ-loop
+mul-b c = omega (arith, parts (c .before .before .before))
+
+element-copy-out-b : tie.Need-element-copy-out-b Inv-loop μ-loop
+element-copy-out-b c = parts (c .before .before .before) .1
+
+add-s : tie.Need-add-s Inv-loop μ-loop
+add-s c = omega arith
+
+sub-weight : tie.Need-sub-weight Inv-loop μ-loop
+sub-weight c = omega (arith, c .before .if1 .taken)
+
+sub-weight-2 : tie.Need-sub-weight-2 Inv-loop μ-loop
+sub-weight-2 c = omega (arith, c .if2 .taken)
+
+add-weight : tie.Need-add-weight Inv-loop μ-loop
+add-weight c =
+    let here = unpacking (c .before .before) in
+    let pre = turn here .before .before .before .pre in
+    let x = here .unpack .result in
+    omega (arith, pre .left (x .left) (parts here .0), pre .right (x .right) (parts here .1))
+
+mul-put-final : tie.Need-mul-put-final Inv-loop μ-loop
+mul-put-final c = omega arith
+
+add-put-final : tie.Need-add-put-final Inv-loop μ-loop
+add-put-final c = omega arith
+
+put-final-requires : tie.Need-put-final-requires Inv-loop μ-loop
+put-final-requires c κs =
+    let h = turn (unpacking (c .before .before .before)) in
+    let pre = h .before .before .before .pre in
+    omega (arith, h .loop .inv .few, h .loop .inv .kept, pre .few, pre .room)
+
+weight-ok-requires : tie.Need-weight-ok-requires Inv-loop μ-loop
+weight-ok-requires c κs = search needs
+
+add-finals : tie.Need-add-finals Inv-loop μ-loop
+add-finals c =
+    let h = turn (unpacking (c .before .before .before .before .before .before .before)) in
+    omega (arith, h .loop .inv .few, h .loop .inv .within, h .before .before .before .pre .few)
+
+loop-less : tie.Need-loop-less Inv-loop μ-loop
+loop-less c = omega (arith, unpacking (c .before .before .before .before .before .before .before) .before .before .loop-test .taken)
+
+loop-again : tie.Need-loop-again Inv-loop μ-loop
+loop-again c =
+    let b = c .before .before .before .before .before .before .before in
+    let here = unpacking b in
+    let h = turn here in
+    let start = h .before .before .before in
+    let x = start .args in
+    let put = c .before .before .before .put-final in
+    finishing-more (x .lcodes .now) (x .rcodes .now) (x .states .now) (x .count) (x .table .now) (h .loop .table) (h .loop .finals) (h .loop .dear) (h .loop .s)
+    (here .unpack .result) (h .loop .inv) (here .before .before .loop-test .taken) (start .pre .stored) (here .unpack .ensures) _ (c .weight-ok .result)
+    (c .before .before .before .before .before .before .if1 .taken) (c .before .before .before .before .before .if2 .taken) (put .ensures) (put .kept .0)
+    (c .weight-ok .ensures)
+
+loop-less-2 : tie.Need-loop-less-2 Inv-loop μ-loop
+loop-less-2 c = omega (arith, unpacking (c .before .before) .before .before .loop-test .taken)
+
+loop-again-2 : tie.Need-loop-again-2 Inv-loop μ-loop
+loop-again-2 c =
+    let here = unpacking (c .before .before) in
+    let h = turn here in
+    let start = h .before .before .before in
+    let x = start .args in
+    finishing-right (x .lcodes .now) (x .rcodes .now) (x .states .now) (x .count) (x .table .now) (h .loop .table) (h .loop .finals) (h .loop .dear) (h .loop .s)
+    (here .unpack .result) (h .loop .inv) (here .before .before .loop-test .taken) (start .pre .stored) (here .unpack .ensures) (c .before .if1 .taken)
+    (c .if2 .left)
+
+loop-less-3 : tie.Need-loop-less-3 Inv-loop μ-loop
+loop-less-3 c = omega (arith, unpacking (c .before) .before .before .loop-test .taken)
+
+loop-again-3 : tie.Need-loop-again-3 Inv-loop μ-loop
+loop-again-3 c =
+    let here = unpacking (c .before) in
+    let h = turn here in
+    let start = h .before .before .before in
+    let x = start .args in
+    finishing-left (x .lcodes .now) (x .rcodes .now) (x .states .now) (x .count) (x .table .now) (h .loop .table) (h .loop .finals) (h .loop .dear) (h .loop .s)
+    (here .unpack .result) (h .loop .inv) (here .before .before .loop-test .taken) (start .pre .stored) (here .unpack .ensures) (c .if1 .left)
+
+same-length : tie.Need-same-length Inv-loop μ-loop
+same-length c = c .before .loop .inv .kept
+
+returns : tie.Need-returns Inv-loop μ-loop
+returns c =
+    let h = c .before in
+    let x = h .before .before .before .args in
+    finishing-stop (x .lcodes .now) (x .rcodes .now) (x .states .now) (x .count) (x .table .now) (h .loop .table) (h .loop .finals) (h .loop .dear) (h .loop .s)
+    (c .loop-test .left) (h .loop .inv)
+
+pub put-finals-spec : {M : Type 1} → statement M
+put-finals-spec =
+    tie.close
+    (tie.spec
+    Inv-loop
+    μ-loop
+    loop-holds
+    cast-state
+    mul-unpack
+    shared-slice-read-unpack
+    unpack-requires
+    cast-p
+    cast-q
+    mul-a
+    element-copy-out-a
+    mul-b
+    element-copy-out-b
+    add-s
+    sub-weight
+    sub-weight-2
+    add-weight
+    mul-put-final
+    add-put-final
+    put-final-requires
+    weight-ok-requires
+    add-finals
+    loop-less
+    loop-again
+    loop-less-2
+    loop-again-2
+    loop-less-3
+    loop-again-3
+    same-length
+    returns)

@@ -1,0 +1,37 @@
+-- What composing answers and leaves behind. Assumes nothing: these are definitions.
+use mathlib.Core.Path.{_≡_}
+use mathlib.Core.Bool.{Bool, true, false, _&&_, _||_, not, cond}
+use mathlib.Core.List.{List, [], _∷_}
+use Prim.Native.Nat.{ℕ, zero, suc}
+use lib.Dec.{ltb, leb, eqb}
+use lib.ListN.{length, replicate}
+use Rattle.wire.specs.Bytes.{filled}
+use Rattle.transducer.specs.Format.{Transducer, refusal, decode}
+use Rattle.transducer.specs.Encode.{encode}
+use Rattle.transducer.specs.Entry.{or-else, unless}
+use Rattle.explore.specs.Explore.{Step, Built, built-refusal, left-behind}
+use Rattle.compose.specs.declared.Answer.{Answer}
+use Rattle.compose.specs.declared.State.{State}
+use Rattle.compose.specs.declared.Origin.{Origin}
+use Rattle.compose.specs.Compose.{composed, left-origin, right-origin}
+
+-- The origins of each arc, the left one and then the right one.
+unfoldable pub origin-pairs : List (Step State Origin) → List ℕ
+origin-pairs [] = []
+origin-pairs (s ∷ ss) = left-origin (s .origin) ∷ right-origin (s .origin) ∷ origin-pairs ss
+
+-- 10: a lent buffer is too short
+unfoldable pub compose-room : (table origins states : ℕ) → ℕ
+compose-room a b c = cond (ltb a 59404 || (ltb b 6144 || ltb c 1024)) 10 0
+
+-- The left transducer's 1 to 8, the right one's, 10, then 11 to 13.
+unfoldable pub compose-refusal : (left right : List ℕ) → (table origins states : ℕ) → ℕ
+compose-refusal xs ys a b c =
+    or-else (refusal xs) (or-else (refusal ys) (or-else (compose-room a b c) (built-refusal (composed (decode xs) (decode ys) .result))))
+
+pub record Compose-says (left right : List ℕ) (number : ℕ) (r : Answer) (a a' b b' c c' : List ℕ) : Type 0 where
+  pub refusal-is : r .refusal ≡ number
+  pub len-is : r .len ≡ unless number (length (encode (composed (decode left) (decode right) .result)))
+  pub table : a' ≡ left-behind number a (encode (composed (decode left) (decode right) .result))
+  pub origins : b' ≡ left-behind number b (origin-pairs (composed (decode left) (decode right) .steps))
+  pub states : c' ≡ left-behind number c []

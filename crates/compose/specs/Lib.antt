@@ -1,0 +1,6 @@
+pub mod Claim
+pub mod Compose
+pub mod Entry
+pub mod Finished
+pub mod Taking
+pub mod Walk

@@ -1,0 +1,137 @@
+// Composing two transducers into lent buffers.
+ghost use lib.ListN.{length};
+ghost use Rattle.transducer.specs.Format.{decode};
+ghost use Rattle.transducer.specs.Leaf.{Finals-by-state};
+ghost use Rattle.explore.specs.Explore.{built-refusal};
+ghost use Rattle.compose.specs.Compose.{composed};
+ghost use Rattle.compose.specs.Entry.{Compose-says, compose-refusal};
+ghost use Rattle.compose.specs.Finished.{Composable, Walked-through};
+use crate::Answer;
+use crate::Walk;
+use crate::finish;
+use crate::runs;
+use crate::walking;
+
+// Composes two transducers: the composed one's bytes, and the origins of its arcs, the left one and the right one in turn.
+pub fn compose(
+    left: &[u8],
+    right: &[u8],
+    table: &mut [u8],
+    origins: &mut [u16],
+    states: &mut [u32],
+) -> Answer
+    ensures { λ r. ⌜ Compose-says (now (left .entry)) (now (right .entry))
+        (compose-refusal (now (left .entry)) (now (right .entry)) (length (now (table .entry))) (length (now (origins .entry))) (length (now (states .entry))))
+        r (now (table .entry)) (now (table .exit)) (now (origins .entry)) (now (origins .exit)) (now (states .entry)) (now (states .exit)) ⌝ }
+{
+    let a = transducer::refusal(left);
+    if a != 0 {
+        return Answer { refusal: a, len: 0 };
+    }
+    let b = transducer::refusal(right);
+    if b != 0 {
+        return Answer { refusal: b, len: 0 };
+    }
+    if table.len() < 59404 {
+        return Answer {
+            refusal: 10,
+            len: 0,
+        };
+    }
+    if origins.len() < 6144 {
+        return Answer {
+            refusal: 10,
+            len: 0,
+        };
+    }
+    if states.len() < 1024 {
+        return Answer {
+            refusal: 10,
+            len: 0,
+        };
+    }
+    compose_into(left, right, table, origins, states)
+}
+
+// Composes two accepted transducers into buffers that are long enough.
+fn compose_into(
+    left: &[u8],
+    right: &[u8],
+    table: &mut [u8],
+    origins: &mut [u16],
+    states: &mut [u32],
+) -> Answer
+    requires { ⌜ Composable (now left) (now right) (length (now table)) (length (now origins)) (length (now states)) ⌝ }
+    ensures { λ r. ⌜ Compose-says (now (left .entry)) (now (right .entry)) (built-refusal (composed (decode (now (left .entry))) (decode (now (right .entry))) .result))
+        r (now (table .entry)) (now (table .exit)) (now (origins .entry)) (now (origins .exit)) (now (states .entry)) (now (states .exit)) ⌝ }
+{
+    let l = transducer::head_of(left);
+    let r = transducer::head_of(right);
+    let lfirst = 12 + 10 * (l.finals as usize);
+    let rfirst = 12 + 10 * (r.finals as usize);
+    let lindex = transducer::first_arcs(left, lfirst, l.states as usize, l.arcs as usize);
+    let rindex = transducer::first_arcs(right, rfirst, r.states as usize, r.arcs as usize);
+    let first = runs::pack(l.start, r.start, 0);
+    let w = walking::walk_all(
+        left,
+        lfirst,
+        &lindex,
+        right,
+        rfirst,
+        &rindex,
+        first,
+        table,
+        origins,
+        states,
+    );
+    if w.full {
+        return finish::refuse(table, origins, states, 11);
+    }
+    let arcs = w.arcs;
+    if 3072 < arcs {
+        return finish::refuse(table, origins, states, 12);
+    }
+    let lcodes = transducer::final_codes(left, l.finals as usize);
+    let rcodes = transducer::final_codes(right, r.finals as usize);
+    write_out(left, right, &lcodes, &rcodes, w, table, origins, states)
+}
+
+// Writes what the walk has found: the finals, the arcs moved behind them, the head, zeros behind; or refuses with 13.
+fn write_out(
+    left: &[u8],
+    right: &[u8],
+    lcodes: &[u32; 1024],
+    rcodes: &[u32; 1024],
+    w: Walk,
+    table: &mut [u8],
+    origins: &mut [u16],
+    states: &mut [u32],
+) -> Answer
+    requires { ⌜ Composable (now left) (now right) (length (now table)) (length (now origins)) (length (now states)) ⌝ }
+    requires { ⌜ Finals-by-state (decode (now left)) (now lcodes) × Finals-by-state (decode (now right)) (now rcodes) ⌝ }
+    requires { ⌜ Walked-through (now left) (now right) w (now table) (now origins) (now states) ⌝ }
+    ensures { λ r. ⌜ Compose-says (now (left .entry)) (now (right .entry)) (built-refusal (composed (decode (now (left .entry))) (decode (now (right .entry))) .result))
+        r (now (table .entry)) (now (table .exit)) (now (origins .entry)) (now (origins .exit)) (now (states .entry)) (now (states .exit)) ⌝ }
+{
+    let count = w.states;
+    let arcs = w.arcs;
+    let f = finish::put_finals(lcodes, rcodes, states, count, table);
+    if w.dear {
+        return finish::refuse(table, origins, states, 13);
+    }
+    if f.dear {
+        return finish::refuse(table, origins, states, 13);
+    }
+    let finals = f.count;
+    let behind = 12 + 10 * finals;
+    let end = behind + 16 * arcs;
+    finish::move_arcs(table, behind, arcs);
+    transducer::put_head(table, count as u16, arcs as u16, finals as u16, 0);
+    wire::clear8(table, end);
+    wire::clear16(origins, 2 * arcs);
+    wire::clear32(states, 0);
+    Answer {
+        refusal: 0,
+        len: end as u32,
+    }
+}

@@ -1,0 +1,76 @@
+-- Arcs written one behind the other, at most 3,072 of them, and their origins: what stands after one more. Assumes nothing.
+use mathlib.Core.Path.{_≡_, refl, sym, ap, _∙_}
+use mathlib.Core.List.{List, [], _∷_, _++_, append-nil}
+use Prim.Native.Nat.{ℕ, suc, _+_, _*_, _≤_, _<_, min}
+use native.Mathlib.Nat.{add-suc}
+use native.Mathlib.Numerals.{add-one}
+use native.Mathlib.Omega.{arith}
+use lib.ListN.{length, set, take, drop, length-append, length-drop}
+use lib.Seq.{sets, sets-eq, take-all, take-append-le, take-at, drop-set-add, length-take-le}
+use Rattle.transducer.specs.declared.Arc.{Arc}
+use Rattle.transducer.specs.Encode.{arc-record, arc-records}
+use Rattle.transducer.proofs.Encode.{length-arc-record, arc-records-append}
+
+-- What stands before the elements stored, and they behind it.
+pub take-sets : (xs : List ℕ) (k : ℕ) (vs : List ℕ) → k + length vs ≤ length xs → take (k + length vs) (sets xs k vs) ≡ take k xs ++ vs
+take-sets xs k vs fits =
+    let long : length (take k xs) ≡ k = length-take-le k xs (omega arith) in
+    ap (λ (l : List ℕ). take (k + length vs) l) (sets-eq vs xs k fits)
+    ∙ take-at (take k xs ++ vs) (drop (k + length vs) xs) (k + length vs) (simp length-append (omega arith))
+
+pub drop-sets : (base : ℕ) (xs : List ℕ) (k : ℕ) (vs : List ℕ) → drop base (sets xs (base + k) vs) ≡ sets (drop base xs) k vs
+drop-sets base xs k [] = refl
+drop-sets base xs k (v ∷ vs) =
+    ap (λ (n : ℕ). drop base (sets (set xs (base + k) v) n vs)) (sym (add-suc base k))
+    ∙ drop-sets base (set xs (base + k) v) (suc k) vs
+    ∙ ap (λ (l : List ℕ). sets l (suc k) vs) (drop-set-add base xs k v)
+
+-- A buffer that holds a list at its front holds it with more behind.
+pub front-next : (os xs : List ℕ) (n : ℕ) (vs : List ℕ) → length os ≡ n → n + length vs ≤ length xs → take n xs ≡ take n os
+    → take (n + length vs) (sets xs n vs) ≡ take (n + length vs) (os ++ vs)
+front-next os xs n vs long fits is =
+    let all : take n os ≡ os = take-all n os (omega arith) in
+    let whole : take (n + length vs) (os ++ vs) ≡ os ++ vs = take-all (n + length vs) (os ++ vs) (simp length-append (omega arith)) in
+    rw (whole, take-sets xs n vs fits, is, all)
+
+-- The records of arcs from `base` on: one more is written, or the 3,072 that are written stay.
+pub written-next : (base count : ℕ) (as' : List Arc) (a : Arc) (table : List ℕ) → length as' ≡ count → count < 3072 → base + 49152 ≤ length table
+    → take (16 * min (length as') 3072) (drop base table) ≡ arc-records (take 3072 as')
+    → take (16 * min (length (as' ++ (a ∷ []))) 3072) (drop base (sets table (base + 16 * count) (arc-record a)))
+    ≡ arc-records (take 3072 (as' ++ (a ∷ [])))
+unfolding arc-records
+written-next base count as' a table long less fits is =
+    let n : 16 * min (length as') 3072 ≡ 16 * count = omega arith in
+    let e : 16 * min (length (as' ++ (a ∷ []))) 3072 ≡ 16 * count + length (arc-record a) =
+    omega (arith, length-append as' (a ∷ []), length-arc-record a) in
+    let all : take 3072 as' ≡ as' = take-all 3072 as' (omega arith) in
+    let whole : take 3072 (as' ++ (a ∷ [])) ≡ as' ++ (a ∷ []) = take-all 3072 (as' ++ (a ∷ [])) (simp length-append (omega arith)) in
+    let one : arc-records (a ∷ []) ≡ arc-record a = append-nil (arc-record a) in
+    let stands : take (16 * count) (drop base table) ≡ arc-records as' = rw (← n) (is ∙ ap arc-records all) in
+    let room : 16 * count + length (arc-record a) ≤ length (drop base table) = omega (arith, length-drop base table, length-arc-record a) in
+    rw (e, whole, drop-sets base table (16 * count) (arc-record a), arc-records-append as' (a ∷ []), one, ← stands)
+    (take-sets (drop base table) (16 * count) (arc-record a) room)
+
+pub written-full : (base : ℕ) (as' : List Arc) (a : Arc) (table : List ℕ) → 3072 ≤ length as'
+    → take (16 * min (length as') 3072) (drop base table) ≡ arc-records (take 3072 as')
+    → take (16 * min (length (as' ++ (a ∷ []))) 3072) (drop base table) ≡ arc-records (take 3072 (as' ++ (a ∷ [])))
+written-full base as' a table full is =
+    let e : min (length (as' ++ (a ∷ []))) 3072 ≡ min (length as') 3072 = omega (arith, length-append as' (a ∷ [])) in
+    rw (e, take-append-le 3072 as' (a ∷ []) full) is
+
+-- Two origins for each arc: two more, or those of the first 3,072 arcs stay.
+pub pairs-next : {A : Type 0} (count : ℕ) (as' : List A) (a : A) (os origins : List ℕ) (x y : ℕ) → length as' ≡ count → count < 3072
+    → length os ≡ 2 * length as' → 6144 ≤ length origins → take (2 * min (length as') 3072) origins ≡ take (2 * min (length as') 3072) os
+    → take (2 * min (length (as' ++ (a ∷ []))) 3072) (set (set origins (2 * count) x) (2 * count + 1) y)
+    ≡ take (2 * min (length (as' ++ (a ∷ []))) 3072) (os ++ (x ∷ y ∷ []))
+pairs-next count as' a os origins x y long less os-long room is =
+    let n : 2 * min (length as') 3072 ≡ 2 * count = omega arith in
+    let e : 2 * min (length (as' ++ (a ∷ []))) 3072 ≡ 2 * count + 2 = omega (arith, length-append as' (a ∷ [])) in
+    rw (e, add-one) (front-next os origins (2 * count) (x ∷ y ∷ []) (omega arith) (omega arith) (rw n at is))
+
+pub pairs-full : {A : Type 0} (as' : List A) (a : A) (os vs origins : List ℕ) → 3072 ≤ length as' → length os ≡ 2 * length as'
+    → take (2 * min (length as') 3072) origins ≡ take (2 * min (length as') 3072) os
+    → take (2 * min (length (as' ++ (a ∷ []))) 3072) origins ≡ take (2 * min (length (as' ++ (a ∷ []))) 3072) (os ++ vs)
+pairs-full as' a os vs origins full long is =
+    let e : min (length (as' ++ (a ∷ []))) 3072 ≡ min (length as') 3072 = omega (arith, length-append as' (a ∷ [])) in
+    rw (e, take-append-le (2 * min (length as') 3072) os vs (omega arith)) is

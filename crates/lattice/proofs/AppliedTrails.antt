@@ -1,0 +1,214 @@
+-- Trails of lattice steps stand one to one with the paths of the transducer that read the string. Assumes nothing.
+use mathlib.Core.Path.{_≡_, refl, sym, ap, ap₂, _∙_}
+use mathlib.Core.Bool.{Bool, true, false}
+use mathlib.Core.List.{List, [], _∷_, _++_, map, append-nil}
+use mathlib.Core.List.{List·Memᴰ as Mem}
+use Prim.Native.Nat.{ℕ, suc, _+_, _≤_, _<_}
+use native.Mathlib.Numerals.{add-one}
+use native.Mathlib.Omega.{arith}
+use lib.Dec.{eqb}
+use lib.ListN.{length, getD, drop, length-drop}
+use lib.Seq.{drop-cons, drop-length}
+use borrow.Author.Tests.{eqb-true, eqb-false, eq-eqb}
+use Rattle.wire.proofs.Places.{and-true, true-and}
+use Rattle.transducer.specs.Format.{Transducer}
+use Rattle.transducer.specs.Path.{arc, runs, ends, non-empty, read-by, written-by, arcs-cost, path-cost, accepts, is-final, final-weight}
+use Rattle.transducer.proofs.Paths.{Runs, runs-cons, cons-runs, empty-passed, symbol-kept}
+use Rattle.explore.specs.Explore.{Step}
+use Rattle.explore.proofs.Trail.{Trail, inputs, outputs, weights}
+use Rattle.lattice.specs.Apply.{State, step, steps, final-state}
+use Rattle.lattice.proofs.AppliedSteps.{empty-step, symbol-step, OfArc, of-empty, of-symbol, Move, step-move, move-step, same-origin}
+
+-- The arcs that the steps come from, in order.
+unfoldable pub numbers : {A : Type 0} → List (Step A ℕ) → List ℕ
+numbers ss = map (λ s. s .origin) ss
+
+-- A trail leads to a path
+
+pub record Leads (cs : List ℕ) (t : Transducer) (x : State) (ss : List (Step State ℕ)) (y : State) : Type 0 where
+  pub path-runs : runs t (x .state) (numbers ss) ≡ true
+  pub path-ends : ends t (x .state) (numbers ss) ≡ y .state
+  pub consumes : drop (x .position) cs ≡ read-by t (numbers ss) ++ drop (y .position) cs
+  pub within : x .position ≤ length cs → y .position ≤ length cs
+  pub reads : inputs ss ≡ read-by t (numbers ss)
+  pub writes : outputs ss ≡ written-by t (numbers ss)
+  pub costs : weights ss ≡ arcs-cost t (numbers ss)
+
+leads-none : (cs : List ℕ) (t : Transducer) (x y : State) → x ≡ y → Leads cs t x [] y
+unfolding runs ends written-by read-by arcs-cost inputs outputs weights numbers
+leads-none cs t x y e =
+    record {
+      path-runs = refl;
+      path-ends = ap (λ (z : State). z .state) e;
+      consumes = ap (λ (z : State). drop (z .position) cs) e;
+      within = λ h. rw (← e) h;
+      reads = refl;
+      writes = refl;
+      costs = refl;
+    }
+
+leads-empty : (cs : List ℕ) (t : Transducer) (x : State) (i : ℕ) (ss : List (Step State ℕ)) (y : State) → i < length (t .arcs)
+    → arc t i .source ≡ x .state → arc t i .input ≡ 0 → Leads cs t (empty-step x i (arc t i) .target) ss y → Leads cs t x (empty-step x i (arc t i) ∷ ss) y
+unfolding empty-step step ends written-by read-by arcs-cost inputs outputs weights numbers
+leads-empty cs t x i ss y below leaves empty l =
+    record {
+      path-runs = cons-runs t (x .state) i (numbers ss) (record { below = below; leaves = leaves; rest = l .path-runs });
+      path-ends = l .path-ends;
+      consumes = rw (empty-passed (arc t i .input) (read-by t (numbers ss)) empty) (l .consumes);
+      within = l .within;
+      reads = empty-passed 0 (inputs ss) refl ∙ l .reads ∙ sym (empty-passed (arc t i .input) (read-by t (numbers ss)) empty);
+      writes = ap (non-empty (arc t i .output)) (l .writes);
+      costs = ap (λ (n : ℕ). arc t i .weight + n) (l .costs);
+    }
+
+leads-symbol : (cs : List ℕ) (t : Transducer) (x : State) (i : ℕ) (ss : List (Step State ℕ)) (y : State) → i < length (t .arcs)
+    → arc t i .source ≡ x .state → (arc t i .input ≡ 0 → ⊥) → x .position < length cs → arc t i .input ≡ getD cs (x .position) 0
+    → Leads cs t (symbol-step cs x i (arc t i) .target) ss y → Leads cs t x (symbol-step cs x i (arc t i) ∷ ss) y
+unfolding symbol-step step ends written-by read-by arcs-cost inputs outputs weights numbers
+leads-symbol cs t x i ss y below leaves symbol here fit l =
+    let kept : non-empty (arc t i .input) (read-by t (numbers ss)) ≡ arc t i .input ∷ read-by t (numbers ss) =
+    symbol-kept (arc t i .input) (read-by t (numbers ss)) symbol in
+    let more : drop (suc (x .position)) cs ≡ read-by t (numbers ss) ++ drop (y .position) cs = rw (add-one (x .position)) at (l .consumes) in
+    record {
+      path-runs = cons-runs t (x .state) i (numbers ss) (record { below = below; leaves = leaves; rest = l .path-runs });
+      path-ends = l .path-ends;
+      consumes = drop-cons cs (x .position) 0 here ∙ (rw (kept, fit, more));
+      within = λ h. l .within (omega arith);
+      reads = ap₂ non-empty (sym fit) (l .reads);
+      writes = ap (non-empty (arc t i .output)) (l .writes);
+      costs = ap (λ (n : ℕ). arc t i .weight + n) (l .costs);
+    }
+
+leads-step : (cs : List ℕ) (t : Transducer) (x : State) (s : Step State ℕ) (ss : List (Step State ℕ)) (y : State) (i : ℕ) → i < length (t .arcs)
+    → arc t i .source ≡ x .state → OfArc cs x i (arc t i) s → Leads cs t (s .target) ss y → Leads cs t x (s ∷ ss) y
+leads-step cs t x s ss y i below leaves (of-empty e made) = rw made (leads-empty cs t x i ss y below leaves e)
+leads-step cs t x s ss y i below leaves (of-symbol h here fit made) = rw made (leads-symbol cs t x i ss y below leaves h here fit)
+
+pub trail-leads : (cs : List ℕ) (t : Transducer) (x : State) (ss : List (Step State ℕ)) (y : State) → Trail (steps cs t) x ss y → Leads cs t x ss y
+unfolding Trail
+trail-leads cs t x [] y h = leads-none cs t x y h
+trail-leads cs t x (s ∷ ss) y h =
+    let m : Move cs t x s = step-move cs t x s (h .0) in
+    leads-step cs t x s ss y (m .number) (m .below) (m .leaves) (m .made) (trail-leads cs t (s .target) ss y (h .1))
+
+-- Every path that reads what is left of the string has a trail
+
+pub record Followed (cs : List ℕ) (t : Transducer) (x : State) (p : List ℕ) : Type 0 where
+  pub taken : List (Step State ℕ)
+  pub last : State
+  pub trail : Trail (steps cs t) x taken last
+  pub path : numbers taken ≡ p
+  pub at-end : last .position ≡ length cs
+  pub in-state : last .state ≡ ends t (x .state) p
+
+followed-step : (cs : List ℕ) (t : Transducer) (x : State) (s : Step State ℕ) (i : ℕ) (p : List ℕ) → Mem s (steps cs t x) → s .origin ≡ i
+    → s .target .state ≡ arc t i .target → Followed cs t (s .target) p → Followed cs t x (i ∷ p)
+unfolding Trail numbers ends
+followed-step cs t x s i p m o e r =
+    record {
+      taken = s ∷ r .taken;
+      last = r .last;
+      trail = (m, r .trail);
+      path = ap₂ _∷_ o (r .path);
+      at-end = r .at-end;
+      in-state = r .in-state ∙ ap (λ (q : ℕ). ends t q p) e;
+    }
+
+followed-none : (cs : List ℕ) (t : Transducer) (x : State) → x .position ≤ length cs → [] ≡ drop (x .position) cs → Followed cs t x []
+unfolding Trail numbers ends
+followed-none cs t x h e =
+    let l : 0 ≡ length (drop (x .position) cs) = ap length e in
+    let at-end : x .position ≡ length cs = omega (arith, length-drop (x .position) cs) in
+    record { taken = []; last = x; trail = refl; path = refl; at-end = at-end; in-state = refl }
+
+abbrev Follows : List ℕ → Transducer → List ℕ → Type 0
+Follows cs t p =
+    (x : State) → x .position ≤ length cs → runs t (x .state) p ≡ true → read-by t p ≡ drop (x .position) cs → Followed cs t x p
+
+followed-empty : (cs : List ℕ) (t : Transducer) (x : State) (i : ℕ) (p : List ℕ) → x .position ≤ length cs → Runs t (x .state) i p
+    → read-by t (i ∷ p) ≡ drop (x .position) cs → arc t i .input ≡ 0 → Follows cs t p → Followed cs t x (i ∷ p)
+unfolding empty-step step read-by
+followed-empty cs t x i p h r e empty rest =
+    let s : Step State ℕ = empty-step x i (arc t i) in
+    let m : Mem s (steps cs t x) = move-step cs t x s (record { number = i; below = r .below; leaves = r .leaves; made = of-empty empty refl }) in
+    followed-step cs t x s i p m refl refl (rest (s .target) h (r .rest) (sym (empty-passed (arc t i .input) (read-by t p) empty) ∙ e))
+
+followed-symbol : (cs : List ℕ) (t : Transducer) (x : State) (i : ℕ) (p : List ℕ) → x .position ≤ length cs → Runs t (x .state) i p
+    → read-by t (i ∷ p) ≡ drop (x .position) cs → (arc t i .input ≡ 0 → ⊥) → Follows cs t p → Followed cs t x (i ∷ p)
+unfolding symbol-step step read-by
+followed-symbol cs t x i p h r e symbol rest =
+    let s : Step State ℕ = symbol-step cs x i (arc t i) in
+    let kept : arc t i .input ∷ read-by t p ≡ drop (x .position) cs = sym (symbol-kept (arc t i .input) (read-by t p) symbol) ∙ e in
+    let l : suc (length (read-by t p)) ≡ length (drop (x .position) cs) = ap length kept in
+    let here : x .position < length cs = omega (arith, length-drop (x .position) cs) in
+    let both : arc t i .input ∷ read-by t p ≡ getD cs (x .position) 0 ∷ drop (suc (x .position)) cs = kept ∙ drop-cons cs (x .position) 0 here in
+    let fit : arc t i .input ≡ getD cs (x .position) 0 = cc in
+    let more : read-by t p ≡ drop (suc (x .position)) cs = cc in
+    let m : Mem s (steps cs t x) = move-step cs t x s (record { number = i; below = r .below; leaves = r .leaves; made = of-symbol symbol here fit refl }) in
+    followed-step cs t x s i p m refl refl (rest (s .target) (omega arith) (r .rest) (rw add-one more))
+
+pub path-followed : (cs : List ℕ) (t : Transducer) (p : List ℕ) (x : State) → x .position ≤ length cs → runs t (x .state) p ≡ true
+    → read-by t p ≡ drop (x .position) cs → Followed cs t x p
+unfolding read-by
+path-followed cs t [] x h run e = followed-none cs t x h e
+path-followed cs t (i ∷ p) x h run e = on (eqb (arc t i .input) 0) refl (path-followed cs t p)
+  where
+    r : Runs t (x .state) i p
+    r = runs-cons t (x .state) i p run
+
+    on : (b : Bool) → eqb (arc t i .input) 0 ≡ b → Follows cs t p → Followed cs t x (i ∷ p)
+    on true b rest = followed-empty cs t x i p h r e (eqb-true (arc t i .input) 0 b) rest
+    on false b rest = followed-symbol cs t x i p h r e (eqb-false (arc t i .input) 0 b) rest
+
+-- Never two trails to one path
+
+pub never-two : (cs : List ℕ) (t : Transducer) (x : State) (ss ss' : List (Step State ℕ)) (y y' : State) → Trail (steps cs t) x ss y
+    → Trail (steps cs t) x ss' y' → numbers ss ≡ numbers ss' → ss ≡ ss'
+unfolding Trail numbers
+never-two cs t x [] [] y y' h h' e = refl
+never-two cs t x [] (s ∷ ss) y y' h h' e = let z : _≡_ {A = ℕ} 0 1 = cc in absurd (omega arith)
+never-two cs t x (s ∷ ss) [] y y' h h' e = let z : _≡_ {A = ℕ} 0 1 = cc in absurd (omega arith)
+never-two cs t x (s ∷ ss) (s' ∷ ss') y y' h h' e =
+    let o : s .origin ≡ s' .origin = cc in
+    let os : map (λ (s : Step State ℕ). s .origin) ss ≡ map (λ (s : Step State ℕ). s .origin) ss' = cc in
+    let same : s ≡ s' = same-origin cs t x s s' (h .0) (h' .0) o in
+    let rest : Trail (steps cs t) (s .target) ss' y' = rw same (h' .1) in
+    ap₂ _∷_ same (never-two cs t (s .target) ss ss' y y' (h .1) rest os)
+
+-- Trails from the first state to a final one stand for the accepting paths that read the whole string
+
+abbrev pub first : Transducer → State
+first t = record { position = 0; state = t .start }
+
+pub record Accepted (cs : List ℕ) (t : Transducer) (ss : List (Step State ℕ)) (y : State) : Type 0 where
+  pub accepting : accepts t (numbers ss) ≡ true
+  pub whole : read-by t (numbers ss) ≡ cs
+  pub cost : weights ss + final-weight (t .finals) (y .state) ≡ path-cost t (numbers ss)
+
+pub trail-accepted : (cs : List ℕ) (t : Transducer) (ss : List (Step State ℕ)) (y : State) → Trail (steps cs t) (first t) ss y
+    → final-state cs t y ≡ true → Accepted cs t ss y
+unfolding final-state accepts path-cost
+trail-accepted cs t ss y h f =
+    let l : Leads cs t (first t) ss y = trail-leads cs t (first t) ss y h in
+    let p : (eqb (y .position) (length cs) ≡ true) × (is-final (t .finals) (y .state) ≡ true) =
+    and-true (eqb (y .position) (length cs)) (is-final (t .finals) (y .state)) f in
+    let at-end : y .position ≡ length cs = eqb-true (y .position) (length cs) (p .0) in
+    let rest : drop (y .position) cs ≡ [] = ap (λ (n : ℕ). drop n cs) at-end ∙ drop-length cs in
+    let all : cs ≡ read-by t (numbers ss) ++ [] = l .consumes ∙ ap (λ (r : List ℕ). read-by t (numbers ss) ++ r) rest in
+    record {
+      accepting = true-and (runs t (t .start) (numbers ss)) (is-final (t .finals) (ends t (t .start) (numbers ss))) (l .path-runs) (rw (l .path-ends) (p .1));
+      whole = sym (all ∙ append-nil (read-by t (numbers ss)));
+      cost = rw (l .costs, l .path-ends);
+    }
+
+pub accepting-followed : (cs : List ℕ) (t : Transducer) (p : List ℕ) → accepts t p ≡ true → read-by t p ≡ cs
+    → (r : Followed cs t (first t) p) × (final-state cs t (r .last) ≡ true)
+unfolding final-state accepts
+accepting-followed cs t p a e =
+    let b : (runs t (t .start) p ≡ true) × (is-final (t .finals) (ends t (t .start) p) ≡ true) =
+    and-true (runs t (t .start) p) (is-final (t .finals) (ends t (t .start) p)) a in
+    let r : Followed cs t (first t) p = path-followed cs t p (first t) (omega arith) (b .0) e in
+    let f : is-final (t .finals) (r .last .state) ≡ true = rw (r .in-state) (b .1) in (
+      r,
+      true-and (eqb (r .last .position) (length cs)) (is-final (t .finals) (r .last .state)) (eq-eqb (r .last .position) (length cs) (r .at-end)) f,
+    )

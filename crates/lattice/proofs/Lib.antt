@@ -1,0 +1,17 @@
+pub mod AppliedSteps
+pub mod AppliedTrails
+pub mod Counted
+pub mod Reach
+pub mod Useful
+pub mod Kept
+pub mod Trimmed
+pub mod TrimmedKeeps
+pub mod TrimmedGood
+pub mod TrimmedTwice
+pub mod Marks
+pub mod Sweeps
+pub mod Ends
+pub mod FinalMarks
+pub mod Running
+pub mod KeptWritten
+pub mod TrimSays

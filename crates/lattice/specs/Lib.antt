@@ -1,0 +1,4 @@
+pub mod Apply
+pub mod Trim
+pub mod Marks
+pub mod TrimEntry

@@ -1,0 +1,66 @@
+// What a line says: words, numbers, and a sum of each buffer to its end, which another content would change.
+ghost use Prim.Native.Nat.{_<_};
+
+const PRIME: u64 = 65521;
+
+// Prints a word.
+pub fn word(text: &[u8]) {
+    io::write_all(1, text);
+}
+
+// Prints a word and a number.
+pub fn number(text: &[u8], value: u64) {
+    io::write_all(1, text);
+    io::print_decimal(1, value);
+}
+
+fn wide8(x: u8) -> u64
+    ensures { λ r. ⌜ r < 256 ⌝ }
+{
+    x as u64
+}
+
+fn wide16(x: u16) -> u64
+    ensures { λ r. ⌜ r < 65536 ⌝ }
+{
+    x as u64
+}
+
+fn wide32(x: u32) -> u64
+    ensures { λ r. ⌜ r < 4294967296 ⌝ }
+{
+    x as u64
+}
+
+// The sum of bytes, each place weighing 31 times the next.
+pub fn sum8(cells: &[u8]) -> u64 {
+    let mut sum: u64 = 0;
+    let mut i = 0;
+    while i < cells.len() {
+        sum = (sum * 31 + wide8(cells[i])) % PRIME;
+        i += 1;
+    }
+    sum
+}
+
+// The same of cells of 16 bits.
+pub fn sum16(cells: &[u16]) -> u64 {
+    let mut sum: u64 = 0;
+    let mut i = 0;
+    while i < cells.len() {
+        sum = (sum * 31 + wide16(cells[i])) % PRIME;
+        i += 1;
+    }
+    sum
+}
+
+// The same of cells of 32 bits.
+pub fn sum32(cells: &[u32]) -> u64 {
+    let mut sum: u64 = 0;
+    let mut i = 0;
+    while i < cells.len() {
+        sum = (sum * 31 + wide32(cells[i])) % PRIME;
+        i += 1;
+    }
+    sum
+}

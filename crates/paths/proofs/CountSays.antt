@@ -1,0 +1,42 @@
+-- What `count` answers, case by case: a refusal of 1 to 8, 14, and success. Assumes nothing.
+use mathlib.Core.Path.{_≡_, refl, sym, _∙_}
+use mathlib.Core.Bool.{Bool, true, false}
+use mathlib.Core.List.{List}
+use Prim.Native.Nat.{ℕ}
+use borrow.Author.Tests.{ne-eqb}
+use lib.Dec.{eqb}
+use Rattle.transducer.specs.Format.{decode, refusal}
+use Rattle.transducer.specs.Entry.{or-else, unless}
+use Rattle.paths.specs.declared.Count.{Count}
+use Rattle.paths.specs.Count.{endless}
+use Rattle.paths.specs.Sweep.{at-state, Settled}
+use Rattle.paths.specs.Entry.{count-refusal, Count-says}
+use Rattle.paths.proofs.Sweep.{settled-path-count}
+use Rattle.paths.proofs.Ready.{Sized}
+
+-- 1 to 8
+pub count-bad : {bs : List ℕ} {n : ℕ} → n ≡ refusal bs → (n ≡ 0 → ⊥) → Count-says bs (count-refusal bs) (record { refusal = n; count = 0 })
+unfolding count-refusal or-else unless
+count-bad {bs} {n} e h =
+    let test : eqb n 0 ≡ false = ne-eqb n 0 h in
+    rw (← e, test) (record { refusal-is = refl; count-is = rw test })
+
+-- 14
+pub count-endless : {bs : List ℕ} {n : ℕ} {b : Bool} → n ≡ refusal bs → n ≡ 0 → b ≡ endless (decode bs) → b ≡ true
+    → Count-says bs (count-refusal bs) (record { refusal = 14; count = 0 })
+unfolding count-refusal or-else unless
+count-endless {bs} {n} e h l q =
+    let ok : refusal bs ≡ 0 = sym e ∙ h in
+    let ends : endless (decode bs) ≡ true = sym l ∙ q in
+    rw (ok, ends) (record { refusal-is = refl; count-is = refl })
+
+pub count-found : {bs : List ℕ} {n : ℕ} {b : Bool} {cs : List Count} {start : ℕ} → Sized (decode bs) → n ≡ refusal bs → n ≡ 0 → b ≡ endless (decode bs) → b ≡ false
+    → Settled (decode bs) cs → start ≡ decode bs .start → Count-says bs (count-refusal bs) (record { refusal = 0; count = at-state cs start })
+unfolding count-refusal or-else unless
+count-found {bs} {n} {b} {cs} {start} z e h l q k s =
+    let ok : refusal bs ≡ 0 = sym e ∙ h in
+    let ends : endless (decode bs) ≡ false = sym l ∙ q in
+    rw (ok, ends) (record {
+      refusal-is = refl;
+      count-is = rw s (settled-path-count (decode bs) (z .within) (at-state cs) (k .rising) (k .sums) ends);
+    })

@@ -1,0 +1,17 @@
+pub mod Order
+pub mod Listed
+pub mod GoesOn
+pub mod Endless
+pub mod Tally
+pub mod Sweep
+pub mod Stops
+pub mod NthPath
+pub mod Nth
+pub mod Walk
+pub mod Ready
+pub mod CountsInPlace
+pub mod MarksInPlace
+pub mod CountSays
+pub mod Steps
+pub mod Telling
+pub mod NthSays

@@ -1,0 +1,111 @@
+-- What is known of accepted bytes and their first-arc index: states, arcs and their ranges. Assumes nothing.
+use mathlib.Core.Path.{_≡_, sym, ap, _∙_}
+use mathlib.Core.Bool.{Bool, true, false, cond}
+use mathlib.Core.List.{List}
+use Prim.Native.Nat.{ℕ, _+_, _*_, _≤_, _<_}
+use native.Mathlib.Omega.{arith}
+use lib.Dec.{eqb}
+use lib.ListN.{length, getD}
+use borrow.Author.Tests.{eq-eqb, ne-eqb}
+use Rattle.wire.specs.Bytes.{Bytes}
+use Rattle.transducer.specs.declared.Header.{Header}
+use Rattle.transducer.specs.Format.{Transducer, decode, refusal, head-finals, head-start}
+use Rattle.transducer.specs.Path.{arc, is-final, final-weight}
+use Rattle.transducer.specs.Leaf.{header-of, Opened, arcs-below, Indexed, final-code, Finals-by-state}
+use Rattle.transducer.proofs.Good.{Content}
+use Rattle.transducer.proofs.Index.{arcs-below-length, arcs-below-mono, arcs-of-state, state-of-arcs}
+use Rattle.transducer.proofs.Offsets.{length-accepted, accepted-within, accepted-good, decode-states, decode-start, length-arcs}
+use Rattle.transducer.proofs.Runs.{Within, states-good-within}
+use Rattle.paths.specs.Tally.{own}
+
+-- The states and arcs of accepted bytes.
+pub record Sized (t : Transducer) : Type 0 where
+  pub content : Content t
+  pub within : Within t
+  pub states : t .states ≤ 1024
+  pub arcs : length (t .arcs) ≤ 3072
+
+pub sized : (bs : List ℕ) → Bytes bs → refusal bs ≡ 0 → Sized (decode bs)
+sized bs bytes ok =
+    let head = accepted-within bs bytes ok in
+    let n = decode-states bs bytes ok in
+    let s = decode-start bs bytes ok in
+    let content = accepted-good bs bytes ok in
+    record {
+      content = content;
+      within = states-good-within (decode bs) (content .states) (omega (arith, head .start, n, s));
+      states = omega (arith, head .states, n);
+      arcs = omega (arith, head .arcs, length-arcs bs bytes ok);
+    }
+
+-- The numbers of an accepted head.
+pub record Headed (bs : List ℕ) (head : Header) : Type 0 where
+  pub opened : Opened bs (12 + 10 * head .finals)
+  pub states-are : head .states ≡ decode bs .states
+  pub arcs-are : head .arcs ≡ length (decode bs .arcs)
+  pub start-is : head .start ≡ decode bs .start
+  pub finals-are : head .finals ≡ head-finals bs
+  pub few-finals : head .finals ≤ 1024
+  pub start-below : head .start < 1024
+  pub long : 12 ≤ length bs
+
+pub headed : (bs : List ℕ) → Bytes bs → refusal bs ≡ 0 → (head : Header) → head ≡ header-of bs → Headed bs head
+unfolding header-of
+headed bs bytes ok head e =
+    let within = accepted-within bs bytes ok in
+    let f : head .finals ≡ head-finals bs = ap (λ (h : Header). h .finals) e in
+    let s : head .start ≡ head-start bs = ap (λ (h : Header). h .start) e in
+    record {
+      opened = record { accepted = ok; first-is = omega (arith, f) };
+      states-are = ap (λ (h : Header). h .states) e ∙ sym (decode-states bs bytes ok);
+      arcs-are = ap (λ (h : Header). h .arcs) e ∙ sym (length-arcs bs bytes ok);
+      start-is = s ∙ sym (decode-start bs bytes ok);
+      finals-are = f;
+      few-finals = omega (arith, f, within .finals, within .states);
+      start-below = omega (arith, s, within .start, within .states);
+      long = omega (arith, length-accepted bs bytes ok);
+    }
+
+-- The arcs of a state: from one entry of the index to below the next.
+pub record Range (t : Transducer) (s from to : ℕ) : Type 0 where
+  pub from-is : from ≡ arcs-below s (t .arcs)
+  pub to-is : to ≡ arcs-below (s + 1) (t .arcs)
+  pub order : from ≤ to
+  pub inside : to ≤ length (t .arcs)
+
+pub range : (t : Transducer) (index : List ℕ) (s from to : ℕ) → Indexed t index → s < t .states → from ≡ getD index s 0 → to ≡ getD index (s + 1) 0
+    → Range t s from to
+range t index s from to x h e f =
+    let a : from ≡ arcs-below s (t .arcs) = e ∙ x .at-state s (omega arith) in
+    let b : to ≡ arcs-below (s + 1) (t .arcs) = f ∙ x .at-state (s + 1) (omega arith) in
+    record {
+      from-is = a;
+      to-is = b;
+      order = omega (arith, a, b, arcs-below-mono s (s + 1) (t .arcs) (omega arith));
+      inside = omega (arith, b, arcs-below-length (s + 1) (t .arcs));
+    }
+
+-- An arc of the range leaves the state; others do not.
+module _ (t : Transducer) (good : Content t) (s from to : ℕ) (r : Range t s from to) where
+  pub range-leaves : (i : ℕ) → from ≤ i → i < to → arc t i .source ≡ s
+  range-leaves i a b =
+      state-of-arcs t i s good (omega (arith, r .inside)) (omega (arith, r .from-is)) (omega (arith, r .to-is))
+
+  pub before-range : (i : ℕ) → i < from → arc t i .source ≡ s → ⊥
+  before-range i a e =
+      omega (arith, arcs-of-state t i s good (omega (arith, r .inside, r .order)) e .0, r .from-is)
+
+  pub behind-range : (i : ℕ) → to ≤ i → i < length (t .arcs) → arc t i .source ≡ s → ⊥
+  behind-range i a l e = omega (arith, arcs-of-state t i s good l e .1, r .to-is)
+
+  pub in-range : (i : ℕ) → i < length (t .arcs) → arc t i .source ≡ s → (from ≤ i) × (i < to)
+  in-range i l e = let both = arcs-of-state t i s good l e in (omega (arith, both .0, r .from-is), omega (arith, both .1, r .to-is))
+
+-- The count of the empty path by a final code.
+pub own-code : (t : Transducer) (codes : List ℕ) (s code : ℕ) → Finals-by-state t codes → s < 1024 → code ≡ getD codes s 0 → cond (eqb code 0) 0 1 ≡ own t s
+unfolding final-code own
+own-code t codes s code f h e = on (is-final (t .finals) s) (e ∙ f .at-state s h)
+  where
+    on : (b : Bool) → code ≡ cond b (final-weight (t .finals) s + 1) 0 → _≡_ {A = ℕ} (cond (eqb code 0) 0 1) (cond b 1 0)
+    on true q = rw (ne-eqb code 0 (λ z. omega arith))
+    on false q = rw (eq-eqb code 0 q)

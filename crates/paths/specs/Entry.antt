@@ -1,0 +1,46 @@
+-- What the path count and the k-th path answer and leave behind. Assumes nothing: these are definitions.
+use mathlib.Core.Path.{_≡_}
+use mathlib.Core.Bool.{_||_, cond}
+use mathlib.Core.List.{List}
+use Prim.Native.Nat.{ℕ}
+use lib.Dec.{ltb, leb}
+use lib.ListN.{length}
+use Rattle.transducer.specs.Format.{Transducer, refusal, decode}
+use Rattle.transducer.specs.Path.{written-by, path-cost}
+use Rattle.transducer.specs.Entry.{or-else, unless, left-in}
+use Rattle.wire.specs.Bytes.{filled}
+use Rattle.paths.specs.declared.Counted.{Counted}
+use Rattle.paths.specs.declared.Told.{Told}
+use Rattle.paths.specs.Count.{endless, path-count, nth-path}
+
+-- The path count: 1 to 8, then 14 where accepting paths are infinitely many.
+unfoldable pub count-refusal : List ℕ → ℕ
+count-refusal bs = or-else (refusal bs) (cond (endless (decode bs)) 14 0)
+
+pub record Count-says (bs : List ℕ) (number : ℕ) (r : Counted) : Type 0 where
+  pub refusal-is : r .refusal ≡ number
+  pub count-is : r .count ≡ unless number (path-count (decode bs))
+
+-- The k-th path: 1 to 8, 10 for a buffer that is too short, 14, then 15 where k is not below the count.
+unfoldable pub nth-refusal : List ℕ → (k arcs labels : ℕ) → ℕ
+nth-refusal bs k a b =
+    or-else (refusal bs)
+    (cond (ltb a 1023 || ltb b 1023) 10
+    (cond (endless (decode bs)) 14
+    (cond (leb (path-count (decode bs)) k) 15 0)))
+
+pub record Nth-says (bs : List ℕ) (k number : ℕ) (r : Told) (a a' b b' : List ℕ) : Type 0 where
+  pub refusal-is : r .refusal ≡ number
+  pub cost-is : r .cost ≡ unless number (path-cost (decode bs) (nth-path (decode bs) k))
+  pub arcs-is : r .arcs ≡ unless number (length (nth-path (decode bs) k))
+  pub labels-is : r .labels ≡ unless number (length (written-by (decode bs) (nth-path (decode bs) k)))
+  pub arcs : a' ≡ left-in number a (nth-path (decode bs) k)
+  pub labels : b' ≡ left-in number b (written-by (decode bs) (nth-path (decode bs) k))
+
+-- A path told: its cost, how many arcs and labels it has, and its labels in a lent buffer.
+pub record Tells (t : Transducer) (p : List ℕ) (r : Told) (b b' : List ℕ) : Type 0 where
+  pub refusal-is : r .refusal ≡ 0
+  pub cost-is : r .cost ≡ path-cost t p
+  pub arcs-is : r .arcs ≡ length p
+  pub labels-is : r .labels ≡ length (written-by t p)
+  pub labels : b' ≡ filled (length b) (written-by t p)

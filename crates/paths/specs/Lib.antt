@@ -1,0 +1,4 @@
+pub mod Count
+pub mod Tally
+pub mod Sweep
+pub mod Entry

@@ -1,0 +1,33 @@
+// Accepting paths: their count, and the k-th path.
+mod counts;
+mod entry;
+mod marks;
+mod path;
+
+pub use entry::count as path_count;
+pub use entry::nth as nth_path;
+
+// A count of paths: 99 stands for 99 or more.
+pub struct Count {
+    pub value: u32,
+}
+
+// What the path count answers: the refusal or 0, then the count, 0 on refusal.
+pub struct Counted {
+    pub refusal: u32,
+    pub count: u32,
+}
+
+// Counts after a sweep, and whether it changed one.
+pub struct Swept {
+    pub counts: [Count; 1024],
+    pub changed: bool,
+}
+
+// What a path's telling answers: the refusal or 0, then the cost and how many arcs and labels it has, 0 on refusal.
+pub struct Told {
+    pub refusal: u32,
+    pub cost: u64,
+    pub arcs: u32,
+    pub labels: u32,
+}

@@ -1,0 +1,99 @@
+// The k-th path, found by walking along the counts, and what a path costs and writes.
+ghost use mathlib.Core.Path.{_≡_};
+ghost use mathlib.Core.Bool.{true, false};
+ghost use Prim.Native.Nat.{_≤_, _<_};
+ghost use lib.ListN.{length, take};
+ghost use Rattle.wire.specs.Bytes.{filled};
+ghost use Rattle.transducer.specs.Format.{decode};
+ghost use Rattle.transducer.specs.Path.{accepts};
+ghost use Rattle.transducer.specs.Leaf.{Opened, Finals-by-state};
+ghost use Rattle.paths.specs.Count.{endless, path-count, nth-path};
+ghost use Rattle.paths.specs.Sweep.{Ready, Settled};
+ghost use Rattle.paths.specs.Entry.{Tells};
+use crate::Count;
+use crate::Told;
+use crate::counts;
+
+// Puts the arc numbers of the k-th path into `arcs`, zeros behind; how many there are.
+pub fn walk(
+    table: &[u8],
+    first: usize,
+    states: usize,
+    start: usize,
+    k: u32,
+    index: &[u16; 1025],
+    codes: &[u32; 1024],
+    all: [Count; 1024],
+    arcs: &mut [u16],
+) -> usize
+    requires { ⌜ Ready (now table) first states (now index) × Finals-by-state (decode (now table)) (now codes) × Settled (decode (now table)) all
+        × (start ≡ decode (now table) .start) × (endless (decode (now table)) ≡ false) × (k < path-count (decode (now table))) × (1023 ≤ length (now arcs)) ⌝ }
+    ensures { λ r. ⌜ (now (arcs .exit) ≡ filled (length (now (arcs .entry))) (nth-path (decode (now (table .entry))) k))
+        × (r ≡ length (nth-path (decode (now (table .entry))) k)) ⌝ }
+{
+    let mut s = start;
+    let mut left = k;
+    let mut n: usize = 0;
+    loop {
+        let mine = counts::own(codes[s]);
+        if left < mine.value {
+            break;
+        }
+        left -= mine.value;
+        let mut i = index[s] as usize;
+        let next = loop {
+            let to = counts::target(table, first, i);
+            let count = all[to];
+            if left < count.value {
+                break to;
+            }
+            left -= count.value;
+            i += 1;
+        };
+        arcs[n] = i as u16;
+        n += 1;
+        s = next;
+    }
+    wire::clear16(arcs, n);
+    n
+}
+
+// Tells the path of the first `len` numbers of `arcs`: puts the labels that it writes into `labels`, zeros behind.
+pub fn tell(
+    table: &[u8],
+    first: usize,
+    start: usize,
+    codes: &[u32; 1024],
+    arcs: &[u16],
+    len: usize,
+    labels: &mut [u16],
+) -> Told
+    requires { ⌜ Opened (now table) first × (start ≡ decode (now table) .start) × Finals-by-state (decode (now table)) (now codes) × (len ≤ length (now arcs)) × (len ≤ 1023)
+        × (accepts (decode (now table)) (take len (now arcs)) ≡ true) × (1023 ≤ length (now labels)) ⌝ }
+    ensures { λ r. ⌜ Tells (decode (now (table .entry))) (take len (now (arcs .entry))) r (now (labels .entry)) (now (labels .exit)) ⌝ }
+{
+    let mut s = start;
+    let mut cost: u64 = 0;
+    let mut m: usize = 0;
+    let mut i: usize = 0;
+    while i < len {
+        let j = arcs[i] as usize;
+        let a = transducer::arc_of(table, first, j);
+        i += 1;
+        cost += a.weight as u64;
+        s = a.target as usize;
+        if a.output == 0 {
+            continue;
+        }
+        labels[m] = a.output;
+        m += 1;
+    }
+    wire::clear16(labels, m);
+    let code = codes[s];
+    Told {
+        refusal: 0,
+        cost: cost + (code - 1) as u64,
+        arcs: len as u32,
+        labels: m as u32,
+    }
+}

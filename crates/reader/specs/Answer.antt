@@ -1,0 +1,17 @@
+-- Answers as C gets them: the refusal as the result, the other numbers through a reference. Assumes nothing: these are definitions.
+use Prim.Native.Nat.{ℕ}
+use mathlib.Core.List.{List}
+use lib.ListN.{getD}
+use Rattle.transducer.specs.declared.Header.{Header}
+use Rattle.transducer.specs.declared.Written.{Written}
+use Rattle.compose.specs.declared.Answer.{Answer}
+
+-- The head's numbers in their order: states, arcs, finals, start.
+abbrev pub header : (refusal : ℕ) → (head : List ℕ) → Header
+header r h = record { refusal = r; states = getD h 0 0; arcs = getD h 1 0; finals = getD h 2 0; start = getD h 3 0 }
+
+abbrev pub written : (refusal len : ℕ) → Written
+written r l = record { refusal = r; len = l }
+
+abbrev pub composed : (refusal len : ℕ) → Answer
+composed r l = record { refusal = r; len = l }

@@ -1,0 +1,224 @@
+-- What refusal and acceptance of bytes rest on.
+--     refused-early, refused-head    where the head does not say where the records stand, the walk says which of 1 to 4 it is
+--     laid-refusal                   where it does, only the content is left to refuse
+--     accepted-..                    what acceptance gives; `Bounds` has it as plain bounds on the numbers
+-- Assumes nothing.
+use mathlib.Core.Path.{_≡_, refl}
+use mathlib.Core.Bool.{Bool, true, false, _&&_, not, cond}
+use mathlib.Core.List.{List}
+use Prim.Native.Nat.{ℕ, suc, _+_, _*_, _≤_, _<_}
+use native.Mathlib.Omega.{arith}
+use borrow.Author.Tests.{ltb-true, leb-true, eqb-true, eq-eqb}
+use lib.Dec.{ltb, leb, eqb}
+use lib.ListN.{length, getD}
+use Rattle.wire.specs.Bytes.{Bytes, every}
+use Rattle.wire.proofs.Places.{and-true, true-and, every-getD}
+use Rattle.transducer.specs.declared.Arc.{Arc}
+use Rattle.transducer.specs.declared.Final.{Final}
+use Rattle.transducer.specs.Format.{Transducer, framed, records, kinds-good, decode, head-states, head-arcs, head-finals, head-start, head-good, states-good, finals-rise, sources-stay, order-good, labels-good, all-labels-good, weight-good, weights-good, first-of, content-refusal, refusal}
+use Rattle.transducer.specs.Path.{no-arc, arc}
+use Rattle.transducer.specs.Check.{walked}
+use Rattle.transducer.proofs.Laid.{Laid, laid-framed, laid-kinds, laid-finals-count, laid-arcs-count, kinds-laid}
+
+-- Refusal 3's test and refusal 4's, of bytes.
+
+abbrev head-fits : List ℕ → Bool
+head-fits bs = head-good (head-states bs) (head-arcs bs) (head-finals bs) (head-start bs)
+
+abbrev counts-fit : List ℕ → Bool
+counts-fit bs = eqb (length (decode bs .finals)) (head-finals bs) && eqb (length (decode bs .arcs)) (head-arcs bs)
+
+by-test : {A : Type 0} (t : Bool) → (t ≡ true → A) → (t ≡ false → A) → A
+by-test true f g = f refl
+by-test false f g = g refl
+
+counted-laid : {bs : List ℕ} → Bytes bs → framed bs ≡ true → kinds-good (records bs) ≡ true → counts-fit bs ≡ true →
+    Laid bs (head-finals bs) (head-arcs bs)
+unfolding decode
+counted-laid {bs} b fr ks cs =
+    let both = and-true (eqb (length (decode bs .finals)) (head-finals bs)) (eqb (length (decode bs .arcs)) (head-arcs bs)) cs in
+    let f : length (decode bs .finals) ≡ head-finals bs = eqb-true (length (decode bs .finals)) (head-finals bs) (both .0) in
+    let m : length (decode bs .arcs) ≡ head-arcs bs = eqb-true (length (decode bs .arcs)) (head-arcs bs) (both .1) in
+    rw (← f, ← m) (kinds-laid b fr ks)
+
+pub refused-early : {bs : List ℕ} → Bytes bs → (Laid bs (head-finals bs) (head-arcs bs) → ⊥) → refusal bs ≡ walked bs
+unfolding refusal walked
+refused-early {bs} b never =
+    by-test (framed bs)
+    (λ fr.
+    by-test (kinds-good (records bs))
+    (λ ks.
+    by-test (head-fits bs)
+    (λ hd. by-test (counts-fit bs) (λ cs. absurd (never (counted-laid b fr ks cs))) (λ cs. rw (fr, ks, hd, cs)))
+    (λ hd. rw (fr, ks, hd)))
+    (λ ks. rw (fr, ks)))
+    (λ fr. rw fr)
+
+pub refused-head : (bs : List ℕ) → head-good (head-states bs) (head-arcs bs) (head-finals bs) (head-start bs) ≡ false → refusal bs ≡ walked bs
+unfolding refusal walked
+refused-head bs hd =
+    by-test (framed bs)
+    (λ fr. by-test (kinds-good (records bs)) (λ ks. rw (fr, ks, hd)) (λ ks. rw (fr, ks)))
+    (λ fr. rw fr)
+
+pub laid-refusal : {bs : List ℕ} → Bytes bs → Laid bs (head-finals bs) (head-arcs bs) →
+    head-good (head-states bs) (head-arcs bs) (head-finals bs) (head-start bs) ≡ true → refusal bs ≡ content-refusal (decode bs)
+unfolding refusal
+laid-refusal {bs} b l hd =
+    let cs : counts-fit bs ≡ true =
+    true-and (eqb (length (decode bs .finals)) (head-finals bs)) (eqb (length (decode bs .arcs)) (head-arcs bs))
+    (eq-eqb (length (decode bs .finals)) (head-finals bs) (laid-finals-count b l))
+    (eq-eqb (length (decode bs .arcs)) (head-arcs bs) (laid-arcs-count b l)) in
+    rw (laid-framed b l, laid-kinds b l, hd, cs)
+
+-- A test of a chain that ends in 0 has passed.
+passed : (t : Bool) (k r : ℕ) → cond (not t) (suc k) r ≡ 0 → (t ≡ true) × (r ≡ 0)
+passed true k r h = (refl, h)
+passed false k r h = absurd (omega arith)
+
+record Passed (bs : List ℕ) : Type 0 where
+  framing : framed bs ≡ true
+  kinds : kinds-good (records bs) ≡ true
+  head : head-fits bs ≡ true
+  counts : counts-fit bs ≡ true
+  content : content-refusal (decode bs) ≡ 0
+
+all-passed : (bs : List ℕ) → refusal bs ≡ 0 → Passed bs
+unfolding refusal
+all-passed bs h =
+    let r4 = cond (not (counts-fit bs)) 4 (content-refusal (decode bs)) in
+    let r3 = cond (not (head-fits bs)) 3 r4 in
+    let r2 = cond (not (kinds-good (records bs))) 2 r3 in
+    let p1 : (framed bs ≡ true) × (r2 ≡ 0) = passed (framed bs) 0 r2 h in
+    let p2 : (kinds-good (records bs) ≡ true) × (r3 ≡ 0) = passed (kinds-good (records bs)) 1 r3 (p1 .1) in
+    let p3 : (head-fits bs ≡ true) × (r4 ≡ 0) = passed (head-fits bs) 2 r4 (p2 .1) in
+    let p4 : (counts-fit bs ≡ true) × (content-refusal (decode bs) ≡ 0) = passed (counts-fit bs) 3 (content-refusal (decode bs)) (p3 .1) in
+    record { framing = p1 .0; kinds = p2 .0; head = p3 .0; counts = p4 .0; content = p4 .1 }
+
+pub accepted-laid : {bs : List ℕ} → Bytes bs → refusal bs ≡ 0 → Laid bs (head-finals bs) (head-arcs bs)
+accepted-laid {bs} b h = let p : Passed bs = all-passed bs h in counted-laid b (p .framing) (p .kinds) (p .counts)
+
+pub accepted-head : (bs : List ℕ) → refusal bs ≡ 0 → head-good (head-states bs) (head-arcs bs) (head-finals bs) (head-start bs) ≡ true
+accepted-head bs h = all-passed bs h .head
+
+pub accepted-content : (bs : List ℕ) → refusal bs ≡ 0 → content-refusal (decode bs) ≡ 0
+accepted-content bs h = all-passed bs h .content
+
+-- The head's numbers in range.
+pub record Head-range (n m f s : ℕ) : Type 0 where
+  pub some : 1 ≤ n
+  pub states : n ≤ 1024
+  pub arcs : m ≤ 3072
+  pub finals : f ≤ n
+  pub start : s < n
+
+pub head-range : (n m f s : ℕ) → head-good n m f s ≡ true → Head-range n m f s
+unfolding head-good
+head-range n m f s h =
+    let a = and-true (leb 1 n && leb n 1024) (leb m 3072 && (leb f n && ltb s n)) h in
+    let b = and-true (leb 1 n) (leb n 1024) (a .0) in
+    let c = and-true (leb m 3072) (leb f n && ltb s n) (a .1) in
+    let d = and-true (leb f n) (ltb s n) (c .1) in
+    record {
+      some = leb-true 1 n (b .0);
+      states = leb-true n 1024 (b .1);
+      arcs = leb-true m 3072 (c .0);
+      finals = leb-true f n (d .0);
+      start = ltb-true s n (d .1);
+    }
+
+-- What no refusal of 5 to 8 gives, arc by arc and final by final.
+pub record Content-range (t : Transducer) : Type 0 where
+  pub source : (i : ℕ) → i < length (t .arcs) → arc t i .source < t .states
+  pub target : (i : ℕ) → i < length (t .arcs) → arc t i .target < t .states
+  pub input : (i : ℕ) → i < length (t .arcs) → arc t i .input < 65535
+  pub output : (i : ℕ) → i < length (t .arcs) → arc t i .output < 65535
+  pub weight : (i : ℕ) → i < length (t .arcs) → arc t i .weight ≤ 1000000
+  pub final-state : (i : ℕ) (d : Final) → i < length (t .finals) → getD (t .finals) i d .state < t .states
+  pub final-weight : (i : ℕ) (d : Final) → i < length (t .finals) → getD (t .finals) i d .weight ≤ 1000000
+  pub rise : finals-rise 0 (t .finals) ≡ true
+  pub stay : sources-stay 0 (t .arcs) ≡ true
+
+pub content-range : (t : Transducer) → content-refusal t ≡ 0 → Content-range t
+unfolding content-refusal first-of states-good order-good all-labels-good weights-good labels-good weight-good arc
+content-range t h =
+    let n = t .states in
+    let w3 : ℕ = cond (not (weights-good t)) 8 0 in
+    let w2 : ℕ = cond (not (all-labels-good t)) 7 w3 in
+    let w1 : ℕ = cond (not (order-good t)) 6 w2 in
+    let p5 : (states-good t ≡ true) × (w1 ≡ 0) = passed (states-good t) 4 w1 h in
+    let p6 : (order-good t ≡ true) × (w2 ≡ 0) = passed (order-good t) 5 w2 (p5 .1) in
+    let p7 : (all-labels-good t ≡ true) × (w3 ≡ 0) = passed (all-labels-good t) 6 w3 (p6 .1) in
+    let p8 : weights-good t ≡ true = passed (weights-good t) 7 0 (p7 .1) .0 in
+    let below : Final → Bool = λ f. ltb (f .state) n in
+    let ends : Arc → Bool = λ a. ltb (a .source) n && ltb (a .target) n in
+    let labels : Arc → Bool = λ a. ltb (a .input) 65535 && ltb (a .output) 65535 in
+    let light : Final → Bool = λ f. leb (f .weight) 1000000 in
+    let light-arc : Arc → Bool = λ a. leb (a .weight) 1000000 in
+    let states = and-true (every below (t .finals)) (every ends (t .arcs)) (p5 .0) in
+    let order = and-true (finals-rise 0 (t .finals)) (sources-stay 0 (t .arcs)) (p6 .0) in
+    let weights = and-true (every light (t .finals)) (every light-arc (t .arcs)) p8 in
+    let ends-at : (i : ℕ) → i < length (t .arcs) → (ltb (arc t i .source) n ≡ true) × (ltb (arc t i .target) n ≡ true) =
+    λ i l. and-true (ltb (arc t i .source) n) (ltb (arc t i .target) n) (every-getD ends (t .arcs) i no-arc (states .1) l) in
+    let labels-at : (i : ℕ) → i < length (t .arcs) → (ltb (arc t i .input) 65535 ≡ true) × (ltb (arc t i .output) 65535 ≡ true) =
+    λ i l. and-true (ltb (arc t i .input) 65535) (ltb (arc t i .output) 65535) (every-getD labels (t .arcs) i no-arc (p7 .0) l) in
+    record {
+      source = λ i l. ltb-true (arc t i .source) n (ends-at i l .0);
+      target = λ i l. ltb-true (arc t i .target) n (ends-at i l .1);
+      input = λ i l. ltb-true (arc t i .input) 65535 (labels-at i l .0);
+      output = λ i l. ltb-true (arc t i .output) 65535 (labels-at i l .1);
+      weight = λ i l. leb-true (arc t i .weight) 1000000 (every-getD light-arc (t .arcs) i no-arc (weights .1) l);
+      final-state = λ i d l. ltb-true (getD (t .finals) i d .state) n (every-getD below (t .finals) i d (states .0) l);
+      final-weight = λ i d l. leb-true (getD (t .finals) i d .weight) 1000000 (every-getD light (t .finals) i d (weights .0) l);
+      rise = order .0;
+      stay = order .1;
+    }
+
+-- What acceptance gives, as bounds on the numbers.
+pub record Bounds (bs : List ℕ) : Type 0 where
+  pub some : 1 ≤ head-states bs
+  pub states : head-states bs ≤ 1024
+  pub arcs : head-arcs bs ≤ 3072
+  pub finals : head-finals bs ≤ head-states bs
+  pub start : head-start bs < head-states bs
+  pub long : length bs ≡ 12 + 10 * head-finals bs + 16 * head-arcs bs
+  pub arcs-long : length (decode bs .arcs) ≡ head-arcs bs
+  pub finals-long : length (decode bs .finals) ≡ head-finals bs
+  pub source : (i : ℕ) → i < head-arcs bs → arc (decode bs) i .source < head-states bs
+  pub target : (i : ℕ) → i < head-arcs bs → arc (decode bs) i .target < head-states bs
+  pub input : (i : ℕ) → i < head-arcs bs → arc (decode bs) i .input < 65535
+  pub output : (i : ℕ) → i < head-arcs bs → arc (decode bs) i .output < 65535
+  pub weight : (i : ℕ) → i < head-arcs bs → arc (decode bs) i .weight ≤ 1000000
+  pub final-state : (i : ℕ) (d : Final) → i < head-finals bs → getD (decode bs .finals) i d .state < head-states bs
+  pub final-weight : (i : ℕ) (d : Final) → i < head-finals bs → getD (decode bs .finals) i d .weight ≤ 1000000
+  pub rise : finals-rise 0 (decode bs .finals) ≡ true
+  pub stay : sources-stay 0 (decode bs .arcs) ≡ true
+
+pub bounds : {bs : List ℕ} → Bytes bs → refusal bs ≡ 0 → Bounds bs
+unfolding decode
+bounds {bs} b h =
+    let l : Laid bs (head-finals bs) (head-arcs bs) = accepted-laid b h in
+    let r : Head-range (head-states bs) (head-arcs bs) (head-finals bs) (head-start bs) =
+    head-range (head-states bs) (head-arcs bs) (head-finals bs) (head-start bs) (accepted-head bs h) in
+    let c : Content-range (decode bs) = content-range (decode bs) (accepted-content bs h) in
+    let m : length (decode bs .arcs) ≡ head-arcs bs = laid-arcs-count b l in
+    let f : length (decode bs .finals) ≡ head-finals bs = laid-finals-count b l in
+    record {
+      some = r .some;
+      states = r .states;
+      arcs = r .arcs;
+      finals = r .finals;
+      start = r .start;
+      long = l .long;
+      arcs-long = m;
+      finals-long = f;
+      source = λ i k. c .source i (rw m k);
+      target = λ i k. c .target i (rw m k);
+      input = λ i k. c .input i (rw m k);
+      output = λ i k. c .output i (rw m k);
+      weight = λ i k. c .weight i (rw m k);
+      final-state = λ i d k. c .final-state i d (rw f k);
+      final-weight = λ i d k. c .final-weight i d (rw f k);
+      rise = c .rise;
+      stay = c .stay;
+    }

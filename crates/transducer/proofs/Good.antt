@@ -1,0 +1,101 @@
+-- What the tests 3 and 5 to 8 say, as plain facts: `Within` of the head's numbers, `Content` of a transducer. Assumes nothing.
+use mathlib.Core.Path.{_≡_, refl}
+use mathlib.Core.Bool.{Bool, true, false, _&&_, not, cond}
+use Prim.Native.Nat.{ℕ, suc, _≤_, _<_}
+use native.Mathlib.Omega.{arith}
+use borrow.Author.Tests.{ltb-true, leb-true}
+use lib.Dec.{ltb, leb}
+use lib.ListN.{length, getD}
+use Rattle.wire.specs.Bytes.{every}
+use Rattle.wire.proofs.Places.{and-true, every-getD}
+use Rattle.transducer.specs.declared.Arc.{Arc}
+use Rattle.transducer.specs.declared.Final.{Final}
+use Rattle.transducer.specs.Format.{Transducer, head-good, states-good, order-good, all-labels-good, weights-good, weight-good, labels-good, first-of, content-refusal, finals-rise, sources-stay}
+
+pub record Within (n m f s : ℕ) : Type 0 where
+  pub some : 1 ≤ n
+  pub states : n ≤ 1024
+  pub arcs : m ≤ 3072
+  pub finals : f ≤ n
+  pub start : s < n
+
+pub head-within : (n m f s : ℕ) → head-good n m f s ≡ true → Within n m f s
+unfolding head-good
+head-within n m f s h =
+    let a = and-true (leb 1 n && leb n 1024) (leb m 3072 && (leb f n && ltb s n)) h in
+    let b = and-true (leb 1 n) (leb n 1024) (a .0) in
+    let d = and-true (leb m 3072) (leb f n && ltb s n) (a .1) in
+    let e = and-true (leb f n) (ltb s n) (d .1) in
+    record {
+      some = leb-true 1 n (b .0);
+      states = leb-true n 1024 (b .1);
+      arcs = leb-true m 3072 (d .0);
+      finals = leb-true f n (e .0);
+      start = ltb-true s n (e .1);
+    }
+
+-- A test of a chain that gives 0.
+pub passed : (b : Bool) (k r : ℕ) → cond (not b) (suc k) r ≡ 0 → (b ≡ true) × (r ≡ 0)
+passed true k r h = (refl, h)
+passed false k r h = absurd (omega arith)
+
+pub record Content (t : Transducer) : Type 0 where
+  pub states : states-good t ≡ true
+  pub order : order-good t ≡ true
+  pub labels : all-labels-good t ≡ true
+  pub weights : weights-good t ≡ true
+
+pub content-good : (t : Transducer) → content-refusal t ≡ 0 → Content t
+unfolding content-refusal first-of
+content-good t h =
+    let a = passed (states-good t) 4 (cond (not (order-good t)) 6 (cond (not (all-labels-good t)) 7 (cond (not (weights-good t)) 8 0))) h in
+    let b = passed (order-good t) 5 (cond (not (all-labels-good t)) 7 (cond (not (weights-good t)) 8 0)) (a .1) in
+    let c = passed (all-labels-good t) 6 (cond (not (weights-good t)) 8 0) (b .1) in
+    let d = passed (weights-good t) 7 0 (c .1) in
+    record { states = a .0; order = b .0; labels = c .0; weights = d .0 }
+
+module _ (t : Transducer) (good : Content t) where
+  pub finals-rise-good : finals-rise 0 (t .finals) ≡ true
+  unfolding order-good
+  finals-rise-good = and-true (finals-rise 0 (t .finals)) (sources-stay 0 (t .arcs)) (good .order) .0
+
+  pub sources-stay-good : sources-stay 0 (t .arcs) ≡ true
+  unfolding order-good
+  sources-stay-good = and-true (finals-rise 0 (t .finals)) (sources-stay 0 (t .arcs)) (good .order) .1
+
+  pub final-state-below : (i : ℕ) (d : Final) → i < length (t .finals) → getD (t .finals) i d .state < t .states
+  unfolding states-good
+  final-state-below i d l =
+      let all = and-true (every (λ f. ltb (f .state) (t .states)) (t .finals))
+      (every (λ a. ltb (a .source) (t .states) && ltb (a .target) (t .states)) (t .arcs)) (good .states) in
+      ltb-true (getD (t .finals) i d .state) (t .states) (every-getD (λ f. ltb (f .state) (t .states)) (t .finals) i d (all .0) l)
+
+  pub arc-states-below : (i : ℕ) (d : Arc) → i < length (t .arcs) → (getD (t .arcs) i d .source < t .states) × (getD (t .arcs) i d .target < t .states)
+  unfolding states-good
+  arc-states-below i d l =
+      let all = and-true (every (λ f. ltb (f .state) (t .states)) (t .finals))
+      (every (λ a. ltb (a .source) (t .states) && ltb (a .target) (t .states)) (t .arcs)) (good .states) in
+      let a : Arc = getD (t .arcs) i d in
+      let both = and-true (ltb (a .source) (t .states)) (ltb (a .target) (t .states))
+      (every-getD (λ a. ltb (a .source) (t .states) && ltb (a .target) (t .states)) (t .arcs) i d (all .1) l) in
+      (ltb-true (a .source) (t .states) (both .0), ltb-true (a .target) (t .states) (both .1))
+
+  pub arc-labels-below : (i : ℕ) (d : Arc) → i < length (t .arcs) → (getD (t .arcs) i d .input < 65535) × (getD (t .arcs) i d .output < 65535)
+  unfolding all-labels-good labels-good
+  arc-labels-below i d l =
+      let a : Arc = getD (t .arcs) i d in
+      let both = and-true (ltb (a .input) 65535) (ltb (a .output) 65535)
+      (every-getD (λ a. labels-good (a .input) (a .output)) (t .arcs) i d (good .labels) l) in
+      (ltb-true (a .input) 65535 (both .0), ltb-true (a .output) 65535 (both .1))
+
+  pub final-weight-most : (i : ℕ) (d : Final) → i < length (t .finals) → getD (t .finals) i d .weight ≤ 1000000
+  unfolding weights-good weight-good
+  final-weight-most i d l =
+      let all = and-true (every (λ f. weight-good (f .weight)) (t .finals)) (every (λ a. weight-good (a .weight)) (t .arcs)) (good .weights) in
+      leb-true (getD (t .finals) i d .weight) 1000000 (every-getD (λ f. weight-good (f .weight)) (t .finals) i d (all .0) l)
+
+  pub arc-weight-most : (i : ℕ) (d : Arc) → i < length (t .arcs) → getD (t .arcs) i d .weight ≤ 1000000
+  unfolding weights-good weight-good
+  arc-weight-most i d l =
+      let all = and-true (every (λ f. weight-good (f .weight)) (t .finals)) (every (λ a. weight-good (a .weight)) (t .arcs)) (good .weights) in
+      leb-true (getD (t .arcs) i d .weight) 1000000 (every-getD (λ a. weight-good (a .weight)) (t .arcs) i d (all .1) l)

@@ -1,0 +1,252 @@
+-- A path with at least as many arcs as there are states comes back to a state (the pigeonhole): its ring can be left out or
+-- gone round once more. Assumes nothing.
+use mathlib.Core.Path.{_≡_, refl, sym, ap, _∙_}
+use mathlib.Core.Bool.{Bool, true, false, cond}
+use mathlib.Core.Logic.{_⊎_, inl, inr}
+use mathlib.Core.List.{List, [], _∷_, _++_}
+use mathlib.Core.List.{List·Memᴰ as Mem, List·Memᴰ·head as first, List·Memᴰ·tail as later, List·Memᴰ·not-nil as none-in}
+use mathlib.Core.List.{List·Memᴰ·cases-cons as first-or-later, Memᴰ·cast as carry}
+use Prim.Native.Nat.{ℕ, zero, suc, _+_, _≤_, _<_}
+use native.Mathlib.Nat.{not-suc-le-zero}
+use native.Mathlib.Omega.{arith}
+use lib.Dec.{ltb, eqb}
+use lib.ListN.{length, length-append}
+use borrow.Author.Tests.{eqb-true, eqb-false, ne-eqb, ltb-true, ltb-false}
+use Rattle.transducer.specs.Format.{Transducer}
+use Rattle.transducer.specs.Path.{arc, runs, ends}
+use Rattle.transducer.proofs.Members.{Distinct}
+use Rattle.transducer.proofs.Paths.{Runs, runs-cons}
+use Rattle.transducer.proofs.Runs.{Accepting, accepting-append, append-accepting, ends-append, Within}
+
+-- A list of different numbers below n has at most n of them.
+
+unfoldable pub without : (x : ℕ) → List ℕ → List ℕ
+without x [] = []
+without x (y ∷ l) = cond (eqb y x) (without x l) (y ∷ without x l)
+
+pub in-without : (x y : ℕ) (l : List ℕ) → Mem y (without x l) → Mem y l × (y ≡ x → ⊥)
+unfolding without
+in-without x y [] m = absurd (none-in m)
+in-without x y (z ∷ l) m = on (λ m'. in-without x y l m') (eqb z x) refl m
+  where
+    on : (Mem y (without x l) → Mem y l × (y ≡ x → ⊥)) → (b : Bool) → eqb z x ≡ b → Mem y (cond b (without x l) (z ∷ without x l)) → Mem y (z ∷ l) × (y ≡ x → ⊥)
+    on below true e m' = (later (below m' .0), below m' .1)
+    on below false e m' = next (first-or-later m')
+      where
+        next : (y ≡ z) ⊎ Mem y (without x l) → Mem y (z ∷ l) × (y ≡ x → ⊥)
+        next (inl same) = (first same, λ h. eqb-false z x e (sym same ∙ h))
+        next (inr m″) = (later (below m″ .0), below m″ .1)
+
+pub without-same : (x : ℕ) (l : List ℕ) → (Mem x l → ⊥) → without x l ≡ l
+unfolding without
+without-same x [] h = refl
+without-same x (y ∷ l) h =
+    let e : eqb y x ≡ false = ne-eqb y x (λ same. h (first (sym same))) in
+    rw (e, without-same x l (λ m. h (later m)))
+
+pub distinct-without : (x : ℕ) (l : List ℕ) → Distinct (λ y. y) l → Distinct (λ y. y) (without x l)
+unfolding Distinct without
+distinct-without x [] d = tt
+distinct-without x (y ∷ l) d = on (distinct-without x l (d .1)) (eqb y x)
+  where
+    on : Distinct (λ y. y) (without x l) → (b : Bool) → Distinct (λ y. y) (cond b (without x l) (y ∷ without x l))
+    on below true = below
+    on below false = ((λ z m e. d .0 z (in-without x z l m .0) e), below)
+
+pub length-without : (x : ℕ) (l : List ℕ) → Distinct (λ y. y) l → length l ≤ suc (length (without x l))
+unfolding Distinct without
+length-without x [] d = omega arith
+length-without x (y ∷ l) d = on (length-without x l (d .1)) (eqb y x) refl
+  where
+    on : length l ≤ suc (length (without x l)) → (b : Bool) → eqb y x ≡ b → suc (length l) ≤ suc (length (cond b (without x l) (y ∷ without x l)))
+    on below true e =
+        let same : without x l ≡ l = without-same x l (λ m. d .0 x m (eqb-true y x e)) in
+        rw same (omega arith)
+    on below false e = omega arith
+
+pub distinct-below : (n : ℕ) (l : List ℕ) → Distinct (λ y. y) l → ((x : ℕ) → Mem x l → x < n) → length l ≤ n
+distinct-below zero [] d b = omega arith
+distinct-below zero (x ∷ l) d b = absurd (not-suc-le-zero (b x (first refl)))
+distinct-below (suc n) l d b =
+    let less : length (without n l) ≤ n = distinct-below n (without n l) (distinct-without n l d)
+    (λ x m. let r = in-without n x l m in let u : x < suc n = b x (r .0) in let ne : x ≡ n → ⊥ = r .1 in omega arith) in
+    let most : length l ≤ suc (length (without n l)) = length-without n l d in
+    omega arith
+
+-- The states that a path visits, its first and its last among them.
+unfoldable pub visited : Transducer → (s : ℕ) → (path : List ℕ) → List ℕ
+visited t s [] = s ∷ []
+visited t s (i ∷ p) = s ∷ visited t (arc t i .target) p
+
+pub length-visited : (t : Transducer) (s : ℕ) (p : List ℕ) → length (visited t s p) ≡ suc (length p)
+unfolding visited
+length-visited t s [] = refl
+length-visited t s (i ∷ p) = ap suc (length-visited t (arc t i .target) p)
+
+pub visited-below : (t : Transducer) → Within t → (s : ℕ) (p : List ℕ) → s < t .states → runs t s p ≡ true → (x : ℕ) → Mem x (visited t s p) → x < t .states
+unfolding visited
+visited-below t w s [] b h x m = on (first-or-later m)
+  where
+    on : (x ≡ s) ⊎ Mem x [] → x < t .states
+    on (inl e) = omega arith
+    on (inr m') = absurd (none-in m')
+visited-below t w s (i ∷ p) b h x m =
+    let r : Runs t s i p = runs-cons t s i p h in
+    on (λ m'. visited-below t w (arc t i .target) p (w .arrives i (r .below)) (r .rest) x m') (first-or-later m)
+  where
+    on : (Mem x (visited t (arc t i .target) p) → x < t .states) → (x ≡ s) ⊎ Mem x (visited t (arc t i .target) p) → x < t .states
+    on below (inl e) = omega arith
+    on below (inr m') = below m'
+
+-- A state that is visited: the path up to there, and from there on.
+pub record Visit (t : Transducer) (s : ℕ) (p : List ℕ) (x : ℕ) : Type 0 where
+  pub lead : List ℕ
+  pub rest : List ℕ
+  pub whole : p ≡ lead ++ rest
+  pub there : ends t s lead ≡ x
+
+pub visit : (t : Transducer) (s : ℕ) (p : List ℕ) (x : ℕ) → Mem x (visited t s p) → Visit t s p x
+unfolding visited ends
+visit t s [] x m = on (first-or-later m)
+  where
+    on : (x ≡ s) ⊎ Mem x [] → Visit t s [] x
+    on (inl e) = record { lead = []; rest = []; whole = refl; there = sym e }
+    on (inr m') = absurd (none-in m')
+visit t s (i ∷ p) x m = on (λ m'. visit t (arc t i .target) p x m') (first-or-later m)
+  where
+    on : (Mem x (visited t (arc t i .target) p) → Visit t (arc t i .target) p x) → (x ≡ s) ⊎ Mem x (visited t (arc t i .target) p) → Visit t s (i ∷ p) x
+    on below (inl e) = record { lead = []; rest = i ∷ p; whole = refl; there = sym e }
+    on below (inr m') =
+        let v = below m' in
+        record { lead = i ∷ v .lead; rest = v .rest; whole = ap (λ (l : List ℕ). i ∷ l) (v .whole); there = v .there }
+
+-- A path that comes back to a state.
+pub record Ring (t : Transducer) (s : ℕ) (p : List ℕ) : Type 0 where
+  pub lead : List ℕ
+  pub ring : List ℕ
+  pub rest : List ℕ
+  pub whole : p ≡ lead ++ (ring ++ rest)
+  pub some : 0 < length ring
+  pub back : ends t s (lead ++ ring) ≡ ends t s lead
+
+pub in-list : (x : ℕ) (l : List ℕ) → Mem x l ⊎ (Mem x l → ⊥)
+in-list x [] = inr (λ m. none-in m)
+in-list x (y ∷ l) = on (in-list x l) (eqb x y) refl
+  where
+    on : Mem x l ⊎ (Mem x l → ⊥) → (b : Bool) → eqb x y ≡ b → Mem x (y ∷ l) ⊎ (Mem x (y ∷ l) → ⊥)
+    on below true e = inl (first (eqb-true x y e))
+    on (inl m) false e = inl (later m)
+    on (inr none) false e = inr (λ m. next (first-or-later m))
+      where
+        next : (x ≡ y) ⊎ Mem x l → ⊥
+        next (inl same) = eqb-false x y e same
+        next (inr m) = none m
+
+pub ring-or-distinct : (t : Transducer) (s : ℕ) (p : List ℕ) → Ring t s p ⊎ Distinct (λ y. y) (visited t s p)
+unfolding Distinct visited ends
+ring-or-distinct t s [] = inr ((λ y m e. none-in m), tt)
+ring-or-distinct t s (i ∷ p) = on (in-list s (visited t (arc t i .target) p)) (ring-or-distinct t (arc t i .target) p)
+  where
+    u : ℕ
+    u = arc t i .target
+
+    on : Mem s (visited t u p) ⊎ (Mem s (visited t u p) → ⊥) → Ring t u p ⊎ Distinct (λ y. y) (visited t u p) → Ring t s (i ∷ p) ⊎ Distinct (λ y. y) (s ∷ visited t u p)
+    on (inl m) below =
+        let v : Visit t u p s = visit t u p s m in
+        inl (record {
+          lead = [];
+          ring = i ∷ v .lead;
+          rest = v .rest;
+          whole = ap (λ (l : List ℕ). i ∷ l) (v .whole);
+          some = omega arith;
+          back = v .there;
+        })
+    on (inr none) (inl r) =
+        inl (record {
+          lead = i ∷ r .lead;
+          ring = r .ring;
+          rest = r .rest;
+          whole = ap (λ (l : List ℕ). i ∷ l) (r .whole);
+          some = r .some;
+          back = r .back;
+        })
+    on (inr none) (inr d) = inr ((λ y m e. none (carry e m)), d)
+
+-- The pigeonhole.
+pub long-has-ring : (t : Transducer) → Within t → (s : ℕ) (p : List ℕ) → s < t .states → runs t s p ≡ true → t .states ≤ length p → Ring t s p
+long-has-ring t w s p b h long = on (ring-or-distinct t s p)
+  where
+    on : Ring t s p ⊎ Distinct (λ y. y) (visited t s p) → Ring t s p
+    on (inl r) = r
+    on (inr d) =
+        let few : length (visited t s p) ≤ t .states = distinct-below (t .states) (visited t s p) d (visited-below t w s p b h) in
+        let many : length (visited t s p) ≡ suc (length p) = length-visited t s p in
+        absurd (omega arith)
+
+-- A ring on an accepting path: from its state it leads back there, and the rest is accepting from there.
+pub record Round (t : Transducer) (s : ℕ) (lead ring rest : List ℕ) : Type 0 where
+  pub there : runs t s lead ≡ true
+  pub around : runs t (ends t s lead) ring ≡ true
+  pub back : ends t (ends t s lead) ring ≡ ends t s lead
+  pub on : Accepting t (ends t s lead) rest
+
+pub ring-round : (t : Transducer) (s : ℕ) (p : List ℕ) → (r : Ring t s p) → Accepting t s p → Round t s (r .lead) (r .ring) (r .rest)
+ring-round t s p r a =
+    let u : ℕ = ends t s (r .lead) in
+    let all : Accepting t s (r .lead ++ (r .ring ++ r .rest)) = rw (r .whole) at a in
+    let one : (runs t s (r .lead) ≡ true) × Accepting t u (r .ring ++ r .rest) = accepting-append t s (r .lead) (r .ring ++ r .rest) all in
+    let two : (runs t u (r .ring) ≡ true) × Accepting t (ends t u (r .ring)) (r .rest) = accepting-append t u (r .ring) (r .rest) (one .1) in
+    let same : ends t u (r .ring) ≡ u = sym (ends-append t s (r .lead) (r .ring)) ∙ r .back in
+    record { there = one .0; around = two .0; back = same; on = rw same at (two .1) }
+
+-- The ring left out, and gone round once more.
+
+pub shorter : (t : Transducer) (s : ℕ) (p : List ℕ) → Ring t s p → Accepting t s p → (q : List ℕ) × Accepting t s q × (length q < length p)
+shorter t s p r a =
+    let o = ring-round t s p r a in
+    let long : length p ≡ length (r .lead) + (length (r .ring) + length (r .rest)) = ap length (r .whole) ∙ simp length-append in
+    let short : length (r .lead ++ r .rest) ≡ length (r .lead) + length (r .rest) = length-append (r .lead) (r .rest) in
+    let some : 0 < length (r .ring) = r .some in
+    (r .lead ++ r .rest, append-accepting t s (r .lead) (r .rest) (o .there) (o .on), omega arith)
+
+pub longer : (t : Transducer) (s : ℕ) (p : List ℕ) → Ring t s p → Accepting t s p → (q : List ℕ) × Accepting t s q × (length p < length q)
+longer t s p r a =
+    let o = ring-round t s p r a in
+    let u : ℕ = ends t s (r .lead) in
+    let once : Accepting t u (r .ring ++ r .rest) = append-accepting t u (r .ring) (r .rest) (o .around) (rw (o .back) (o .on)) in
+    let twice : Accepting t u (r .ring ++ (r .ring ++ r .rest)) = append-accepting t u (r .ring) (r .ring ++ r .rest) (o .around) (rw (o .back) once) in
+    let q : List ℕ = r .lead ++ (r .ring ++ (r .ring ++ r .rest)) in
+    let long : length p ≡ length (r .lead) + (length (r .ring) + length (r .rest)) = ap length (r .whole) ∙ simp length-append in
+    let more : length q ≡ length (r .lead) + (length (r .ring) + (length (r .ring) + length (r .rest))) = simp length-append in
+    let some : 0 < length (r .ring) = r .some in
+    (q, append-accepting t s (r .lead) (r .ring ++ (r .ring ++ r .rest)) (o .there) twice, omega arith)
+
+-- From a state within, an accepting path without a ring: it has fewer arcs than there are states.
+short-within : (t : Transducer) → Within t → (s : ℕ) → s < t .states → (fuel : ℕ) (p : List ℕ) → length p ≤ fuel → Accepting t s p
+    → (q : List ℕ) × Accepting t s q × (length q < t .states)
+short-within t w s b zero p h a = (p, a, omega arith)
+short-within t w s b (suc fuel) p h a = on (λ q l. short-within t w s b fuel q l) (ltb (length p) (t .states)) refl
+  where
+    on : ((q : List ℕ) → length q ≤ fuel → Accepting t s q → (r : List ℕ) × Accepting t s r × (length r < t .states))
+        → (c : Bool) → ltb (length p) (t .states) ≡ c → (r : List ℕ) × Accepting t s r × (length r < t .states)
+    on below true e = (p, a, ltb-true (length p) (t .states) e)
+    on below false e =
+        let q = shorter t s p (long-has-ring t w s p b (a .goes) (ltb-false (length p) (t .states) e)) a in
+        let l : length (q .0) < length p = q .2 in
+        below (q .0) (omega arith) (q .1)
+
+pub short-path : (t : Transducer) → Within t → (s : ℕ) (p : List ℕ) → s < t .states → Accepting t s p
+    → (q : List ℕ) × Accepting t s q × (length q < t .states)
+short-path t w s p b a = short-within t w s b (length p) p (omega arith) a
+
+-- And where one is as long as there are states, there are accepting paths of any length.
+pub ever-longer : (t : Transducer) → Within t → (s : ℕ) (p : List ℕ) → s < t .states → Accepting t s p → t .states ≤ length p → (k : ℕ)
+    → (q : List ℕ) × Accepting t s q × (t .states ≤ length q) × (k ≤ length q)
+ever-longer t w s p b a h zero = (p, a, h, omega arith)
+ever-longer t w s p b a h (suc k) =
+    let m = ever-longer t w s p b a h k in
+    let n = longer t s (m .0) (long-has-ring t w s (m .0) b (m .1 .goes) (m .2)) (m .1) in
+    let u : t .states ≤ length (m .0) = m .2 in
+    let v : k ≤ length (m .0) = m .3 in
+    let l : length (m .0) < length (n .0) = n .2 in
+    (n .0, n .1, omega arith, omega arith)

@@ -1,0 +1,182 @@
+-- One test after the other, each with its law in `WriteSays`; then stores, one behind the other, that the last law puts together.
+use borrow.Author.Needs.{needs}
+use borrow.Author.Tests.{not-true, not-false}
+use mathlib.Core.Path.{_≡_, sym, _∙_}
+use mathlib.Core.Bool.{true}
+use native.Mathlib.Omega.{arith}
+use lib.ListN.{length}
+use Rattle.transducer.specs.Format.{head-good}
+use Rattle.transducer.proofs.WriteSays.{In-range, in-range, Enough, says-3, says-4-states, says-4-weights, says-4-fields, says-4-arc-weights, says-content, says-10, says-all}
+use Rattle.transducer.proofs.entry.write.Statement.{statement}
+use Rattle.transducer.proofs.entry.write.Tie as tie
+
+-- The way back from a place to an earlier one.
+abbrev entry : tie.Else1 → tie.Start
+entry c = c .before .before .before .before .before .before .before
+
+abbrev first : tie.Else5 → tie.Else1
+first c = c .before .before .before .before
+
+abbrev fifth : tie.Else7 → tie.Else5
+fifth c = c .before .before .before
+
+abbrev seventh : tie.After-put-head → tie.Else7
+seventh c = c .before .before
+
+abbrev head-put : tie.After-put-finals → tie.After-put-head
+head-put c = c .before .before .before .before
+
+abbrev finals-put : tie.After-put-arcs → tie.After-put-finals
+finals-put c = c .before .before .before .before
+
+abbrev arcs-put : tie.After-clear8 → tie.After-put-arcs
+arcs-put c = c .before .before .before .before
+
+-- What the tests leave.
+head-is-good : (c : tie.Else1) → head-good (entry c .args .n) (entry c .args .m) (entry c .args .f) (entry c .args .start) ≡ true
+head-is-good c = sym (c .before .head-ok .ensures) ∙ not-false (c .before .head-ok .result) (c .if1 .left)
+
+range : (c : tie.Else1) → In-range (entry c .args .n) (entry c .args .m) (entry c .args .f) (entry c .args .start)
+range c = in-range _ _ _ _ (head-is-good c)
+
+enough : (c : tie.Else5) →
+    let x = entry (first c) .args in
+    Enough (x .f) (x .m) (length (x .final-states .now)) (length (x .final-weights .now)) (length (x .fields .now)) (length (x .arc-weights .now))
+enough c =
+    record {
+      states = c .before .before .before .if2 .left;
+      weights = c .before .before .if3 .left;
+      fields = c .before .if4 .left;
+      arc-weights = c .if5 .left;
+    }
+
+head-ok-requires : tie.Need-head-ok-requires
+head-ok-requires c κs = search needs
+
+returns : tie.Need-returns
+returns c = says-3 _ _ _ _ _ _ _ _ _ (sym (c .before .head-ok .ensures) ∙ not-true (c .before .head-ok .result) (c .if1 .taken))
+
+returns-2 : tie.Need-returns-2
+returns-2 c = says-4-states _ _ _ _ _ _ _ _ _ (head-is-good (c .before)) (c .if2 .taken)
+
+returns-3 : tie.Need-returns-3
+returns-3 c = says-4-weights _ _ _ _ _ _ _ _ _ (head-is-good (c .before .before)) (c .before .if2 .left) (c .if3 .taken)
+
+mul-if4 : tie.Need-mul-if4
+mul-if4 c = search needs
+
+returns-4 : tie.Need-returns-4
+returns-4 c =
+    says-4-fields _ _ _ _ _ _ _ _ _ (head-is-good (c .before .before .before)) (c .before .before .if2 .left) (c .before .if3 .left) (c .if4 .taken)
+
+returns-5 : tie.Need-returns-5
+returns-5 c =
+    says-4-arc-weights _ _ _ _ _ _ _ _ _ (head-is-good (c .before .before .before .before)) (c .before .before .before .if2 .left)
+    (c .before .before .if3 .left) (c .before .if4 .left) (c .if5 .taken)
+
+content-number-requires : tie.Need-content-number-requires
+content-number-requires c κs = search needs
+
+returns-6 : tie.Need-returns-6
+returns-6 c =
+    let here = c .before .before in
+    let tested = c .before .content-number in
+    says-content _ _ _ _ _ _ _ _ _ (head-is-good (first here)) (enough here) (tested .result) (tested .ensures (entry (first here) .args .start))
+    (c .if6 .taken)
+
+returns-7 : tie.Need-returns-7
+returns-7 c =
+    let here = c .before .before .before in
+    let tested = c .before .before .content-number in
+    says-10 _ _ _ _ _ _ _ _ _ (head-is-good (first here)) (enough here) (tested .result) (tested .ensures (entry (first here) .args .start))
+    (c .before .if6 .left) (c .if7 .taken)
+
+mul-first : tie.Need-mul-first
+mul-first c = search needs
+
+add-first : tie.Need-add-first
+add-first c = search needs
+
+mul-end : tie.Need-mul-end
+mul-end c = search needs
+
+add-end : tie.Need-add-end
+add-end c = search needs
+
+cast-put-head : tie.Need-cast-put-head
+cast-put-head c = omega (arith, range (first (fifth (c .before))))
+
+cast-put-head-2 : tie.Need-cast-put-head-2
+cast-put-head-2 c = omega (arith, range (first (fifth (c .before))))
+
+cast-put-head-3 : tie.Need-cast-put-head-3
+cast-put-head-3 c = omega (arith, range (first (fifth (c .before))))
+
+cast-put-head-4 : tie.Need-cast-put-head-4
+cast-put-head-4 c = omega (arith, range (first (fifth (c .before))))
+
+put-head-requires : tie.Need-put-head-requires
+put-head-requires c κs = search needs
+
+put-finals-requires : tie.Need-put-finals-requires
+put-finals-requires c κs =
+    let here = seventh (c .before .before .before) in
+    omega (arith, range (first (fifth here)), enough (fifth here), here .if7 .left)
+
+put-arcs-requires : tie.Need-put-arcs-requires
+put-arcs-requires c κs =
+    let here = seventh (head-put (c .before .before .before)) in
+    omega (arith, range (first (fifth here)), enough (fifth here), here .if7 .left)
+
+clear8-requires : tie.Need-clear8-requires
+clear8-requires c κs =
+    let here = seventh (head-put (finals-put (c .before .before .before))) in
+    omega (arith, range (first (fifth here)), here .if7 .left)
+
+cast-t32 : tie.Need-cast-t32
+cast-t32 c = omega (arith, range (first (fifth (seventh (head-put (finals-put (arcs-put (c .before .before))))))))
+
+same-length : tie.Need-same-length
+same-length c = search needs
+
+returns-8 : tie.Need-returns-8
+returns-8 c =
+    let cleared = c .before .before in
+    let arcs = arcs-put cleared in
+    let finals = finals-put arcs in
+    let head = head-put finals in
+    let here = seventh head in
+    let tested = here .before .before .content-number in
+    says-all _ _ _ _ _ _ _ _ _ (head-is-good (first (fifth here))) (enough (fifth here)) (tested .result)
+    (tested .ensures (entry (first (fifth here)) .args .start)) (here .before .if6 .left) (here .if7 .left) (head .put-head .ensures)
+    (finals .put-finals .ensures) (arcs .put-arcs .ensures) (cleared .clear8 .ensures)
+
+pub write-spec : {M : Type 1} → statement M
+write-spec =
+    tie.close
+    (tie.spec
+    head-ok-requires
+    returns
+    returns-2
+    returns-3
+    mul-if4
+    returns-4
+    returns-5
+    content-number-requires
+    returns-6
+    returns-7
+    mul-first
+    add-first
+    mul-end
+    add-end
+    cast-put-head
+    cast-put-head-2
+    cast-put-head-3
+    cast-put-head-4
+    put-head-requires
+    put-finals-requires
+    put-arcs-requires
+    clear8-requires
+    cast-t32
+    same-length
+    returns-8)

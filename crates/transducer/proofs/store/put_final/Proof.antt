@@ -1,0 +1,52 @@
+-- Four stores, each right behind the one before, make the record.
+use borrow.Author.Needs.{needs}
+use Rattle.transducer.proofs.Encode.{sets-final}
+use Rattle.transducer.proofs.store.put_final.Statement.{statement}
+use Rattle.transducer.proofs.store.put_final.Tie as tie
+
+put-u16-requires : tie.Need-put-u16-requires
+put-u16-requires c κs = search needs
+
+add-put-u16 : tie.Need-add-put-u16
+add-put-u16 c = search needs
+
+put-u16-requires-2 : tie.Need-put-u16-requires-2
+put-u16-requires-2 c κs = search needs
+
+add-put-u16-2 : tie.Need-add-put-u16-2
+add-put-u16-2 c = search needs
+
+put-u16-requires-3 : tie.Need-put-u16-requires-3
+put-u16-requires-3 c κs = search needs
+
+add-put-u32 : tie.Need-add-put-u32
+add-put-u32 c = search needs
+
+put-u32-requires : tie.Need-put-u32-requires
+put-u32-requires c κs = search needs
+
+same-length : tie.Need-same-length
+same-length c = search needs
+
+returns : tie.Need-returns
+returns c =
+    let c4 = c .before .before in
+    let c3 = c4 .before .before .before .before in
+    let c2 = c3 .before .before .before .before in
+    let c1 = c2 .before .before .before .before in
+    let x = c1 .before .before .before .args in
+    sets-final (x .out .now) (x .at) (x .f) (c1 .put-u16 .ensures) (c2 .put-u162 .ensures) (c3 .put-u163 .ensures) (c4 .put-u32 .ensures)
+
+pub put-final-spec : {M : Type 1} → statement M
+put-final-spec =
+    tie.close
+    (tie.spec
+    put-u16-requires
+    add-put-u16
+    put-u16-requires-2
+    add-put-u16-2
+    put-u16-requires-3
+    add-put-u32
+    put-u32-requires
+    same-length
+    returns)

@@ -1,0 +1,41 @@
+-- What the leaves answer: the first-arc index, and final weights by state. Assumes nothing: these are definitions.
+use mathlib.Core.Path.{_≡_}
+use mathlib.Core.Bool.{Bool, true, false, cond}
+use mathlib.Core.List.{List, [], _∷_}
+use Prim.Native.Nat.{ℕ, zero, suc, _+_, _*_, _≤_, _<_}
+use lib.Dec.{ltb}
+use lib.ListN.{length, getD}
+use Rattle.transducer.specs.declared.Arc.{Arc}
+use Rattle.transducer.specs.declared.Final.{Final}
+use Rattle.transducer.specs.declared.Header.{Header}
+use Rattle.transducer.specs.Format.{Transducer, decode, refusal, head-states, head-arcs, head-finals, head-start}
+use Rattle.transducer.specs.Path.{is-final, final-weight}
+
+-- The head's four numbers, as an answer that is no refusal.
+unfoldable pub header-of : List ℕ → Header
+header-of bs =
+    record { refusal = 0; states = head-states bs; arcs = head-arcs bs; finals = head-finals bs; start = head-start bs }
+
+-- Accepted bytes, and the place where the records of the arcs begin in them.
+pub record Opened (bs : List ℕ) (first : ℕ) : Type 0 where
+  pub accepted : refusal bs ≡ 0
+  pub first-is : first ≡ 12 + 10 * head-finals bs
+
+-- How many arcs leave states below s. Sources never fall, so the arcs of s are those numbered from here to below the same of s + 1.
+unfoldable pub arcs-below : (s : ℕ) → List Arc → ℕ
+arcs-below s [] = 0
+arcs-below s (a ∷ as') = cond (ltb (a .source) s) (suc (arcs-below s as')) (arcs-below s as')
+
+-- The first-arc index of a transducer: at each state up to and with n, the number of arcs below it.
+pub record Indexed (t : Transducer) (index : List ℕ) : Type 0 where
+  pub long : length index ≡ 1025
+  pub at-state : (s : ℕ) → s ≤ t .states → getD index s 0 ≡ arcs-below s (t .arcs)
+
+-- A state's final weight and one more; 0 where it is not final.
+unfoldable pub final-code : List Final → (s : ℕ) → ℕ
+final-code fs s = cond (is-final fs s) (final-weight fs s + 1) 0
+
+-- The final codes of the states by number.
+pub record Finals-by-state (t : Transducer) (codes : List ℕ) : Type 0 where
+  pub long : length codes ≡ 1024
+  pub at-state : (s : ℕ) → s < 1024 → getD codes s 0 ≡ final-code (t .finals) s

@@ -1,0 +1,216 @@
+// Refusals 5 to 8 gathered in one pass, over bytes and over runs of fields.
+ghost use mathlib.Core.Path.{_≡_};
+ghost use Prim.Native.Nat.{ℕ, _+_, _*_, _≤_, _<_};
+ghost use lib.ListN.{length};
+ghost use Rattle.wire.specs.Bytes.{four};
+ghost use Rattle.transducer.specs.Format.{weight-good, labels-good, head-good, final-at, arc-at, first-of};
+ghost use Rattle.transducer.specs.Check.{final-checked, arc-checked, finals-checked, arcs-checked, from-0, final-word, arc-word};
+ghost use Rattle.transducer.specs.Entry.{final-of, arc-of};
+use crate::Arc;
+use crate::Checks;
+use crate::Final;
+
+const MAX_WEIGHT: u32 = 1000000;
+
+const BARRED: u16 = 65535;
+
+pub const FINAL_WORD: u32 = 131078;
+
+pub const ARC_WORD: u32 = 196620;
+
+// Whether a weight is in range.
+pub fn weight_ok(weight: u32) -> bool
+    ensures { λ r. ⌜ r ≡ weight-good weight ⌝ }
+{
+    weight <= MAX_WEIGHT
+}
+
+// Whether an arc may bear these two labels.
+pub fn labels_ok(input: u16, output: u16) -> bool
+    ensures { λ r. ⌜ r ≡ labels-good input output ⌝ }
+{
+    (input < BARRED) & (output < BARRED)
+}
+
+// The tests with those of one more final whose record begins with `word`.
+pub fn check_final(c: Checks, n: u32, word: u32, f: Final) -> Checks
+    ensures { λ r. ⌜ r ≡ final-checked n word f c ⌝ }
+{
+    let state = f.state as u32;
+    Checks {
+        heads: c.heads & (word == FINAL_WORD),
+        states: c.states & (state < n),
+        order: c.order & (c.floor <= state),
+        labels: c.labels,
+        weights: c.weights & weight_ok(f.weight),
+        floor: state + 1,
+    }
+}
+
+// The tests with those of one more arc whose record begins with `word`.
+pub fn check_arc(c: Checks, n: u32, word: u32, a: Arc) -> Checks
+    ensures { λ r. ⌜ r ≡ arc-checked n word a c ⌝ }
+{
+    let source = a.source as u32;
+    let target = a.target as u32;
+    Checks {
+        heads: c.heads & (word == ARC_WORD),
+        states: c.states & ((source < n) & (target < n)),
+        order: c.order & (c.floor <= source),
+        labels: c.labels & labels_ok(a.input, a.output),
+        weights: c.weights & weight_ok(a.weight),
+        floor: source,
+    }
+}
+
+// The lowest of refusals 5 to 8 that the tests give, or 0.
+pub fn number(c: Checks) -> u32
+    ensures { λ r. ⌜ r ≡ first-of (c .states) (c .order) (c .labels) (c .weights) ⌝ }
+{
+    if !c.states {
+        return 5;
+    }
+    if !c.order {
+        return 6;
+    }
+    if !c.labels {
+        return 7;
+    }
+    if !c.weights {
+        return 8;
+    }
+    0
+}
+
+// Any state may come next again: between the finals and the arcs.
+pub fn restart(c: Checks) -> Checks
+    ensures { λ r. ⌜ r ≡ from-0 c ⌝ }
+{
+    Checks {
+        heads: c.heads,
+        states: c.states,
+        order: c.order,
+        labels: c.labels,
+        weights: c.weights,
+        floor: 0,
+    }
+}
+
+// The final whose record begins at `at`.
+pub fn load_final(bytes: &[u8], at: usize) -> Final
+    requires { ⌜ at + 10 ≤ length (now bytes) ⌝ }
+    ensures { λ r. ⌜ r ≡ final-at (now (bytes .entry)) at ⌝ }
+{
+    Final {
+        state: wire::u16_at(bytes, at + 4),
+        weight: wire::u32_at(bytes, at + 6),
+    }
+}
+
+// The arc whose record begins at `at`.
+pub fn load_arc(bytes: &[u8], at: usize) -> Arc
+    requires { ⌜ at + 16 ≤ length (now bytes) ⌝ }
+    ensures { λ r. ⌜ r ≡ arc-at (now (bytes .entry)) at ⌝ }
+{
+    Arc {
+        source: wire::u16_at(bytes, at + 4),
+        input: wire::u16_at(bytes, at + 6),
+        output: wire::u16_at(bytes, at + 8),
+        target: wire::u16_at(bytes, at + 10),
+        weight: wire::u32_at(bytes, at + 12),
+    }
+}
+
+// The tests of `count` finals whose records begin at `at`.
+pub fn check_finals(bytes: &[u8], at: usize, count: usize, n: u32, c: Checks) -> Checks
+    requires { ⌜ at + 10 * count ≤ length (now bytes) ⌝ }
+    ensures { λ r. ⌜ r ≡ finals-checked count at 10 n (four (now (bytes .entry))) (final-at (now (bytes .entry))) c ⌝ }
+{
+    let mut checks = c;
+    let mut place = at;
+    let mut i = 0;
+    while i < count {
+        checks = check_final(
+            checks,
+            n,
+            wire::u32_at(bytes, place),
+            load_final(bytes, place),
+        );
+        place += 10;
+        i += 1;
+    }
+    checks
+}
+
+// The tests of `count` arcs whose records begin at `at`.
+pub fn check_arcs(bytes: &[u8], at: usize, count: usize, n: u32, c: Checks) -> Checks
+    requires { ⌜ at + 16 * count ≤ length (now bytes) ⌝ }
+    ensures { λ r. ⌜ r ≡ arcs-checked count at 16 n (four (now (bytes .entry))) (arc-at (now (bytes .entry))) c ⌝ }
+{
+    let mut checks = c;
+    let mut place = at;
+    let mut i = 0;
+    while i < count {
+        checks = check_arc(
+            checks,
+            n,
+            wire::u32_at(bytes, place),
+            load_arc(bytes, place),
+        );
+        place += 16;
+        i += 1;
+    }
+    checks
+}
+
+// The tests of the first `count` finals in two runs.
+pub fn check_given_finals(
+    states: &[u16],
+    weights: &[u32],
+    count: usize,
+    n: u32,
+    c: Checks,
+) -> Checks
+    requires { ⌜ (count ≤ length (now states)) × (count ≤ length (now weights)) ⌝ }
+    ensures { λ r. ⌜ r ≡ finals-checked count 0 1 n (λ _. final-word) (final-of (now (states .entry)) (now (weights .entry))) c ⌝ }
+{
+    let mut checks = c;
+    let mut i = 0;
+    while i < count {
+        let f = Final {
+            state: states[i],
+            weight: weights[i],
+        };
+        checks = check_final(checks, n, FINAL_WORD, f);
+        i += 1;
+    }
+    checks
+}
+
+// The tests of the first `count` arcs in two runs, four fields to an arc in the first.
+pub fn check_given_arcs(fields: &[u16], weights: &[u32], count: usize, n: u32, c: Checks) -> Checks
+    requires { ⌜ (4 * count ≤ length (now fields)) × (count ≤ length (now weights)) ⌝ }
+    ensures { λ r. ⌜ r ≡ arcs-checked count 0 1 n (λ _. arc-word) (arc-of (now (fields .entry)) (now (weights .entry))) c ⌝ }
+{
+    let mut checks = c;
+    let mut i = 0;
+    while i < count {
+        checks = check_arc(checks, n, ARC_WORD, given_arc(fields, weights, i));
+        i += 1;
+    }
+    checks
+}
+
+// Arc `i` of two runs.
+pub fn given_arc(fields: &[u16], weights: &[u32], i: usize) -> Arc
+    requires { ⌜ (4 * i + 3 < length (now fields)) × (i < length (now weights)) ⌝ }
+    ensures { λ r. ⌜ r ≡ arc-of (now (fields .entry)) (now (weights .entry)) i ⌝ }
+{
+    Arc {
+        source: fields[4 * i],
+        input: fields[4 * i + 1],
+        output: fields[4 * i + 2],
+        target: fields[4 * i + 3],
+        weight: weights[i],
+    }
+}

@@ -1,0 +1,84 @@
+// Arcs and finals read straight from accepted bytes, and two indexes by state.
+ghost use mathlib.Core.Path.{_≡_};
+ghost use Prim.Native.Nat.{ℕ, _+_, _*_, _≤_, _<_, max};
+ghost use lib.ListN.{length};
+ghost use Rattle.transducer.specs.Format.{refusal, decode, head-finals};
+ghost use Rattle.transducer.specs.Path.{arc};
+ghost use Rattle.transducer.specs.Leaf.{header-of, Opened, Indexed, Finals-by-state};
+use crate::Arc;
+use crate::Header;
+use crate::check;
+
+// The head's four numbers.
+pub fn header(bytes: &[u8]) -> Header
+    requires { ⌜ 12 ≤ length (now bytes) ⌝ }
+    ensures { λ r. ⌜ r ≡ header-of (now (bytes .entry)) ⌝ }
+{
+    Header {
+        refusal: 0,
+        states: wire::u16_at(bytes, 4) as u32,
+        arcs: wire::u16_at(bytes, 6) as u32,
+        finals: wire::u16_at(bytes, 8) as u32,
+        start: wire::u16_at(bytes, 10) as u32,
+    }
+}
+
+// Arc `i` of accepted bytes, whose arcs begin at `first`.
+pub fn arc_of(bytes: &[u8], first: usize, i: usize) -> Arc
+    requires { ⌜ Opened (now bytes) first × (i < length (decode (now bytes) .arcs)) ⌝ }
+    ensures { λ r. ⌜ r ≡ arc (decode (now (bytes .entry))) i ⌝ }
+{
+    check::load_arc(bytes, first + 16 * i)
+}
+
+// The larger of two numbers.
+fn larger(a: u16, b: u16) -> u16
+    ensures { λ r. ⌜ r ≡ max a b ⌝ }
+{
+    if a < b {
+        return b;
+    }
+    a
+}
+
+// The first-arc index: at each state up to and with the number of states, how many arcs leave states below it.
+pub fn first_arcs(bytes: &[u8], first: usize, states: usize, arcs: usize) -> [u16; 1025]
+    requires { ⌜ Opened (now bytes) first × (states ≡ decode (now bytes) .states) × (arcs ≡ length (decode (now bytes) .arcs)) ⌝ }
+    ensures { λ r. ⌜ Indexed (decode (now (bytes .entry))) r ⌝ }
+{
+    let mut index = [0u16; 1025];
+    let mut i = 0;
+    let mut place = first + 4;
+    while i < arcs {
+        let source = wire::u16_at(bytes, place) as usize;
+        i += 1;
+        index[source + 1] = i as u16;
+        place += 16;
+    }
+    let mut s = 0;
+    let mut most = 0;
+    while s < states {
+        s += 1;
+        most = larger(most, index[s]);
+        index[s] = most;
+    }
+    index
+}
+
+// The final codes: a state's final weight and one more, 0 where it is not final.
+pub fn final_codes(bytes: &[u8], finals: usize) -> [u32; 1024]
+    requires { ⌜ (refusal (now bytes) ≡ 0) × (finals ≡ head-finals (now bytes)) ⌝ }
+    ensures { λ r. ⌜ Finals-by-state (decode (now (bytes .entry))) r ⌝ }
+{
+    let mut codes = [0u32; 1024];
+    let mut i = 0;
+    let mut place = 12;
+    while i < finals {
+        let f = check::load_final(bytes, place);
+        let state = f.state as usize;
+        codes[state] = f.weight + 1;
+        place += 10;
+        i += 1;
+    }
+    codes
+}

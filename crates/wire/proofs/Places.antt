@@ -1,0 +1,116 @@
+-- Laws of `places`, `every`, `sets` and `filled`. Assumes nothing.
+use mathlib.Core.Path.{_≡_, refl, sym, ap, _∙_}
+use mathlib.Core.Bool.{Bool, true, false, _&&_}
+use mathlib.Core.List.{List, [], _∷_, _++_, map, append-assoc, append-nil}
+use Prim.Native.Nat.{ℕ, zero, suc, _+_, _*_, _-_, _≤_, _<_}
+use native.Mathlib.Nat.{not-suc-le-zero, le-of-suc-le-suc, zero-add, add-zero, mul-suc, mul-zero, add-assoc, add-comm, add-suc, suc-add}
+use native.Mathlib.Numerals.{add-one}
+use native.Mathlib.Omega.{arith}
+use lib.ListN.{length, getD, set, take, drop, replicate, length-append, length-replicate, length-drop}
+use lib.Seq.{sets, take-at, length-sets}
+use Rattle.wire.specs.Bytes.{places, every, filled, cleared}
+
+-- places
+
+pub length-places : {A : Type 0} (k at s : ℕ) (f : ℕ → A) → length (places k at s f) ≡ k
+unfolding places
+length-places zero at s f = refl
+length-places (suc k) at s f = ap suc (length-places k (at + s) s f)
+
+pub getD-places : {A : Type 0} (k at s : ℕ) (f : ℕ → A) (i : ℕ) (d : A) → i < k → getD (places k at s f) i d ≡ f (at + s * i)
+unfolding places
+getD-places zero at s f i d h = absurd (not-suc-le-zero h)
+getD-places (suc k) at s f zero d h = ap f (sym (ap (λ (n : ℕ). at + n) (mul-zero s) ∙ add-zero at))
+getD-places (suc k) at s f (suc i) d h =
+    let e : at + s + s * i ≡ at + s * suc i = omega (arith, mul-suc s i) in
+    getD-places k (at + s) s f i d (le-of-suc-le-suc h) ∙ ap f e
+
+pub map-places : {A B : Type 0} (g : A → B) (k at s : ℕ) (f : ℕ → A) → map g (places k at s f) ≡ places k at s (λ p. g (f p))
+unfolding places
+map-places g zero at s f = refl
+map-places g (suc k) at s f = ap (λ (l : List _). g (f at) ∷ l) (map-places g k (at + s) s f)
+
+-- One more place at the end.
+pub places-snoc : {A : Type 0} (k at s : ℕ) (f : ℕ → A) → places (suc k) at s f ≡ places k at s f ++ (f (at + s * k) ∷ [])
+unfolding places
+places-snoc zero at s f = ap (λ (n : ℕ). f n ∷ []) (sym (ap (λ (n : ℕ). at + n) (mul-zero s) ∙ add-zero at))
+places-snoc (suc k) at s f =
+    let e : at + s + s * k ≡ at + s * suc k = omega (arith, mul-suc s k) in
+    ap (λ (l : List _). f at ∷ l) (places-snoc k (at + s) s f ∙ ap (λ (n : ℕ). places k (at + s) s f ++ (f n ∷ [])) e)
+
+pub take-places : {A : Type 0} (i k at s : ℕ) (f : ℕ → A) → i ≤ k → take i (places k at s f) ≡ places i at s f
+unfolding places
+take-places zero k at s f h = refl
+take-places (suc i) zero at s f h = absurd (not-suc-le-zero h)
+take-places (suc i) (suc k) at s f h = ap (λ (l : List _). f at ∷ l) (take-places i k (at + s) s f (le-of-suc-le-suc h))
+
+-- Two functions that agree at each place make the same list.
+pub places-same : {A : Type 0} (k at s : ℕ) (f g : ℕ → A) → ((i : ℕ) → i < k → f (at + s * i) ≡ g (at + s * i)) → places k at s f ≡ places k at s g
+unfolding places
+places-same zero at s f g h = refl
+places-same (suc k) at s f g h =
+    let e : at + s * 0 ≡ at = omega (arith, mul-zero s) in
+    let first : f at ≡ g at = rw e at (h 0 (omega arith)) in
+    let more : (i : ℕ) → i < k → f (at + s + s * i) ≡ g (at + s + s * i) =
+    λ i l. let e2 : at + s * suc i ≡ at + s + s * i = omega (arith, mul-suc s i) in rw e2 at (h (suc i) (omega arith)) in
+    rw (first, places-same k (at + s) s f g more)
+
+-- every
+
+pub and-true : (a b : Bool) → a && b ≡ true → (a ≡ true) × (b ≡ true)
+and-true true b h = (refl, h)
+and-true false b h = let z : _≡_ {A = ℕ} 0 1 = cc in absurd (omega arith)
+
+pub true-and : (a b : Bool) → a ≡ true → b ≡ true → a && b ≡ true
+true-and a b p q = rw (p, q)
+
+pub and-assoc : (a b c : Bool) → (a && b) && c ≡ a && (b && c)
+and-assoc true b c = refl
+and-assoc false b c = refl
+
+pub every-append : {A : Type 0} (t : A → Bool) (xs ys : List A) → every t (xs ++ ys) ≡ every t xs && every t ys
+unfolding every
+every-append t [] ys = refl
+every-append t (x ∷ xs) ys = rw (every-append t xs ys, and-assoc)
+
+-- A test that holds of each element holds at each place.
+pub every-getD : {A : Type 0} (t : A → Bool) (xs : List A) (i : ℕ) (d : A) → every t xs ≡ true → i < length xs → t (getD xs i d) ≡ true
+unfolding every
+every-getD t [] i d h l = absurd (not-suc-le-zero l)
+every-getD t (x ∷ xs) zero d h l = and-true (t x) (every t xs) h .0
+every-getD t (x ∷ xs) (suc i) d h l = every-getD t xs i d (and-true (t x) (every t xs) h .1) (le-of-suc-le-suc l)
+
+-- And the other way round.
+pub getD-every : {A : Type 0} (t : A → Bool) (xs : List A) (d : A) → ((i : ℕ) → i < length xs → t (getD xs i d) ≡ true) → every t xs ≡ true
+unfolding every
+getD-every t [] d h = refl
+getD-every t (x ∷ xs) d h = true-and (t x) (every t xs) (h 0 (omega arith)) (getD-every t xs d (λ i l. h (suc i) (omega arith)))
+
+pub every-map : {A B : Type 0} (t : B → Bool) (g : A → B) (xs : List A) → every t (map g xs) ≡ every (λ x. t (g x)) xs
+unfolding every
+every-map t g [] = refl
+every-map t g (x ∷ xs) = ap (λ (b : Bool). t (g x) && b) (every-map t g xs)
+
+-- sets
+
+pub sets-append : (l : List ℕ) (i : ℕ) (xs ys : List ℕ) → sets l i (xs ++ ys) ≡ sets (sets l i xs) (i + length xs) ys
+sets-append l i [] ys = ap (λ (k : ℕ). sets l k ys) (sym (add-zero i))
+sets-append l i (x ∷ xs) ys =
+    let e : suc i + length xs ≡ i + suc (length xs) = omega arith in
+    sets-append (set l i x) (suc i) xs ys ∙ ap (λ (k : ℕ). sets (sets (set l i x) (suc i) xs) k ys) e
+
+-- filled
+
+pub length-filled : (room : ℕ) (xs : List ℕ) → length xs ≤ room → length (filled room xs) ≡ room
+unfolding filled
+length-filled room xs h = simp (length-append, length-replicate) (omega arith)
+
+-- What is written at the front, then cleared behind.
+pub cleared-append : (k : ℕ) (xs ys : List ℕ) → length xs ≡ k → cleared k (xs ++ ys) ≡ filled (length (xs ++ ys)) xs
+unfolding filled cleared
+cleared-append k xs ys e = rw (take-at xs ys k e, e)
+
+pub cleared-front : (k : ℕ) (xs out : List ℕ) → length xs ≡ k → k ≤ length out → cleared k (xs ++ drop k out) ≡ filled (length out) xs
+cleared-front k xs out e h =
+    let long : length (xs ++ drop k out) ≡ length out = length-append xs (drop k out) ∙ (simp length-drop (omega arith)) in
+    cleared-append k xs (drop k out) e ∙ ap (λ (n : ℕ). filled n xs) long

@@ -1,0 +1,88 @@
+use borrow.Author.Needs.{needs}
+use mathlib.Core.Path.{_≡_}
+use Prim.Native.Nat.{_/_, _%_}
+use native.Mathlib.Nat.{mod-eq-of-lt, div-div-eq-div-mul}
+use native.Mathlib.Numerals.{add-one, add-two, add-three}
+use native.Mathlib.Omega.{arith}
+use lib.ListN.{length-set}
+use Rattle.wire.specs.Bytes.{low}
+use Rattle.wire.proofs.put_u32.Statement.{statement}
+use Rattle.wire.proofs.put_u32.Tie as tie
+use Rattle.wire.proofs.put_u32.Reads as reads
+use Rattle.wire.proofs.put_u32.Lts as lts
+
+-- src/lib.rt:50:15
+cast-out : tie.Need-cast-out
+cast-out c = search needs
+
+-- src/lib.rt:50:5
+slice-write-out : tie.Need-slice-write-out
+slice-write-out c = search needs
+
+-- src/lib.rt:51:19
+cast-out-2 : tie.Need-cast-out-2
+cast-out-2 c = search needs
+
+-- src/lib.rt:51:9
+add-out : tie.Need-add-out
+add-out c = search needs
+
+-- src/lib.rt:51:5
+slice-write-out-2 : tie.Need-slice-write-out-2
+slice-write-out-2 c = simp length-set (omega arith)
+
+-- src/lib.rt:52:19
+cast-out-3 : tie.Need-cast-out-3
+cast-out-3 c = search needs
+
+-- src/lib.rt:52:9
+add-out-2 : tie.Need-add-out-2
+add-out-2 c = search needs
+
+-- src/lib.rt:52:5
+slice-write-out-3 : tie.Need-slice-write-out-3
+slice-write-out-3 c = simp length-set (omega arith)
+
+-- src/lib.rt:53:19
+cast-out-4 : tie.Need-cast-out-4
+cast-out-4 c = search needs
+
+-- src/lib.rt:53:9
+add-out-3 : tie.Need-add-out-3
+add-out-3 c = search needs
+
+-- src/lib.rt:53:5
+slice-write-out-4 : tie.Need-slice-write-out-4
+slice-write-out-4 c = simp length-set (omega arith)
+
+-- src/lib.rt:46:1
+same-length : tie.Need-same-length
+same-length c = simp length-set
+
+-- src/lib.rt:46:1
+returns : tie.Need-returns
+unfolding low
+returns c =
+    let v = c .args .value in
+    let b2 : v / 256 / 256 ≡ v / 65536 = div-div-eq-div-mul v 256 256 in
+    let b3 : v / 65536 / 256 ≡ v / 16777216 = div-div-eq-div-mul v 65536 256 in
+    let high : v / 16777216 % 256 ≡ v / 16777216 = mod-eq-of-lt (omega (arith, c .fits .value)) in
+    rw (b2, b3, high, add-one, add-two, add-three)
+
+pub put-u32-spec : {M : Type 1} → statement M
+put-u32-spec =
+    tie.close
+    (tie.spec
+    cast-out
+    slice-write-out
+    cast-out-2
+    add-out
+    slice-write-out-2
+    cast-out-3
+    add-out-2
+    slice-write-out-3
+    cast-out-4
+    add-out-3
+    slice-write-out-4
+    same-length
+    returns)

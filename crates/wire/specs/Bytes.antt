@@ -1,0 +1,40 @@
+-- Little-endian numbers in a list of bytes, lists made place by place, and what lies behind the written part of a buffer.
+-- Assumes nothing: these are definitions.
+use mathlib.Core.Bool.{Bool, true, false, _&&_}
+use mathlib.Core.List.{List, [], _∷_, _++_}
+use Prim.Native.Nat.{ℕ, zero, suc, _+_, _*_, _-_, _/_, _%_, _<_}
+use lib.ListN.{length, getD, take, replicate}
+
+-- Each element is a byte. Of a slice of bytes this always holds.
+abbrev pub Bytes : List ℕ → Type 0
+Bytes bs = (i : ℕ) → getD bs i 0 < 256
+
+-- The number in two and in four bytes from a place, the least byte first. A byte past the end counts as 0.
+unfoldable pub two : List ℕ → (at : ℕ) → ℕ
+two bs at = getD bs at 0 + 256 * getD bs (at + 1) 0
+
+unfoldable pub four : List ℕ → (at : ℕ) → ℕ
+four bs at = two bs at + 65536 * two bs (at + 2)
+
+-- The lowest n bytes of a number, the least first.
+unfoldable pub low : (n v : ℕ) → List ℕ
+low zero v = []
+low (suc n) v = (v % 256) ∷ low n (v / 256)
+
+-- A list made from `count` places, the first at `at`, each `step` past the one before.
+unfoldable pub places : {A : Type 0} → (count at step : ℕ) → (ℕ → A) → List A
+places zero at step f = []
+places (suc count) at step f = f at ∷ places count (at + step) step f
+
+-- Whether a test holds of each element.
+unfoldable pub every : {A : Type 0} → (A → Bool) → List A → Bool
+every t [] = true
+every t (x ∷ xs) = t x && every t xs
+
+-- What is written from the front, with zeros behind it to the end of what was lent.
+unfoldable pub filled : (room : ℕ) → List ℕ → List ℕ
+filled room xs = xs ++ replicate (room - length xs) 0
+
+-- A buffer with zeros from a place on.
+unfoldable pub cleared : (from : ℕ) → List ℕ → List ℕ
+cleared from xs = take from xs ++ replicate (length xs - from) 0

@@ -1,0 +1,130 @@
+"""The limit cases of composition (paper 01: the join), with the refusal of each written out by hand."""
+import struct
+import sys
+
+from model import ARCS, STATES, composed, encode
+from rows import EXACT, ORIGINS_SHORT, SMALLEST, TABLE_SHORT, TRIPLES_SHORT, compose_row, sound
+
+# Paper 01's last case: left and right, what is written, and the origins.
+LAST_LEFT = sound(n=3, start=0, finals=((2, 0),), arcs=((0, 1, 2, 1, 3), (1, 3, 0, 2, 1)))
+LAST_RIGHT = sound(n=3, start=0, finals=((2, 1),), arcs=((0, 2, 4, 1, 2), (1, 0, 5, 2, 4)))
+LAST_BYTES = """
+    08 00 01 00  05 00 04 00 01 00 00 00
+    06 00 02 00  04 00 01 00 00 00
+    0c 00 03 00  00 00 01 00 04 00 01 00 05 00 00 00
+    0c 00 03 00  01 00 03 00 00 00 02 00 01 00 00 00
+    0c 00 03 00  01 00 00 00 05 00 03 00 04 00 00 00
+    0c 00 03 00  02 00 00 00 05 00 04 00 04 00 00 00
+"""
+LAST_ORIGINS = "00 00 00 00  01 00 ff ff  ff ff 01 00  ff ff 01 00"
+
+
+def loops(state, arcs):
+    """Arcs of a state onto itself: how many, input, output, weight."""
+    return [(state, i, o, state, w) for count, i, o, w in arcs for _ in range(count)]
+
+
+def one_state(*arcs, weight=0):
+    return sound(n=1, start=0, finals=((0, weight),), arcs=loops(0, arcs))
+
+
+def line(n, first=(), last=()):
+    """A line of n states with arcs 1:0, the last one final; its first and its last state may have loops."""
+    arcs = loops(0, first) + [(s, 1, 0, s + 1, 0) for s in range(n - 1)] + loops(n - 1, last)
+    return sound(n=n, start=0, finals=((n - 1, 0),), arcs=arcs)
+
+
+REST = one_state((1, 0, 7, 0))
+
+
+def last_row():
+    t, origins = composed(LAST_LEFT, LAST_RIGHT)
+    if encode(t) != bytes.fromhex(LAST_BYTES) or struct.pack("<8H", *origins) != bytes.fromhex(LAST_ORIGINS):
+        sys.exit("paper 01's last case: the model composes something else than is written here")
+    return compose_row(0, "paper 01's last case", LAST_LEFT, LAST_RIGHT, built=(5, 4, 1))
+
+
+def compose_rows():
+    c = compose_row
+    yield c(0, "the smallest transducer with itself", SMALLEST, SMALLEST)
+    yield last_row()
+    yield c(0, "a sound transducer with itself", sound(), sound())
+    yield from filter_rows()
+    yield from size_rows()
+    yield from weight_rows()
+    yield from order_rows()
+    yield from room_rows()
+
+
+# The filter state, the order of steps, and numbers given once.
+def filter_rows():
+    c = compose_row
+    left = sound(n=3, start=0, finals=((2, 0),), arcs=((0, 1, 2, 1, 0), (1, 3, 0, 2, 0)))
+    right = sound(n=3, start=0, finals=((2, 0),), arcs=((0, 0, 5, 1, 0), (1, 2, 4, 2, 0)))
+    yield c(0, "a left step after a right one and one of both", left, right)
+    yield c(0, "both sides may rest", one_state((1, 1, 0, 2)), one_state((1, 0, 7, 3)))
+    arcs = ((0, 1, 0, 1, 1), (0, 2, 8, 0, 2), (0, 3, 0, 0, 3), (0, 4, 9, 1, 4), (0, 5, 8, 1, 5))
+    more = ((0, 8, 1, 1, 10), (0, 0, 2, 0, 20), (0, 9, 3, 0, 30), (0, 8, 4, 0, 40), (0, 0, 5, 1, 50))
+    left, right = sound(n=2, start=0, finals=((1, 7),), arcs=arcs), sound(n=2, start=0, finals=((1, 9),), arcs=more)
+    yield c(0, "left and both in the order of left arcs, right behind them", left, right)
+    rings = [sound(n=n, start=0, finals=((0, 0),), arcs=[(s, 1, 1, (s + 1) % n, s) for s in range(n)]) for n in (4, 6)]
+    yield c(0, "rings of 4 and 6 states", *rings)
+    yield c(0, "nothing fits and nothing is final", one_state((3, 1, 2, 0)), sound(n=1, start=0, finals=(), arcs=((0, 3, 4, 0, 0),)))
+
+
+# 11 and 12, and the last sizes below them.
+def size_rows():
+    c = compose_row
+    ring = sound(n=STATES, start=0, finals=[(s, s) for s in range(STATES)], arcs=[(i // 3, 1, 2, (i + 1) % STATES, i) for i in range(ARCS)])
+    aside = sound(n=2, start=0, finals=((0, 0),), arcs=((0, 0, 7, 0, 0), (0, 2, 3, 1, 0)))
+    yield c(0, "a line of 512 states, and one that rests", line(512), REST, built=(1024, 1535, 2))
+    yield c(11, "a line of 513 states, and one that rests", line(513), REST)
+    yield c(11, "1025 states", line(512, last=[(1, 1, 2, 0)]), aside)
+    yield c(0, "48 loops, and 64", one_state((48, 1, 2, 0)), one_state((64, 2, 3, 0)), built=(1, 3072, 1))
+    yield c(12, "56 loops, and 55", one_state((56, 1, 2, 0)), one_state((55, 2, 3, 0)))
+    yield c(12, "3073 arcs", one_state((48, 1, 2, 0), (1, 4, 5, 0)), one_state((64, 2, 3, 0), (1, 5, 6, 0)))
+    yield c(0, "1024 states, 3072 arcs, each state final", ring, one_state((1, 2, 3, 4), weight=5), EXACT, built=(1024, 3072, 1024))
+
+
+# 13, and the last weights below it.
+def weight_rows():
+    c = compose_row
+    yield c(0, "an arc of 600000 + 400000", one_state((1, 1, 2, 600000)), one_state((1, 2, 3, 400000)))
+    yield c(13, "an arc of 600000 + 400001", one_state((1, 1, 2, 600000)), one_state((1, 2, 3, 400001)))
+    yield c(0, "a final weight of 600000 + 400000", one_state(weight=600000), one_state(weight=400000))
+    yield c(13, "a final weight of 600000 + 400001", one_state(weight=600000), one_state(weight=400001))
+    yield c(0, "arcs of 1000000 alone", one_state((1, 1, 0, 1000000)), one_state((1, 0, 7, 1000000)))
+    left = sound(n=2, start=0, finals=((0, 0),), arcs=((0, 1, 2, 1, 600000),))
+    right = sound(n=2, start=0, finals=((0, 0),), arcs=((0, 2, 3, 1, 400001),))
+    yield c(13, "a dear arc on no accepting path", left, right)
+    apart = sound(n=2, start=0, finals=((0, 0), (1, 1000000)), arcs=((1, 1, 2, 1, 1000000),))
+    yield c(0, "a dear arc and a dear final that are not reached", apart, one_state((1, 2, 3, 1), weight=1))
+
+
+# Two or more of 11 to 13 hold, and the lower number wins wherever it is met first.
+def order_rows():
+    c = compose_row
+    dear, rest = ((1, 1, 2, 600000), (1, 2, 3, 400001)), (1, 0, 7, 0)
+    yield c(11, "12 met before 11", line(513, first=[(56, 1, 4, 0)]), one_state((55, 4, 3, 0), rest), also=[12])
+    yield c(11, "13 met before 11", line(513, first=[dear[0]]), one_state(dear[1], rest), also=[13])
+    yield c(11, "12 and 13 met before 11", line(513, first=[(56, 1, 2, 600000)]), one_state((55, 2, 3, 400001), rest), also=[12, 13])
+    yield c(12, "13 met before 12", one_state(dear[0], (56, 1, 4, 0)), one_state(dear[1], (55, 4, 3, 0)), also=[13])
+    yield c(12, "13 met behind 12", one_state((56, 1, 4, 0), dear[0]), one_state((55, 4, 3, 0), dear[1]), also=[13])
+    yield c(12, "12 with a dear final", one_state((56, 1, 2, 0), weight=600000), one_state((55, 2, 3, 0), weight=400001), also=[13])
+
+
+# The left one's 1 to 8, the right one's, 10 with nothing touched, then 11.
+def room_rows():
+    c = compose_row
+    dear = sound(arcs=((0, 1, 2, 1, 1000001),))
+    yield c(2, "0 bytes on either side", b"", b"")
+    yield c(8, "8 on the left before 1 on the right", dear, SMALLEST[:-1], also=[1])
+    yield c(1, "1 on the left before 8 on the right", SMALLEST[:-1], dear, also=[8])
+    yield c(1, "1 on the right", sound(), SMALLEST[:-1])
+    yield c(5, "5 on the right", sound(), sound(arcs=((0, 1, 2, 4, 3),)))
+    yield c(8, "8 on the right before 10", sound(), dear, room=TRIPLES_SHORT, also=[10])
+    yield c(10, "bytes one short", LAST_LEFT, LAST_RIGHT, room=TABLE_SHORT)
+    yield c(10, "origins one short", LAST_LEFT, LAST_RIGHT, room=ORIGINS_SHORT)
+    yield c(10, "states one short", LAST_LEFT, LAST_RIGHT, room=TRIPLES_SHORT)
+    yield c(10, "10 before 11", line(513), REST, room=TABLE_SHORT, also=[11])
+    yield c(0, "each buffer at its least length", LAST_LEFT, LAST_RIGHT, room=EXACT)
