@@ -2,8 +2,7 @@
 use mathlib.Core.Path.{_≡_, refl, sym, ap, ap₂, _∙_}
 use mathlib.Core.Bool.{true}
 use mathlib.Core.List.{List, [], _∷_}
-use Prim.Native.Nat.{ℕ, _+_, _<_}
-use native.Mathlib.Omega.{arith}
+use Prim.Native.Nat.{ℕ, _<_}
 use lib.ListN.{length}
 use Rattle.transducer.specs.Format.{Transducer}
 use Rattle.transducer.specs.Path.{arc, runs, ends, non-empty, read-by, written-by, arcs-cost}
@@ -11,8 +10,10 @@ use Rattle.explore.specs.Explore.{Step}
 use Rattle.compose.specs.declared.Origin.{Origin}
 use Rattle.compose.specs.declared.State.{State}
 use Rattle.compose.specs.Compose.{left-alone, right-alone, both-step, steps}
+use Rattle.transducer.specs.Weight.{plus}
 use Rattle.transducer.proofs.Fits.{passed-output}
 use Rattle.transducer.proofs.Paths.{cons-runs, empty-passed}
+use Rattle.transducer.proofs.Weights.{plus-assoc, plus-behind, plus-across}
 use Rattle.explore.proofs.Member.{mem-in}
 use Rattle.explore.proofs.Trails.{Trail, inputs, outputs, weights}
 use Rattle.compose.proofs.Trail.{add-left, add-right, lefts, rights}
@@ -26,7 +27,7 @@ pub record Leads (t u : Transducer) (x : State) (ss : List (Step State Origin)) 
   pub meets : written-by t (lefts ss) ≡ read-by u (rights ss)
   pub reads : inputs ss ≡ read-by t (lefts ss)
   pub writes : outputs ss ≡ written-by u (rights ss)
-  pub costs : weights ss ≡ arcs-cost t (lefts ss) + arcs-cost u (rights ss)
+  pub costs : weights ss ≡ plus (arcs-cost t (lefts ss)) (arcs-cost u (rights ss))
 
 leads-none : (t u : Transducer) (x y : State) → x ≡ y → Leads t u x [] y
 unfolding runs ends written-by read-by arcs-cost inputs outputs weights lefts rights
@@ -46,7 +47,6 @@ leads-left : (t u : Transducer) (x : State) (i : ℕ) (ss : List (Step State Ori
     → arc t i .output ≡ 0 → Leads t u (left-alone x i (arc t i) .target) ss y → Leads t u x (left-alone x i (arc t i) ∷ ss) y
 unfolding left-alone ends written-by read-by arcs-cost inputs outputs weights lefts rights add-left add-right
 leads-left t u x i ss y below leaves silent l =
-    let c : weights ss ≡ arcs-cost t (lefts ss) + arcs-cost u (rights ss) = l .costs in
     record {
       left-runs = cons-runs t (x .left) i (lefts ss) (record { below = below; leaves = leaves; rest = l .left-runs });
       left-ends = l .left-ends;
@@ -55,14 +55,13 @@ leads-left t u x i ss y below leaves silent l =
       meets = empty-passed (arc t i .output) (written-by t (lefts ss)) silent ∙ l .meets;
       reads = ap (non-empty (arc t i .input)) (l .reads);
       writes = empty-passed 0 (outputs ss) refl ∙ l .writes;
-      costs = omega arith;
+      costs = ap (plus (arc t i .weight)) (l .costs) ∙ sym (plus-assoc (arc t i .weight) (arcs-cost t (lefts ss)) (arcs-cost u (rights ss)));
     }
 
 leads-right : (t u : Transducer) (x : State) (j : ℕ) (ss : List (Step State Origin)) (y : State) → j < length (u .arcs) → arc u j .source ≡ x .right
     → arc u j .input ≡ 0 → Leads t u (right-alone x j (arc u j) .target) ss y → Leads t u x (right-alone x j (arc u j) ∷ ss) y
 unfolding right-alone ends written-by read-by arcs-cost inputs outputs weights lefts rights add-left add-right
 leads-right t u x j ss y below leaves quiet l =
-    let c : weights ss ≡ arcs-cost t (lefts ss) + arcs-cost u (rights ss) = l .costs in
     record {
       left-runs = l .left-runs;
       left-ends = l .left-ends;
@@ -71,7 +70,7 @@ leads-right t u x j ss y below leaves quiet l =
       meets = l .meets ∙ sym (empty-passed (arc u j .input) (read-by u (rights ss)) quiet);
       reads = empty-passed 0 (inputs ss) refl ∙ l .reads;
       writes = ap (non-empty (arc u j .output)) (l .writes);
-      costs = omega arith;
+      costs = ap (plus (arc u j .weight)) (l .costs) ∙ plus-behind (arc u j .weight) (arcs-cost t (lefts ss)) (arcs-cost u (rights ss));
     }
 
 leads-both : (t u : Transducer) (x : State) (i j : ℕ) (ss : List (Step State Origin)) (y : State) → i < length (t .arcs) → j < length (u .arcs)
@@ -79,7 +78,6 @@ leads-both : (t u : Transducer) (x : State) (i j : ℕ) (ss : List (Step State O
     → Leads t u (both-step i (arc t i) j (arc u j) .target) ss y → Leads t u x (both-step i (arc t i) j (arc u j) ∷ ss) y
 unfolding both-step ends written-by read-by arcs-cost inputs outputs weights lefts rights add-left add-right
 leads-both t u x i j ss y i-below j-below i-leaves j-leaves same l =
-    let c : weights ss ≡ arcs-cost t (lefts ss) + arcs-cost u (rights ss) = l .costs in
     record {
       left-runs = cons-runs t (x .left) i (lefts ss) (record { below = i-below; leaves = i-leaves; rest = l .left-runs });
       left-ends = l .left-ends;
@@ -88,7 +86,9 @@ leads-both t u x i j ss y i-below j-below i-leaves j-leaves same l =
       meets = ap₂ non-empty (sym same) (l .meets);
       reads = ap (non-empty (arc t i .input)) (l .reads);
       writes = ap₂ non-empty (passed-output (arc t i .output) (arc u j)) (l .writes);
-      costs = omega arith;
+      costs =
+          ap (plus (plus (arc t i .weight) (arc u j .weight))) (l .costs)
+          ∙ plus-across (arc t i .weight) (arc u j .weight) (arcs-cost t (lefts ss)) (arcs-cost u (rights ss));
     }
 
 leads-step : (t u : Transducer) (x : State) (s : Step State Origin) (ss : List (Step State Origin)) (y : State) → Move t u x s

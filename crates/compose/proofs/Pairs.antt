@@ -1,12 +1,13 @@
 -- The accepting trails of composed steps and the pairs of accepting paths: each trail leads to a pair, and every pair has one. Assumes nothing.
-use mathlib.Core.Path.{_≡_, sym, ap, _∙_}
+use mathlib.Core.Path.{_≡_, sym, ap, ap₂, _∙_}
 use mathlib.Core.Bool.{true, _&&_}
 use mathlib.Core.List.{List}
-use Prim.Native.Nat.{ℕ, _+_}
-use native.Mathlib.Omega.{arith}
+use Prim.Native.Nat.{ℕ}
 use Rattle.wire.proofs.Places.{and-true, true-and}
 use Rattle.transducer.specs.Format.{Transducer}
 use Rattle.transducer.specs.Path.{is-final, final-weight, runs, ends, accepts, arcs-cost, path-cost}
+use Rattle.transducer.specs.Weight.{plus}
+use Rattle.transducer.proofs.Weights.{plus-across}
 use Rattle.explore.specs.Explore.{Step}
 use Rattle.explore.proofs.Trails.{weights}
 use Rattle.explore.proofs.Accepting.{Accepting}
@@ -47,7 +48,7 @@ accepted-pair t u ss y a =
     }
 
 pub accepted-cost : (t u : Transducer) (ss : List (Step State Origin)) (y : State) → Accepted t u ss y
-    → weights ss + state-weight t u y ≡ path-cost t (lefts ss) + path-cost u (rights ss)
+    → plus (weights ss) (state-weight t u y) ≡ plus (path-cost t (lefts ss)) (path-cost u (rights ss))
 unfolding first-state state-weight path-cost
 accepted-cost t u ss y a =
     let l : Leads t u (first-state t u) ss y = accepted-leads t u ss y a in
@@ -55,8 +56,9 @@ accepted-cost t u ss y a =
     ap (final-weight (t .finals)) (l .left-ends) in
     let right : final-weight (u .finals) (ends u (u .start) (rights ss)) ≡ final-weight (u .finals) (y .right) =
     ap (final-weight (u .finals)) (l .right-ends) in
-    let both : weights ss ≡ arcs-cost t (lefts ss) + arcs-cost u (rights ss) = l .costs in
-    omega arith
+    ap₂ plus (l .costs) (ap₂ plus (sym left) (sym right))
+    ∙ plus-across (arcs-cost t (lefts ss)) (arcs-cost u (rights ss)) (final-weight (t .finals) (ends t (t .start) (lefts ss)))
+    (final-weight (u .finals) (ends u (u .start) (rights ss)))
 
 -- The trail of a pair.
 pub record Pair-trail (t u : Transducer) (x y : List ℕ) : Type 0 where

@@ -9,6 +9,7 @@ use lib.Dec.{eqb}
 use lib.ListN.{getD}
 use Rattle.transducer.specs.Format.{Transducer, barred}
 use Rattle.transducer.specs.Path.{accepts, read-by, written-by, path-cost}
+use Rattle.transducer.specs.Weight.{plus}
 
 -- The arc numbers met, 65,535 being passed over.
 unfoldable pub led : List ℕ → List ℕ
@@ -30,7 +31,7 @@ pub record Stands-for (t u z : Transducer) (path left right : List ℕ) : Type 0
   pub pair : Pair t u left right
   pub reads : read-by z path ≡ read-by t left
   pub writes : written-by z path ≡ written-by u right
-  pub costs : path-cost z path ≡ path-cost t left + path-cost u right
+  pub costs : path-cost z path ≡ plus (path-cost t left) (path-cost u right)
 
 -- Each accepting path leads to a pair that it stands for, never two to the same pair, and to every pair some path.
 pub record One-to-one (t u z : Transducer) (origins : List ℕ) : Type 0 where
@@ -68,4 +69,4 @@ unfoldable pub Least-sums : (t u z : Transducer) → Type 0
 Least-sums t u z =
     (input output : List ℕ) (c : ℕ)
     → Least (List ℕ) (Path-between z input output) (path-cost z) c
-    ↔ Least Two-paths (Pair-between t u input output) (λ paths. path-cost t (paths .left) + path-cost u (paths .right)) c
+    ↔ Least Two-paths (Pair-between t u input output) (λ paths. plus (path-cost t (paths .left)) (path-cost u (paths .right))) c

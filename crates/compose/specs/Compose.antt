@@ -1,11 +1,12 @@
 -- Composition with the epsilon-sequencing filter (paper 01: the join). Assumes nothing: these are definitions.
 use mathlib.Core.Bool.{Bool, true, false, _&&_, cond}
 use mathlib.Core.List.{List, [], _∷_, _++_}
-use Prim.Native.Nat.{ℕ, zero, suc, _+_}
+use Prim.Native.Nat.{ℕ, zero, suc}
 use lib.Dec.{eqb}
 use Rattle.transducer.specs.declared.Arc.{Arc}
 use Rattle.transducer.specs.Format.{Transducer, barred}
 use Rattle.transducer.specs.Path.{is-final, final-weight}
+use Rattle.transducer.specs.Weight.{plus}
 use Rattle.transducer.specs.Each.{each-arc, fits, passed}
 use Rattle.explore.specs.Explore.{Step, Built, built}
 use Rattle.compose.specs.declared.State.{State}
@@ -31,7 +32,7 @@ both-step i a j b =
       target = record { left = a .target; right = b .target; filter = 0 };
       input = a .input;
       output = passed (a .output) b;
-      weight = a .weight + b .weight;
+      weight = plus (a .weight) (b .weight);
       origin = Both i j;
     }
 
@@ -56,7 +57,7 @@ unfoldable pub final-state : Transducer → Transducer → State → Bool
 final-state t u x = is-final (t .finals) (x .left) && is-final (u .finals) (x .right)
 
 unfoldable pub state-weight : Transducer → Transducer → State → ℕ
-state-weight t u x = final-weight (t .finals) (x .left) + final-weight (u .finals) (x .right)
+state-weight t u x = plus (final-weight (t .finals) (x .left)) (final-weight (u .finals) (x .right))
 
 -- The composition, untrimmed, with the states and steps that it was built from.
 unfoldable pub composed : Transducer → Transducer → Built State Origin

@@ -12,6 +12,7 @@ use Rattle.transducer.specs.declared.Arc.{Arc}
 use Rattle.transducer.specs.declared.Final.{Final}
 use Rattle.transducer.specs.Format.{weight-good, arc-at, refusal, decode}
 use Rattle.transducer.specs.Encode.{final-records}
+use Rattle.transducer.specs.Weight.{plus}
 use Rattle.explore.specs.Explore.{finals-from}
 use Rattle.compose.specs.declared.Answer.{Answer}
 use Rattle.compose.specs.declared.Finals.{Finals}
@@ -23,7 +24,7 @@ unfoldable pub key-final : (lcodes rcodes : List ℕ) → (key : ℕ) → Bool
 key-final ls rs k = not (eqb (getD ls (unpacked k .left) 0) 0) && not (eqb (getD rs (unpacked k .right) 0) 0)
 
 unfoldable pub key-weight : (lcodes rcodes : List ℕ) → (key : ℕ) → ℕ
-key-weight ls rs k = (getD ls (unpacked k .left) 0 - 1) + (getD rs (unpacked k .right) 0 - 1)
+key-weight ls rs k = plus (getD ls (unpacked k .left) 0 - 1) (getD rs (unpacked k .right) 0 - 1)
 
 unfoldable pub key-finals : (lcodes rcodes keys : List ℕ) → List Final
 key-finals ls rs keys = finals-from (key-final ls rs) (key-weight ls rs) 0 keys

@@ -9,6 +9,7 @@ use Rattle.transducer.specs.declared.Arc.{Arc}
 use Rattle.transducer.specs.Format.{Transducer, barred, weight-good, decode}
 use Rattle.transducer.specs.Encode.{arc-records}
 use Rattle.transducer.specs.Path.{arc}
+use Rattle.transducer.specs.Weight.{plus}
 use Rattle.transducer.specs.Leaf.{Opened, Indexed}
 use Rattle.explore.specs.Explore as explore
 use Rattle.explore.specs.Explore.{there, place}
@@ -44,7 +45,7 @@ run-step u r j =
       input = r .input;
       output = arc u j .output;
       target = r .target + 2 * arc u j .target;
-      weight = r .weight + arc u j .weight;
+      weight = plus (r .weight) (arc u j .weight);
     })
 
 unfoldable pub run-steps : (right : Transducer) → Run → (count j : ℕ) → List Step

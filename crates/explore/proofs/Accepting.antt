@@ -2,11 +2,12 @@
 use mathlib.Core.Path.{_≡_, sym, _∙_}
 use mathlib.Core.Bool.{Bool, true}
 use mathlib.Core.List.{List}
-use Prim.Native.Nat.{ℕ, _+_, _≤_, _<_}
+use Prim.Native.Nat.{ℕ, _≤_, _<_}
 use lib.ListN.{length, getD}
 use Rattle.wire.proofs.Places.{and-true}
 use Rattle.transducer.specs.Format.{Transducer}
 use Rattle.transducer.specs.Path.{runs, ends, accepts, is-final, read-by, written-by, arcs-cost, path-cost}
+use Rattle.transducer.specs.Weight.{plus}
 use Rattle.explore.specs.Explore.{Step, Decides, Built, built}
 use Rattle.explore.proofs.Parts.{built-start, built-some, built-first, built-final, built-final-weight}
 use Rattle.explore.proofs.Trails.{Trail, inputs, outputs, weights, along, Once, read-along, written-along, cost-along, along-once, path-trail, trail-path}
@@ -44,14 +45,14 @@ module _ {A O : Type 0} (same : A → A → Bool) (steps : A → List (Step A O)
     module _ (right : Decides same) (few : length (b .states) ≤ 1024) where
       cost : (p : List ℕ) → runs (b .result) 0 p ≡ true → ends (b .result) 0 p < length (b .states)
           → final (getD (b .states) (ends (b .result) 0 p) first) ≡ true
-          → path-cost (b .result) p ≡ weights (along b d p) + weight (getD (b .states) (ends (b .result) 0 p) first)
+          → path-cost (b .result) p ≡ plus (weights (along b d p)) (weight (getD (b .states) (ends (b .result) 0 p) first))
       unfolding path-cost
       cost p h l f =
           let arcs : arcs-cost (b .result) p ≡ weights (along b d p) = cost-along same steps final weight first d 0 p h in
           rw (built-start same steps final weight first, arcs, built-final-weight same steps final weight first (ends (b .result) 0 p) l f)
 
       pub accepts-trail : (p : List ℕ) → accepts (b .result) p ≡ true
-          → (y : A) × Accepting steps final first (along b d p) y × (path-cost (b .result) p ≡ weights (along b d p) + weight y)
+          → (y : A) × Accepting steps final first (along b d p) y × (path-cost (b .result) p ≡ plus (weights (along b d p)) (weight y))
       accepts-trail p h =
           let runs-on = accepts-runs p h in
           let t = path-trail same steps final weight first d right few 0 p (built-some same steps final weight first) (runs-on .0) in
@@ -60,7 +61,7 @@ module _ {A O : Type 0} (same : A → A → Bool) (steps : A → List (Step A O)
           (y, record { trail = rw (built-first same steps final weight first) at (t .1); final-end = f }, cost p (runs-on .0) (t .0) f)
 
       pub trail-accepts : (ss : List (Step A O)) (y : A) → Accepting steps final first ss y
-          → (p : List ℕ) × (accepts (b .result) p ≡ true) × (along b d p ≡ ss) × (path-cost (b .result) p ≡ weights ss + weight y)
+          → (p : List ℕ) × (accepts (b .result) p ≡ true) × (along b d p ≡ ss) × (path-cost (b .result) p ≡ plus (weights ss) (weight y))
       trail-accepts ss y a =
           let start : 0 < length (b .states) = built-some same steps final weight first in
           let r = trail-path same steps final weight first d right few 0 ss y start (rw (built-first same steps final weight first) (a .trail)) in

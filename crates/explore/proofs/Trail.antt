@@ -2,8 +2,9 @@
 use mathlib.Core.Path.{_≡_}
 use mathlib.Core.List.{List, [], _∷_}
 use mathlib.Core.List.{List·Memᴰ as Mem}
-use Prim.Native.Nat.{ℕ, _+_}
+use Prim.Native.Nat.{ℕ}
 use Rattle.transducer.specs.Path.{non-empty}
+use Rattle.transducer.specs.Weight.{no-weight, plus}
 use Rattle.explore.specs.Explore.{Step}
 
 -- A run of steps that leads from one state to another.
@@ -21,5 +22,5 @@ outputs [] = []
 outputs (s ∷ ss) = non-empty (s .output) (outputs ss)
 
 unfoldable pub weights : {A O : Type 0} → List (Step A O) → ℕ
-weights [] = 0
-weights (s ∷ ss) = s .weight + weights ss
+weights [] = no-weight
+weights (s ∷ ss) = plus (s .weight) (weights ss)

@@ -7,6 +7,7 @@ use native.Mathlib.Omega.{arith}
 use lib.ListN.{length, getD}
 use Rattle.transducer.specs.declared.Arc.{Arc}
 use Rattle.transducer.specs.Path.{arc, runs, ends, non-empty, read-by, written-by, arcs-cost}
+use Rattle.transducer.specs.Weight.{no-weight, plus}
 use Rattle.explore.specs.Explore.{Step, Decides, Built, built}
 use Rattle.explore.proofs.Member.{At, Mem, at-getD, getD-at}
 use Rattle.explore.proofs.Arcs.{before}
@@ -28,8 +29,8 @@ outputs [] = []
 outputs (s ∷ ss) = non-empty (s .output) (outputs ss)
 
 unfoldable pub weights : {A O : Type 0} → List (Step A O) → ℕ
-weights [] = 0
-weights (s ∷ ss) = s .weight + weights ss
+weights [] = no-weight
+weights (s ∷ ss) = plus (s .weight) (weights ss)
 
 -- The steps of a path's arcs; d is any step.
 abbrev pub along : {A O : Type 0} → Built A O → (d : Step A O) → (path : List ℕ) → List (Step A O)

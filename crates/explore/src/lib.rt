@@ -59,3 +59,11 @@ pub fn find(
         next = links[next] as usize;
     }
 }
+
+// How far a walk has come: states met, arcs (3,073 stands for more than 3,072), a weight out of range, more than 1,024 states met.
+pub struct Walk {
+    pub states: usize,
+    pub arcs: usize,
+    pub dear: bool,
+    pub full: bool,
+}

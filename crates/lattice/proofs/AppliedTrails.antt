@@ -13,6 +13,7 @@ use borrow.Author.Tests.{eqb-true, eqb-false, eq-eqb}
 use Rattle.wire.proofs.Places.{and-true, true-and}
 use Rattle.transducer.specs.Format.{Transducer}
 use Rattle.transducer.specs.Path.{arc, runs, ends, non-empty, read-by, written-by, arcs-cost, path-cost, accepts, is-final, final-weight}
+use Rattle.transducer.specs.Weight.{plus}
 use Rattle.transducer.proofs.Paths.{Runs, runs-cons, cons-runs, empty-passed, symbol-kept}
 use Rattle.explore.specs.Explore.{Step}
 use Rattle.explore.proofs.Trail.{Trail, inputs, outputs, weights}
@@ -183,7 +184,7 @@ first t = record { position = 0; state = t .start }
 pub record Accepted (cs : List ℕ) (t : Transducer) (ss : List (Step State ℕ)) (y : State) : Type 0 where
   pub accepting : accepts t (numbers ss) ≡ true
   pub whole : read-by t (numbers ss) ≡ cs
-  pub cost : weights ss + final-weight (t .finals) (y .state) ≡ path-cost t (numbers ss)
+  pub cost : plus (weights ss) (final-weight (t .finals) (y .state)) ≡ path-cost t (numbers ss)
 
 pub trail-accepted : (cs : List ℕ) (t : Transducer) (ss : List (Step State ℕ)) (y : State) → Trail (steps cs t) (first t) ss y
     → final-state cs t y ≡ true → Accepted cs t ss y

@@ -21,5 +21,6 @@ pub mod Rings
 pub mod RoundTrip
 pub mod Runs
 pub mod Tested
+pub mod Weights
 pub mod WriteBack
 pub mod WriteSays

@@ -1,12 +1,13 @@
 -- Paths: what a path is, and what it accepts, reads, writes and costs. Assumes nothing: these are definitions.
 use mathlib.Core.Bool.{Bool, true, false, _&&_, _||_, cond}
 use mathlib.Core.List.{List, [], _∷_}
-use Prim.Native.Nat.{ℕ, zero, suc, _+_}
+use Prim.Native.Nat.{ℕ, zero, suc}
 use lib.Dec.{ltb, eqb}
 use lib.ListN.{length, getD}
 use Rattle.transducer.specs.declared.Arc.{Arc}
 use Rattle.transducer.specs.declared.Final.{Final}
 use Rattle.transducer.specs.Format.{Transducer}
+use Rattle.transducer.specs.Weight.{no-weight, plus}
 
 -- Whether a state is final, and its final weight (0 where it is not).
 unfoldable pub is-final : List Final → (s : ℕ) → Bool
@@ -53,8 +54,8 @@ written-by t (i ∷ is) = non-empty (arc t i .output) (written-by t is)
 
 -- A path's cost: its arcs, and the final weight of the state where it ends.
 unfoldable pub arcs-cost : Transducer → (path : List ℕ) → ℕ
-arcs-cost t [] = 0
-arcs-cost t (i ∷ is) = arc t i .weight + arcs-cost t is
+arcs-cost t [] = no-weight
+arcs-cost t (i ∷ is) = plus (arc t i .weight) (arcs-cost t is)
 
 unfoldable pub path-cost : Transducer → (path : List ℕ) → ℕ
-path-cost t p = arcs-cost t p + final-weight (t .finals) (ends t (t .start) p)
+path-cost t p = plus (arcs-cost t p) (final-weight (t .finals) (ends t (t .start) p))

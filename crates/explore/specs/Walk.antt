@@ -1,0 +1,109 @@
+-- The walk from a first state by keys: states stand as numbers, and arcs as they are written, with their origins; over any function that
+-- gives the steps of a key. Assumes nothing: these are definitions.
+use mathlib.Core.Path.{_≡_}
+use mathlib.Core.Bool.{Bool, true, false, _||_, not, cond}
+use mathlib.Core.List.{List, [], _∷_, _++_}
+use Prim.Native.Nat.{ℕ, zero, suc, _+_, _*_, _≤_, _<_, min}
+use lib.Dec.{leb, eqb}
+use lib.ListN.{length, getD, take, drop}
+use Rattle.wire.specs.Bytes.{places}
+use Rattle.transducer.specs.declared.Arc.{Arc}
+use Rattle.transducer.specs.Format.{weight-good, arc-at}
+use Rattle.transducer.specs.Encode.{arc-records}
+use Rattle.explore.specs.declared.Walk.{Walk}
+use Rattle.explore.specs.Explore.{there, place}
+use Rattle.explore.specs.Chain.{Chained}
+
+-- A step by keys: the key of the state where it leads, its labels and weight, and the numbers that say where it comes from.
+pub record Keyed : Type 0 where
+  pub target : ℕ
+  pub input : ℕ
+  pub output : ℕ
+  pub weight : ℕ
+  pub origins : List ℕ
+
+-- What has been built so far: the keys of the states met, the arcs, their origins, and whether a weight is out of range.
+pub record Sofar : Type 0 where
+  pub keys : List ℕ
+  pub arcs : List Arc
+  pub origins : List ℕ
+  pub dear : Bool
+
+-- The keys with one more, where it is new.
+unfoldable pub with-key : (key : ℕ) → List ℕ → List ℕ
+with-key key keys = cond (there eqb key keys) keys (keys ++ (key ∷ []))
+
+-- One more step from a state of number `source`.
+unfoldable pub taken : (source : ℕ) → Keyed → Sofar → Sofar
+taken source s b =
+    let met = with-key (s .target) (b .keys) in
+    record {
+      keys = met;
+      arcs =
+          b .arcs
+          ++ (record { source = source; input = s .input; output = s .output; target = place eqb (s .target) met; weight = s .weight } ∷ []);
+      origins = b .origins ++ s .origins;
+      dear = b .dear || not (weight-good (s .weight));
+    }
+
+unfoldable pub all-taken : (source : ℕ) → List Keyed → Sofar → Sofar
+all-taken source [] b = b
+all-taken source (s ∷ ss) b = all-taken source ss (taken source s b)
+
+-- The steps of the state of number i, taken; and of each state from number i on, in turn.
+unfoldable pub state-served : (next : ℕ → List Keyed) → (i : ℕ) → Sofar → Sofar
+state-served next i b = all-taken i (next (getD (b .keys) i 0)) b
+
+unfoldable pub served-from : (next : ℕ → List Keyed) → (fuel i : ℕ) → Sofar → Sofar
+served-from next zero i b = b
+served-from next (suc fuel) i b =
+    let more = served-from next fuel (suc i) (state-served next i b) in cond (leb (length (b .keys)) i) b more
+
+unfoldable pub begun : (first : ℕ) → Sofar
+begun first = record { keys = first ∷ []; arcs = []; origins = []; dear = false }
+
+unfoldable pub explored : (next : ℕ → List Keyed) → (first : ℕ) → Sofar
+explored next first = served-from next 1025 0 (begun first)
+
+-- How the buffers hold the arcs, each with `width` origins: their records from 10,252 on (behind room for 1,024 finals), at most 3,072 of them.
+pub record Recorded (width : ℕ) (as' : List Arc) (os : List ℕ) (dear : Bool) (w : Walk) (table origins : List ℕ) : Type 0 where
+  pub arcs-are : w .arcs ≡ min (length as') 3073
+  pub dear-is : w .dear ≡ dear
+  pub table-long : 59404 ≤ length table
+  pub origins-long : width * 3072 ≤ length origins
+  pub paired : length os ≡ width * length as'
+  pub written : take (16 * min (length as') 3072) (drop 10252 table) ≡ arc-records (take 3072 as')
+  pub traced : take (width * min (length as') 3072) origins ≡ take (width * min (length as') 3072) os
+
+-- How the buffers hold all that has been built.
+pub record Walked (width : ℕ) (b : Sofar) (w : Walk) (table origins states heads links : List ℕ) : Type 0 where
+  pub chained : Chained (b .keys) states heads links
+  pub states-are : w .states ≡ length (b .keys)
+  pub not-full : w .full ≡ false
+  pub recorded : Recorded width (b .arcs) (b .origins) (b .dear) w table origins
+
+-- What a part of the walk leaves: either all of its steps are taken, or more than 1,024 states were met.
+pub record Went (width : ℕ) (after : Sofar) (w : Walk) (table origins states heads links : List ℕ) : Type 0 where
+  pub done : w .full ≡ false → Walked width after w table origins states heads links
+  pub full : w .full ≡ true → 1024 < length (after .keys)
+
+-- What the whole walk tells and leaves behind: 11 exactly where more than 1,024 states are met.
+pub record Told (width : ℕ) (b : Sofar) (w : Walk) (table origins states : List ℕ) : Type 0 where
+  pub few : length (b .keys) ≤ 1024
+  pub states-are : w .states ≡ length (b .keys)
+  pub recorded : Recorded width (b .arcs) (b .origins) (b .dear) w table origins
+  pub stored : take (length (b .keys)) states ≡ b .keys
+
+pub record Walk-says (width : ℕ) (b : Sofar) (w : Walk) (table table' origins origins' states states' : List ℕ) : Type 0 where
+  pub full : w .full ≡ true → 1024 < length (b .keys)
+  pub done : w .full ≡ false → Told width b w table' origins' states'
+  pub table-kept : length table' ≡ length table
+  pub origins-kept : length origins' ≡ length origins
+  pub states-kept : length states' ≡ length states
+
+-- The arcs whose records stand from 10,252 on.
+unfoldable pub stored-arc : List ℕ → (i : ℕ) → Arc
+stored-arc table i = arc-at table (10252 + 16 * i)
+
+unfoldable pub stored-arcs : List ℕ → (count : ℕ) → List Arc
+stored-arcs table count = places count 0 1 (stored-arc table)
