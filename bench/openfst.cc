@@ -57,6 +57,37 @@ static double median_ns(F f) {
   return v[v.size() / 2];
 }
 
+// The linear acceptor of a string.
+static StdVectorFst acceptor(const std::string &code) {
+  StdVectorFst t;
+  t.SetStart(t.AddState());
+  for (size_t i = 0; i + 1 < code.size(); i += 2) {
+    const int s = t.AddState();
+    t.AddArc(s - 1, StdArc(u16_at(code, i), u16_at(code, i), 0, s));
+  }
+  t.SetFinal(t.NumStates() - 1, 0);
+  return t;
+}
+
+// Accepting paths, held at 99; -1 where they are infinitely many. For a connected (trimmed) transducer.
+static int count(const StdVectorFst &t) {
+  if (t.Start() < 0) return 0;
+  std::vector<int> order;
+  bool acyclic;
+  fst::TopOrderVisitor<StdArc> v(&order, &acyclic);
+  fst::DfsVisit(t, &v);
+  if (!acyclic) return -1;
+  std::vector<int> by(t.NumStates()), c(t.NumStates());
+  for (int s = 0; s < t.NumStates(); ++s) by[order[s]] = s;
+  for (int i = t.NumStates() - 1; i >= 0; --i) {
+    const int s = by[i];
+    int x = t.Final(s) != StdArc::Weight::Zero();
+    for (fst::ArcIterator<StdVectorFst> it(t, s); !it.Done(); it.Next()) x = std::min(99, x + c[it.Value().nextstate]);
+    c[s] = x;
+  }
+  return c[t.Start()];
+}
+
 static long sink = 0;
 
 static void round(const std::string &folder, const char *name) {
@@ -71,6 +102,28 @@ static void round(const std::string &folder, const char *name) {
     fst::Compose(l, sorted, &out, fst::ComposeOptions(false, fst::SEQUENCE_FILTER));
     sink += out.NumStates();
   }));
+  // A string is applied by composing its acceptor with the transducer, sorted beforehand, and connecting.
+  const StdVectorFst code = acceptor(slurp(folder + "/code.lab")), joined = build(slurp(folder + "/joined.tab"));
+  StdVectorFst sorted(joined);
+  fst::ArcSort(&sorted, fst::ILabelCompare<StdArc>());
+  say("apply", median_ns([&] {
+    StdVectorFst out;
+    fst::Compose(code, sorted, &out, fst::ComposeOptions(false, fst::SEQUENCE_FILTER));
+    fst::Connect(&out);
+    sink += out.NumStates();
+  }));
+  say("connect", median_ns([&] {
+    StdVectorFst out(joined);
+    fst::Connect(&out);
+    sink += out.NumStates();
+  }));
+  const StdVectorFst lattice = build(slurp(folder + "/lattice.tab"));
+  say("shortest", median_ns([&] {
+    StdVectorFst out;
+    fst::ShortestPath(lattice, &out);
+    sink += out.NumStates();
+  }));
+  say("count", median_ns([&] { sink += count(lattice); }));
 }
 
 int main(int argc, char **argv) {

@@ -50,6 +50,48 @@ mod reader {
             states_len: usize,
             len: *mut u32,
         ) -> u32;
+        fn forthwn_apply(
+            string: *const u16,
+            string_len: usize,
+            table: *const u8,
+            table_len: usize,
+            lattice: *mut u8,
+            lattice_len: usize,
+            origins: *mut u16,
+            origins_len: usize,
+            pairs: *mut u32,
+            pairs_len: usize,
+            len: *mut u32,
+        ) -> u32;
+        fn forthwn_trim(
+            table: *const u8,
+            table_len: usize,
+            out: *mut u8,
+            out_len: usize,
+            origins: *mut u16,
+            origins_len: usize,
+            len: *mut u32,
+        ) -> u32;
+        fn forthwn_count(table: *const u8, table_len: usize, count: *mut u32) -> u32;
+        fn forthwn_nth(
+            table: *const u8,
+            table_len: usize,
+            k: u32,
+            arcs: *mut u16,
+            arcs_len: usize,
+            labels: *mut u16,
+            labels_len: usize,
+            told: *mut [u64; 3],
+        ) -> u32;
+        fn forthwn_shortest(
+            table: *const u8,
+            table_len: usize,
+            arcs: *mut u16,
+            arcs_len: usize,
+            labels: *mut u16,
+            labels_len: usize,
+            told: *mut [u64; 3],
+        ) -> u32;
     }
 
     // What reading fills: the four buffers at their least lengths, and states, arcs, finals and start.
@@ -131,6 +173,68 @@ mod reader {
         };
         (refusal, len)
     }
+
+    // The refusal and the number of bytes; the states are lent as pairs, and of the origins as many as are needed.
+    pub fn apply(string: &[u16], table: &[u8], c: &mut Composed) -> (u32, u32) {
+        let (a, b, d) = (&mut c.table, &mut c.origins[..3072], &mut c.states);
+        let mut len = 0;
+        let refusal = unsafe {
+            forthwn_apply(
+                string.as_ptr(), string.len(), table.as_ptr(), table.len(),
+                a.as_mut_ptr(), a.len(), b.as_mut_ptr(), b.len(), d.as_mut_ptr(), d.len(), &mut len,
+            )
+        };
+        (refusal, len)
+    }
+
+    // The refusal and the number of bytes.
+    pub fn trim(table: &[u8], c: &mut Composed) -> (u32, u32) {
+        let (a, b) = (&mut c.table, &mut c.origins[..3072]);
+        let mut len = 0;
+        let refusal = unsafe {
+            forthwn_trim(table.as_ptr(), table.len(), a.as_mut_ptr(), a.len(), b.as_mut_ptr(), b.len(), &mut len)
+        };
+        (refusal, len)
+    }
+
+    // The refusal and the count.
+    pub fn count(table: &[u8]) -> (u32, u32) {
+        let mut count = 0;
+        let refusal = unsafe { forthwn_count(table.as_ptr(), table.len(), &mut count) };
+        (refusal, count)
+    }
+
+    // The arcs and labels of a path, at their least lengths.
+    pub struct Path {
+        pub arcs: Vec<u16>,
+        pub labels: Vec<u16>,
+    }
+
+    impl Path {
+        pub fn new() -> Path {
+            Path { arcs: vec![1; 1023], labels: vec![1; 1023] }
+        }
+    }
+
+    // The refusal and the cost.
+    pub fn nth(table: &[u8], k: u32, p: &mut Path) -> (u32, u64) {
+        let (a, b) = (&mut p.arcs, &mut p.labels);
+        let mut told = [0; 3];
+        let refusal = unsafe {
+            forthwn_nth(table.as_ptr(), table.len(), k, a.as_mut_ptr(), a.len(), b.as_mut_ptr(), b.len(), &mut told)
+        };
+        (refusal, told[0])
+    }
+
+    // The refusal and the cost.
+    pub fn shortest(table: &[u8], p: &mut Path) -> (u32, u64) {
+        let (a, b) = (&mut p.arcs, &mut p.labels);
+        let mut told = [0; 3];
+        let refusal = unsafe {
+            forthwn_shortest(table.as_ptr(), table.len(), a.as_mut_ptr(), a.len(), b.as_mut_ptr(), b.len(), &mut told)
+        };
+        (refusal, told[0])
+    }
 }
 
 // The median of samples of at least 20 microseconds each, as openfst.cc takes it.
@@ -182,6 +286,47 @@ fn composed_of(left: &[u8], right: &[u8], joined: &[u8]) -> reader::Composed {
     composed
 }
 
+// Buffers to apply into; stops where the lattice is not what the workload has.
+fn lattice_of(string: &[u16], joined: &[u8], lattice: &[u8]) -> reader::Composed {
+    let mut applied = reader::Composed::new();
+    assert_eq!(reader::apply(string, joined, &mut applied), (0, lattice.len() as u32), "apply");
+    let (bytes, behind) = applied.table.split_at(lattice.len());
+    assert!(bytes == lattice && behind.iter().all(|&x| x == 0), "the bytes of the lattice");
+    assert!(applied.states.iter().all(|&x| x == 0), "the pairs");
+    applied
+}
+
+// A line of 1,024 states numbered backwards: each arc leads to the state before.
+fn backwards() -> Vec<u8> {
+    let mut fields: Vec<u16> = vec![8, 1, 1024, 1023, 1, 1023, 6, 2, 0, 0, 0];
+    for s in 1..1024 {
+        fields.extend([12, 3, s, 1, 2, s - 1, 1, 0]);
+    }
+    fields.into_iter().flat_map(u16::to_le_bytes).collect()
+}
+
+// The calls whose sweeps such a line makes long.
+fn round_of_backwards() {
+    let (line, mut trimmed, mut path) = (backwards(), reader::Composed::new(), reader::Path::new());
+    assert_eq!(reader::trim(&line, &mut trimmed), (0, line.len() as u32), "trim");
+    assert_eq!(reader::count(&line), (0, 1), "count");
+    assert_eq!(reader::shortest(&line, &mut path), (0, 1023), "shortest");
+    let mut calls: Vec<(&str, Box<dyn FnMut()>)> = vec![
+        ("trim", Box::new(|| {
+            black_box(reader::trim(black_box(&line), &mut trimmed));
+        })),
+        ("count", Box::new(|| {
+            black_box(reader::count(black_box(&line)));
+        })),
+        ("shortest", Box::new(|| {
+            black_box(reader::shortest(black_box(&line), &mut path));
+        })),
+    ];
+    for (call, run) in &mut calls {
+        println!("backwards {call} {:.1}", median_ns(run));
+    }
+}
+
 // One state with as many arcs onto itself as there may be.
 fn loops(input: u16, output: u16) -> Vec<u8> {
     let head: [u16; 6] = [8, 1, 1, 3072, 0, 0];
@@ -202,7 +347,13 @@ fn round_of_loops() {
 
 fn round(folder: &str, name: &str) {
     let (left, right) = (file(folder, "left.tab"), file(folder, "right.tab"));
-    let mut composed = composed_of(&left, &right, &file(folder, "joined.tab"));
+    let (joined, lattice) = (file(folder, "joined.tab"), file(folder, "lattice.tab"));
+    let string: Vec<u16> = file(folder, "code.lab").chunks(2).map(|x| u16::from_le_bytes([x[0], x[1]])).collect();
+    let mut composed = composed_of(&left, &right, &joined);
+    let mut applied = lattice_of(&string, &joined, &lattice);
+    let mut trimmed = reader::Composed::new();
+    let (mut nth, mut shortest) = (reader::Path::new(), reader::Path::new());
+    let last = reader::count(&lattice).1.max(1) - 1;
     let (left_parts, right_parts) = (parts_of(&left), parts_of(&right));
     let (mut read_left, mut read_right) = (left_parts.clone(), right_parts.clone());
     let (mut clear_left, mut clear_right) = (left_parts.clone(), right_parts.clone());
@@ -230,6 +381,21 @@ fn round(folder: &str, name: &str) {
         ("compose", Box::new(|| {
             black_box(reader::compose(black_box(&left), black_box(&right), &mut composed));
         })),
+        ("apply", Box::new(|| {
+            black_box(reader::apply(black_box(&string), black_box(&joined), &mut applied));
+        })),
+        ("trim", Box::new(|| {
+            black_box(reader::trim(black_box(&joined), &mut trimmed));
+        })),
+        ("shortest", Box::new(|| {
+            black_box(reader::shortest(black_box(&lattice), &mut shortest));
+        })),
+        ("count", Box::new(|| {
+            black_box(reader::count(black_box(&lattice)));
+        })),
+        ("nth", Box::new(|| {
+            black_box(reader::nth(black_box(&lattice), last, &mut nth));
+        })),
     ];
     for (call, run) in &mut calls {
         println!("{name} {call} {:.1}", median_ns(run));
@@ -242,4 +408,5 @@ fn main() {
         round(&format!("{folder}/{name}"), &name);
     }
     round_of_loops();
+    round_of_backwards();
 }

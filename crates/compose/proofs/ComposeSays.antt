@@ -1,41 +1,50 @@
 -- The answers of composing: which refusal it is, and what is said and left behind; one law for each answer, in the order of the tests. Assumes nothing.
-use mathlib.Core.Path.{_≡_, refl, sym, ap, _∙_}
+use mathlib.Core.Path.{_≡_, refl, sym, ap, subst, _∙_}
 use mathlib.Core.Bool.{Bool, true, false, _&&_, not, cond}
-use mathlib.Core.List.{List, [], _∷_}
-use Prim.Native.Nat.{ℕ, _+_, _*_, _≤_, _<_, min}
+use mathlib.Core.List.{List, []}
+use Prim.Native.Nat.{ℕ, _+_, _*_, _≤_, _<_}
 use native.Mathlib.Omega.{arith}
-use lib.Dec.{ltb, leb, eqb}
-use lib.ListN.{length, getD, take, drop}
-use lib.Seq.{sets, length-sets, take-all, getD-take}
-use borrow.Author.Tests.{lt-ltb, le-ltb, le-leb, lt-leb, ne-eqb, leb-true, not-true, not-false}
-use Rattle.wire.specs.Bytes.{Bytes, every, filled, cleared}
-use Rattle.transducer.specs.declared.Arc.{Arc}
+use lib.Dec.{leb, eqb}
+use lib.ListN.{length, getD, take}
+use lib.Seq.{sets, length-sets}
+use borrow.Author.Tests.{lt-ltb, le-ltb, ne-eqb}
+use Rattle.wire.specs.Bytes.{Bytes, cleared}
 use Rattle.transducer.specs.declared.Final.{Final}
-use Rattle.transducer.specs.Format.{Transducer, Good, refusal, content-refusal, first-of, decode, framed, kinds-good, records, head-good, weight-good, weights-good}
+use Rattle.transducer.specs.Format.{Transducer, Good, refusal, content-refusal, first-of, decode, framed, kinds-good, records, head-good, weights-good}
 use Rattle.transducer.specs.Format.{head-states, head-arcs, head-finals, head-start, states-good, order-good, all-labels-good}
 use Rattle.transducer.specs.Encode.{head-record, final-records, arc-records, encode}
 use Rattle.transducer.specs.Entry.{or-else, unless}
 use Rattle.transducer.specs.Leaf.{Finals-by-state}
-use Rattle.transducer.proofs.Encode.{length-final-records, length-encode, cleared-sets}
 use Rattle.transducer.proofs.RoundTrip.{accepted-good}
-use Rattle.explore.specs.Explore.{Step, built-refusal, left-behind}
-use Rattle.explore.proofs.Built.{over-11}
-use Rattle.explore.proofs.Cases.{by-test, clash}
-use Rattle.explore.proofs.Parts.{built-start, built-states, length-steps, length-finals}
+use Rattle.explore.specs.declared.FinalsPut.{FinalsPut}
+use Rattle.explore.specs.declared.Walk.{Walk}
+use Rattle.explore.specs.Explore.{built-refusal}
+use Rattle.explore.specs.Walk.{Told, stored-arcs, Finals-stored}
+use Rattle.explore.proofs.EncodeStored.{filled-front}
+use Rattle.explore.proofs.ExploredKeys.{Keying}
+use Rattle.explore.proofs.LeftBehind.{built-late, behind-early, behind-zeroed, behind-written, behind-same}
+use Rattle.explore.proofs.WalkTold.{
+  told-11,
+  told-key,
+  told-key-finals,
+  told-finals,
+  told-12,
+  told-13-arcs,
+  told-13-finals,
+  told-0,
+  length-written,
+  table-written,
+  origins-written,
+}
 use Rattle.compose.specs.declared.Answer.{Answer}
-use Rattle.compose.specs.declared.Finals.{Finals}
-use Rattle.compose.specs.declared.Origin.{Origin}
-use Rattle.compose.specs.declared.State.{State}
-use Rattle.compose.specs.declared.Walk.{Walk}
-use Rattle.compose.specs.Compose.{same-state, steps, final-state, state-weight, first-state, composed}
+use Rattle.compose.specs.Compose.{same-state, steps, final-state, state-weight, first-state, composed, origin-pair}
 use Rattle.compose.specs.Entry.{Compose-says, compose-refusal, compose-room, origin-pairs}
-use Rattle.compose.specs.Finished.{key-finals, Finishable, Finals-say, stored-arcs, Refused-with, Composable}
-use Rattle.compose.specs.Walk.{explored, Told}
-use Rattle.compose.proofs.ArcsFit.{composed-fits}
-use Rattle.compose.proofs.EncodeStored.{encode-stored, filled-front}
-use Rattle.compose.proofs.Explored.{explored-length, explored-arcs, explored-origins, explored-dear}
-use Rattle.compose.proofs.KeyFinals.{key-small, code-most, composed-finals}
-use Rattle.compose.proofs.Moved.{drop-sets-before, stored-arcs-are}
+use Rattle.compose.specs.Finished.{key-final, key-weight, key-finals, Finishable, Refused-with, Composable}
+use Rattle.compose.specs.Walk.{pack, key-steps, key-walk}
+use Rattle.compose.proofs.Explored.{two-origins, composed-keying, steps-light, key-small}
+use Rattle.compose.proofs.KeyFinals.{code-most, pack-final, pack-weight}
+use Rattle.compose.proofs.Pack.{Within, within-bounded}
+use Rattle.compose.proofs.Written.{steps-labelled}
 
 -- Refusals 1 to 8 are small.
 
@@ -65,34 +74,34 @@ refusal-most bs =
 -- Compose-says, by how the buffers are left
 
 module _ (xs ys : List ℕ) (number : ℕ) where
+  abbrev bytes : List ℕ
+  bytes = encode (composed (decode xs) (decode ys) .result)
+
+  abbrev pairs : List ℕ
+  pairs = origin-pairs (composed (decode xs) (decode ys) .steps)
+
   says-early : (k : ℕ) (a b c : List ℕ) → number ≡ k → (k ≡ 0 → ⊥) → k ≤ 10 → Compose-says xs ys number (record { refusal = k; len = 0 }) a a b b c c
-  unfolding unless left-behind
+  unfolding unless
   says-early k a b c is bad small =
-      let no : eqb k 0 ≡ false = ne-eqb k 0 bad in
-      let low : leb k 10 ≡ true = le-leb k 10 small in
-      record { refusal-is = sym is; len-is = rw (is, no); table = rw (is, no, low); origins = rw (is, no, low); states = rw (is, no, low) }
+      record {
+        refusal-is = sym is;
+        len-is = rw (is, ne-eqb k 0 bad);
+        table = rw is (sym (behind-early a bytes k bad small));
+        origins = rw is (sym (behind-early b pairs k bad small));
+        states = rw is (sym (behind-early c [] k bad small));
+      }
 
   says-zeroed : (k : ℕ) (r : Answer) (a a' b b' c c' : List ℕ) → number ≡ k → 10 < k → Refused-with k r a a' b b' c c'
       → Compose-says xs ys number r a a' b b' c c'
-  unfolding unless left-behind
+  unfolding unless
   says-zeroed k r a a' b b' c c' is high z =
-      let no : eqb k 0 ≡ false = ne-eqb k 0 (omega arith) in
-      let over : leb k 10 ≡ false = lt-leb k 10 high in
       record {
         refusal-is = ap (λ (r : Answer). r .refusal) (z .answer) ∙ sym is;
-        len-is = ap (λ (r : Answer). r .len) (z .answer) ∙ (rw (is, no));
-        table = z .table ∙ (rw (is, no, over));
-        origins = z .origins ∙ (rw (is, no, over));
-        states = z .states ∙ (rw (is, no, over));
+        len-is = ap (λ (r : Answer). r .len) (z .answer) ∙ (rw (is, ne-eqb k 0 (omega arith)));
+        table = rw is (z .table ∙ sym (behind-zeroed a bytes k high));
+        origins = rw is (z .origins ∙ sym (behind-zeroed b pairs k high));
+        states = rw is (z .states ∙ sym (behind-zeroed c [] k high));
       }
-
-  -- Only the lengths of the buffers lent count where the number is not one of 1 to 10.
-  same-behind : (a a₀ written : List ℕ) → (leb number 10 ≡ true → number ≡ 0) → length a ≡ length a₀
-      → left-behind number a written ≡ left-behind number a₀ written
-  unfolding left-behind
-  same-behind a a₀ written late long =
-      by-test (eqb number 0) (λ e. rw (e, long))
-      (λ e. by-test (leb number 10) (λ l. clash (ap (λ (n : ℕ). eqb n 0) (late l)) e) (λ l. rw (e, l, long)))
 
   says-after : (r : Answer) (a a₀ a' b b₀ b' c c₀ c' : List ℕ) → (leb number 10 ≡ true → number ≡ 0)
       → length a ≡ length a₀ → length b ≡ length b₀ → length c ≡ length c₀
@@ -101,9 +110,9 @@ module _ (xs ys : List ℕ) (number : ℕ) where
       record {
         refusal-is = s .refusal-is;
         len-is = s .len-is;
-        table = s .table ∙ same-behind a a₀ (encode (composed (decode xs) (decode ys) .result)) late la;
-        origins = s .origins ∙ same-behind b b₀ (origin-pairs (composed (decode xs) (decode ys) .steps)) late lb;
-        states = s .states ∙ same-behind c c₀ [] late lc;
+        table = s .table ∙ behind-same a bytes number a₀ late la;
+        origins = s .origins ∙ behind-same b pairs number b₀ late lb;
+        states = s .states ∙ behind-same c [] number c₀ late lc;
       }
 
 -- The answers before anything is written
@@ -161,62 +170,8 @@ module _ (xs ys a b c : List ℕ) where
             → Compose-says xs ys (built-refusal (composed (decode xs) (decode ys) .result)) r a a' b b' c c' → Compose-says xs ys number r a a' b b' c c'
         says-into r a' b' c' h = rw into h
 
--- Refusals 12 and 13 of what is built
-
-and-false : (a : Bool) → a && false ≡ false
-and-false true = refl
-and-false false = refl
-
-module _ (t : Transducer) where
-  abbrev arcs-light : Bool
-  arcs-light = every (λ a. weight-good (a .weight)) (t .arcs)
-
-  abbrev finals-light : Bool
-  finals-light = every (λ f. weight-good (f .weight)) (t .finals)
-
-  dear-arcs : not arcs-light ≡ true → weights-good t ≡ false
-  unfolding weights-good
-  dear-arcs h = rw (not-true arcs-light h) (and-false finals-light)
-
-  dear-finals : not finals-light ≡ true → weights-good t ≡ false
-  unfolding weights-good
-  dear-finals h = rw (not-true finals-light h)
-
-  light : not arcs-light ≡ false → not finals-light ≡ false → weights-good t ≡ true
-  unfolding weights-good
-  light p q = rw (not-false arcs-light p, not-false finals-light q)
-
-  module _ (few : t .states ≤ 1024) where
-    built-12 : 3072 < length (t .arcs) → built-refusal t ≡ 12
-    unfolding built-refusal
-    built-12 h = rw (le-ltb 1024 (t .states) few, lt-ltb 3072 (length (t .arcs)) h)
-
-    built-13 : length (t .arcs) ≤ 3072 → weights-good t ≡ false → built-refusal t ≡ 13
-    unfolding built-refusal
-    built-13 h w = rw (le-ltb 1024 (t .states) few, le-ltb 3072 (length (t .arcs)) h, w)
-
-    built-0 : length (t .arcs) ≤ 3072 → weights-good t ≡ true → built-refusal t ≡ 0
-    unfolding built-refusal
-    built-0 h w = rw (le-ltb 1024 (t .states) few, le-ltb 3072 (length (t .arcs)) h, w)
-
-late-chain : (a b c : Bool) → leb (cond a 11 (cond b 12 (cond c 0 13))) 10 ≡ true → _≡_ {A = ℕ} (cond a 11 (cond b 12 (cond c 0 13))) 0
-late-chain true b c h = absurd (omega (arith, leb-true 11 10 h))
-late-chain false true c h = absurd (omega (arith, leb-true 12 10 h))
-late-chain false false true h = refl
-late-chain false false false h = absurd (omega (arith, leb-true 13 10 h))
-
-pub built-late : (t : Transducer) → leb (built-refusal t) 10 ≡ true → built-refusal t ≡ 0
-unfolding built-refusal
-built-late t h = late-chain (ltb 1024 (t .states)) (ltb 3072 (length (t .arcs))) (weights-good t) h
-
--- Two origins for each step.
-length-origin-pairs : (ss : List (Step State Origin)) → length (origin-pairs ss) ≡ 2 * length ss
-unfolding origin-pairs
-length-origin-pairs [] = refl
-length-origin-pairs (s ∷ ss) = omega (arith, length-origin-pairs ss)
-
 -- The numbers that are written fit.
-pub record Writable (w : Walk) (f : Finals) : Type 0 where
+pub record Writable (w : Walk) (f : FinalsPut) : Type 0 where
   pub finals : f .count ≤ 1024
   pub states : w .states ≤ 1024
   pub arcs : w .arcs ≤ 3072
@@ -239,143 +194,88 @@ module _ (left right : List ℕ) (lb : Bytes left) (rb : Bytes right) (lok : ref
   ug : Good (decode right)
   ug = accepted-good right rb rok
 
-  z-states : z .states ≡ length (composed t u .states)
-  unfolding composed
-  z-states = built-states same-state (steps t u) (final-state t u) (state-weight t u) (first-state t u)
-
-  z-start : z .start ≡ 0
-  unfolding composed
-  z-start = built-start same-state (steps t u) (final-state t u) (state-weight t u) (first-state t u)
-
-  z-finals : length (z .finals) ≤ length (composed t u .states)
-  unfolding composed
-  z-finals = length-finals same-state (steps t u) (final-state t u) (state-weight t u) (first-state t u)
-
-  z-steps : length (composed t u .steps) ≡ length (z .arcs)
-  unfolding composed
-  z-steps = length-steps same-state (steps t u) (final-state t u) (state-weight t u) (first-state t u)
+  keying : Keying same-state (steps t u) (first-state t u) pack origin-pair (key-steps t u) (Within t u)
+  keying = composed-keying t u tg ug
 
   abbrev Says : Answer → (a a' b b' c c' : List ℕ) → Type 0
   Says r a a' b b' c c' = Compose-says left right (built-refusal (composed (decode left) (decode right) .result)) r a a' b b' c c'
 
-  pub says-11 : (r : Answer) (a a₀ a' b b₀ b' c c₀ c' : List ℕ) → 1024 < length (explored t u .keys)
+  pub says-11 : (r : Answer) (a a₀ a' b b₀ b' c c₀ c' : List ℕ) → 1024 < length (key-walk t u .keys)
       → length a ≡ length a₀ → length b ≡ length b₀ → length c ≡ length c₀
       → Refused-with 11 r a a' b b' c c' → Says r a₀ a' b₀ b' c₀ c'
+  unfolding composed
   says-11 r a a₀ a' b b₀ b' c c₀ c' over la lb lc z' =
-      let is : built-refusal z ≡ 11 = over-11 z .1 (omega (arith, explored-length t u tg ug, z-states)) in
       says-after left right (built-refusal z) r a a₀ a' b b₀ b' c c₀ c' (built-late z) la lb lc
-      (says-zeroed left right (built-refusal z) 11 r a a' b b' c c' is (omega arith) z')
+      (says-zeroed left right (built-refusal z) 11 r a a' b b' c c' (told-11 keying (final-state t u) (state-weight t u) over) (omega arith) z')
 
   pub says-same : (r : Answer) (a a₀ a' b b₀ b' c c₀ c' : List ℕ) → length a ≡ length a₀ → length b ≡ length b₀ → length c ≡ length c₀
       → Says r a a' b b' c c' → Says r a₀ a' b₀ b' c₀ c'
   says-same r a a₀ a' b b₀ b' c c₀ c' la lb lc s = says-after left right (built-refusal z) r a a₀ a' b b₀ b' c c₀ c' (built-late z) la lb lc s
 
-  module _ (w : Walk) (table origins states : List ℕ) (told : Told (explored t u) w table origins states) where
-    few-states : z .states ≤ 1024
-    few-states = omega (arith, explored-length t u tg ug, z-states, told .few)
-
-    arcs-are : w .arcs ≡ min (length (z .arcs)) 3073
-    arcs-are = told .arcs-are ∙ ap (λ (as' : List Arc). min (length as') 3073) (explored-arcs t u tg ug (told .few))
-
+  module _ (w : Walk) (table origins states : List ℕ) (told : Told 2 (key-walk t u) w table origins states) where
     pub says-12 : (r : Answer) (a₀ a' b₀ b' c₀ c' : List ℕ) → 3072 < w .arcs
         → length table ≡ length a₀ → length origins ≡ length b₀ → length states ≡ length c₀
         → Refused-with 12 r table a' origins b' states c' → Says r a₀ a' b₀ b' c₀ c'
+    unfolding composed
     says-12 r a₀ a' b₀ b' c₀ c' over la lb lc z' =
-        let is : built-refusal z ≡ 12 = built-12 z few-states (omega (arith, arcs-are)) in
         says-after left right (built-refusal z) r table a₀ a' origins b₀ b' states c₀ c' (built-late z) la lb lc
-        (says-zeroed left right (built-refusal z) 12 r table a' origins b' states c' is (omega arith) z')
+        (says-zeroed left right (built-refusal z) 12 r table a' origins b' states c' (told-12 keying (final-state t u) (state-weight t u) told over)
+        (omega arith) z')
 
     module _ (few-arcs : w .arcs ≤ 3072) where
-      arcs-long : length (z .arcs) ≡ w .arcs
-      arcs-long = omega (arith, arcs-are)
-
-      says-13 : (r : Answer) (a a' b' c' : List ℕ) → weights-good z ≡ false → length a ≡ length table
+      says-13 : (r : Answer) (a a' b' c' : List ℕ) → built-refusal z ≡ 13 → length a ≡ length table
           → Refused-with 13 r a a' origins b' states c' → Says r table a' origins b' states c'
-      says-13 r a a' b' c' bad la z' =
-          let is : built-refusal z ≡ 13 = built-13 z few-states (omega (arith, arcs-long)) bad in
+      says-13 r a a' b' c' is la z' =
           says-after left right (built-refusal z) r a table a' origins origins b' states states c' (built-late z) la refl refl
           (says-zeroed left right (built-refusal z) 13 r a a' origins b' states c' is (omega arith) z')
-
-      arcs-dear : w .dear ≡ not (every (λ a. weight-good (a .weight)) (z .arcs))
-      arcs-dear = told .dear-is ∙ explored-dear t u tg ug (told .few)
 
       module _ (ls rs : List ℕ) (lby : Finals-by-state t ls) (rby : Finals-by-state u rs) where
         pub finishable : 59404 ≤ length table → 1024 ≤ length states → Finishable ls rs states (w .states) table
         finishable room long =
-            let n : w .states ≡ length (explored t u .keys) = told .states-are in
+            let few : w .states ≤ 1024 = omega (arith, told .states-are, told .few) in
             record {
-              few = omega (arith, told .few);
-              stored = omega (arith, told .few);
+              few = few;
+              stored = omega arith;
               room = omega arith;
-              keys =
-                  λ i l. let same : getD states i 0 ≡ getD (explored t u .keys) i 0 =
-                  sym (getD-take (length (explored t u .keys)) states i 0 (omega arith)) ∙ ap (λ (ks : List ℕ). getD ks i 0) (told .stored) in
-                  rw same (key-small t u tg ug i (omega arith));
+              keys = λ i l. key-small t u tg ug (getD states i 0) (told-key keying (final-state t u) (state-weight t u) told i l);
               left = code-most t ls tg lby;
               right = code-most u rs ug rby;
             }
 
         finals-are : key-finals ls rs (take (w .states) states) ≡ z .finals
+        unfolding composed
         finals-are =
-            ap (λ (n : ℕ). key-finals ls rs (take n states)) (told .states-are)
-            ∙ ap (λ (ks : List ℕ). key-finals ls rs ks) (told .stored)
-            ∙ composed-finals t u ls rs lby rby tg ug
+            told-key-finals keying (final-state t u) (state-weight t u) told (key-final ls rs) (key-weight ls rs)
+            (λ x h. pack-final t u ls rs lby rby x (within-bounded t u tg ug x h)) (λ x h e. pack-weight t u ls rs lby rby x (within-bounded t u tg ug x h))
 
-        module _ (f : Finals) (t1 : List ℕ) (put : Finals-say ls rs (take (w .states) states) f table t1) where
-          finals-dear : f .dear ≡ not (every (λ f. weight-good (f .weight)) (z .finals))
-          finals-dear = put .dear-is ∙ ap (λ (fs : List Final). not (every (λ f. weight-good (f .weight)) fs)) finals-are
-
-          finals-long : f .count ≡ length (z .finals)
-          finals-long = put .count-is ∙ ap length finals-are
-
-          finals-stored : t1 ≡ sets table 12 (final-records (z .finals))
-          finals-stored = put .stored ∙ ap (λ (fs : List Final). sets table 12 (final-records fs)) finals-are
+        module _ (f : FinalsPut) (t1 : List ℕ) (put : Finals-stored (key-finals ls rs (take (w .states) states)) f table t1) where
+          finals-put : Finals-stored (z .finals) f table t1
+          finals-put = subst (λ (fs : List Final). Finals-stored fs f table t1) finals-are put
 
           pub finals-kept : length t1 ≡ length table
-          finals-kept = ap length (put .stored) ∙ length-sets table 12 (final-records (key-finals ls rs (take (w .states) states)))
+          finals-kept = ap length (finals-put .stored) ∙ length-sets table 12 (final-records (z .finals))
 
           pub says-13-arcs : (r : Answer) (a' b' c' : List ℕ) → w .dear ≡ true → Refused-with 13 r t1 a' origins b' states c'
               → Says r table a' origins b' states c'
-          says-13-arcs r a' b' c' dear z' = says-13 r t1 a' b' c' (dear-arcs z (sym arcs-dear ∙ dear)) finals-kept z'
+          unfolding composed
+          says-13-arcs r a' b' c' dear z' =
+              says-13 r t1 a' b' c' (told-13-arcs keying (final-state t u) (state-weight t u) told few-arcs dear) finals-kept z'
 
           pub says-13-finals : (r : Answer) (a' b' c' : List ℕ) → f .dear ≡ true → Refused-with 13 r t1 a' origins b' states c'
               → Says r table a' origins b' states c'
-          says-13-finals r a' b' c' dear z' = says-13 r t1 a' b' c' (dear-finals z (sym finals-dear ∙ dear)) finals-kept z'
+          unfolding composed
+          says-13-finals r a' b' c' dear z' =
+              says-13 r t1 a' b' c'
+              (told-13-finals keying (final-state t u) (state-weight t u) told few-arcs (sym (finals-put .dear-is) ∙ dear)) finals-kept z'
 
           pub writable : Writable w f
+          unfolding composed
           writable =
               record {
-                finals = omega (arith, finals-long, z-finals, z-states, few-states);
+                finals = omega (arith, finals-put .count-is, told-finals keying (final-state t u) (state-weight t u) told);
                 states = omega (arith, told .states-are, told .few);
                 arcs = few-arcs;
               }
-
-          arcs-stored : stored-arcs t1 (w .arcs) ≡ z .arcs
-          arcs-stored =
-              let few : length (composed t u .states) ≤ 1024 = omega (arith, z-states, few-states) in
-              let behind : drop 10252 t1 ≡ drop 10252 table =
-              ap (λ (l : List ℕ). drop 10252 l) finals-stored
-              ∙ drop-sets-before 10252 table 12 (final-records (z .finals)) (omega (arith, length-final-records (z .finals), z-finals)) in
-              let is : explored t u .arcs ≡ z .arcs = explored-arcs t u tg ug (told .few) in
-              let m : 16 * min (length (explored t u .arcs)) 3072 ≡ 16 * w .arcs = omega (arith, ap length is, arcs-long) in
-              let stands : take (16 * w .arcs) (drop 10252 t1) ≡ arc-records (z .arcs) =
-              ap (λ (l : List ℕ). take (16 * w .arcs) l) behind
-              ∙ ap (λ (n : ℕ). take n (drop 10252 table)) (sym m)
-              ∙ told .written
-              ∙ ap (λ (as' : List Arc). arc-records (take 3072 as')) is
-              ∙ ap arc-records (take-all 3072 (z .arcs) (omega (arith, arcs-long))) in
-              stored-arcs-are t1 (w .arcs) (z .arcs) arcs-long stands (λ i d l. composed-fits t u tg ug few i d l)
-
-          origins-traced : take (2 * w .arcs) origins ≡ origin-pairs (composed t u .steps)
-          origins-traced =
-              let is : explored t u .arcs ≡ z .arcs = explored-arcs t u tg ug (told .few) in
-              let m : 2 * min (length (explored t u .arcs)) 3072 ≡ 2 * w .arcs = omega (arith, ap length is, arcs-long) in
-              let os : explored t u .origins ≡ origin-pairs (composed t u .steps) = explored-origins t u tg ug (told .few) in
-              ap (λ (n : ℕ). take n origins) (sym m)
-              ∙ told .traced
-              ∙ ap (λ (n : ℕ). take n (explored t u .origins)) m
-              ∙ ap (λ (l : List ℕ). take (2 * w .arcs) l) os
-              ∙ take-all (2 * w .arcs) (origin-pairs (composed t u .steps)) (omega (arith, length-origin-pairs (composed t u .steps), z-steps, arcs-long))
 
           pub says-written : (t2 t3 t4 o1 s1 : List ℕ) → w .dear ≡ false → f .dear ≡ false → 59404 ≤ length table
               → t2 ≡ sets t1 (12 + 10 * f .count) (arc-records (stored-arcs t1 (w .arcs)))
@@ -383,29 +283,20 @@ module _ (left right : List ℕ) (lb : Bytes left) (rb : Bytes right) (lok : ref
               → t4 ≡ cleared (12 + 10 * f .count + 16 * w .arcs) t3
               → o1 ≡ cleared (2 * w .arcs) origins → s1 ≡ cleared 0 states
               → Says (record { refusal = 0; len = 12 + 10 * f .count + 16 * w .arcs }) table t4 origins o1 states s1
-          unfolding unless left-behind
-          says-written t2 t3 t4 o1 s1 cheap light' room moved headed clear8 clear16 clear32 =
-              let ws : w .states ≡ z .states = told .states-are ∙ explored-length t u tg ug ∙ sym z-states in
-              let wa : w .arcs ≡ length (z .arcs) = sym arcs-long in
+          unfolding composed unless origin-pairs
+          says-written t2 t3 t4 o1 s1 cheap light room moved headed clear8 clear16 clear32 =
+              let fits = writable in
               let no : built-refusal z ≡ 0 =
-              built-0 z few-states (omega (arith, arcs-long)) (light z (sym arcs-dear ∙ cheap) (sym finals-dear ∙ light')) in
-              let fits : 12 + 10 * length (z .finals) + 16 * length (z .arcs) ≤ length table = omega (arith, z-finals, z-states, few-states, arcs-long) in
-              let arcs' : t2 ≡ sets t1 (12 + 10 * length (z .finals)) (arc-records (z .arcs)) =
-              moved
-              ∙ ap (λ (n : ℕ). sets t1 (12 + 10 * n) (arc-records (stored-arcs t1 (w .arcs)))) finals-long
-              ∙ ap (λ (as' : List Arc). sets t1 (12 + 10 * length (z .finals)) (arc-records as')) arcs-stored in
-              let head' : t3 ≡ sets t2 0 (head-record (z .states) (length (z .arcs)) (length (z .finals)) (z .start)) =
-              headed ∙ (rw (ws, wa, finals-long, z-start)) in
-              let long : length (encode z) ≡ 12 + 10 * f .count + 16 * w .arcs = length-encode z ∙ (rw (finals-long, wa)) in
-              let all : t4 ≡ filled (length table) (encode z) =
-              cleared-sets (encode z) table (12 + 10 * f .count + 16 * w .arcs) long (omega (arith, finals-long, wa)) (encode-stored z table fits finals-stored arcs' head') clear8 in
-              let pairs : o1 ≡ filled (length origins) (origin-pairs (composed t u .steps)) =
-              filled-front (origin-pairs (composed t u .steps)) origins o1 (2 * w .arcs)
-              (omega (arith, length-origin-pairs (composed t u .steps), z-steps, arcs-long)) origins-traced clear16 in
+              told-0 keying (final-state t u) (state-weight t u) told few-arcs cheap (sym (finals-put .dear-is) ∙ light) in
               record {
                 refusal-is = sym no;
-                len-is = rw no (sym long);
-                table = rw no all;
-                origins = rw no pairs;
-                states = rw no (filled-front [] states s1 0 refl refl clear32);
+                len-is = rw no (sym (length-written keying (final-state t u) (state-weight t u) told few-arcs (f .count) (finals-put .count-is)));
+                table =
+                    table-written keying (final-state t u) (state-weight t u) told few-arcs (steps-labelled t u tg ug) (steps-light t u tg ug) (f .count)
+                    t1 t2 t3 t4 (finals-put .count-is) (omega (arith, fits .finals, fits .arcs)) (finals-put .stored) moved headed clear8
+                    ∙ sym (behind-written table (encode z) (built-refusal z) no);
+                origins =
+                    origins-written keying (final-state t u) (state-weight t u) told few-arcs two-origins o1 clear16
+                    ∙ sym (behind-written origins (origin-pairs (composed t u .steps)) (built-refusal z) no);
+                states = filled-front [] states s1 0 refl refl clear32 ∙ sym (behind-written states [] (built-refusal z) no);
               }

@@ -1,15 +1,12 @@
-pub mod ArcsFit
 pub mod Claimed
 pub mod ComposeSays
-pub mod EncodeStored
 pub mod Explored
 pub mod KeyFinals
-pub mod Keys
 pub mod Labels
 pub mod Leads
 pub mod LeastSums
+pub mod Marks
 pub mod MetPaths
-pub mod Moved
 pub mod Moves
 pub mod Numbered
 pub mod Opening
@@ -21,7 +18,6 @@ pub mod Reading
 pub mod RunCode
 pub mod RunSteps
 pub mod SameState
-pub mod Taken
 pub mod Trail
 pub mod WalkCode
 pub mod Written

@@ -1,20 +1,16 @@
 -- Packed states: a key gives back its state, and the states of a composition have parts that fit into a key. Assumes nothing.
-use mathlib.Core.Path.{_≡_, refl, sym, ap, _∙_}
-use mathlib.Core.Bool.{_&&_}
+use mathlib.Core.Path.{_≡_, sym, ap, _∙_}
 use mathlib.Core.List.{List·Memᴰ as In}
 use Prim.Native.Nat.{ℕ, _+_, _*_, _/_, _%_, _≤_, _<_}
 use native.Mathlib.Nat.{div-eq-of-lt-le, mul-add-mod-self-right, mod-eq-of-lt}
 use native.Mathlib.Omega.{arith}
-use lib.Dec.{eqb}
 use lib.ListN.{length}
-use borrow.Author.Tests.{eqb-true, eq-eqb}
-use Rattle.wire.proofs.Places.{and-true}
 use Rattle.transducer.specs.Format.{Transducer, Good}
 use Rattle.transducer.proofs.Accept.{Head-range, head-range, Content-range, content-range}
-use Rattle.explore.specs.Explore.{Step, Decides}
+use Rattle.explore.specs.Explore.{Step}
 use Rattle.compose.specs.declared.Origin.{Origin}
 use Rattle.compose.specs.declared.State.{State}
-use Rattle.compose.specs.Compose.{same-state, left-alone, right-alone, both-step, steps, first-state}
+use Rattle.compose.specs.Compose.{left-alone, right-alone, both-step, steps, first-state}
 use Rattle.compose.specs.Walk.{pack, unpacked}
 use Rattle.compose.proofs.Moves.{Move, by-left, by-right, by-both, step-move}
 
@@ -44,20 +40,6 @@ pack-injective x y b c e = sym (unpacked-pack x b) ∙ ap unpacked e ∙ unpacke
 pub pack-small : (x : State) → Bounded x → pack x < 2097152
 unfolding pack
 pack-small x b = omega (arith, b .left, b .right, b .filter)
-
--- The test that two states are the same is right.
-pub same-state-decides : Decides same-state
-unfolding same-state
-same-state-decides =
-    record {
-      sound = λ x y h. let a = and-true (eqb (x .left) (y .left)) (eqb (x .right) (y .right) && eqb (x .filter) (y .filter)) h in
-          let b = and-true (eqb (x .right) (y .right)) (eqb (x .filter) (y .filter)) (a .1) in
-          let l : x .left ≡ y .left = eqb-true (x .left) (y .left) (a .0) in
-          let r : x .right ≡ y .right = eqb-true (x .right) (y .right) (b .0) in
-          let f : x .filter ≡ y .filter = eqb-true (x .filter) (y .filter) (b .1) in
-          λ i. record { left = l i; right = r i; filter = f i };
-      complete = λ x. rw (eq-eqb (x .left) (x .left) refl, eq-eqb (x .right) (x .right) refl, eq-eqb (x .filter) (x .filter) refl);
-    }
 
 -- The parts of a state are states of the two transducers.
 pub record Within (t u : Transducer) (x : State) : Type 0 where

@@ -146,6 +146,10 @@ module _ (u : Transducer) (r : Run) where
             are = first-step j to ready l ∙ ap (λ (ss : List Step). run-step u r j ∷ ss) skip;
           }
 
+  -- A run alone is at its end after one step.
+  pub next-alone : (j to : ℕ) → Ready u r j to → j < to → r .alone ≡ true → Next-step j to to
+  next-alone j to ready l e = next-step j to to ready l (rw e)
+
 -- The next run
 
 -- Where the arcs of the right state begin and end.

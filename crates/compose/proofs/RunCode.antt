@@ -1,7 +1,7 @@
 -- What the code of a run relies on: an arc's labels read in place, the search for the next right arc that reads a label, and the search for
 -- the next left arc with a step. Assumes nothing.
 use mathlib.Core.Path.{_≡_, refl, sym, ap, _∙_}
-use mathlib.Core.Bool.{true, false}
+use mathlib.Core.Bool.{Bool, true, false}
 use mathlib.Core.List.{List}
 use Prim.Native.Nat.{ℕ, suc, _+_, _*_, _-_, _≤_, _<_}
 use native.Mathlib.Numerals.{add-one}
@@ -15,6 +15,7 @@ use Rattle.transducer.specs.Path.{arc}
 use Rattle.transducer.specs.Leaf.{Opened}
 use Rattle.transducer.proofs.Offsets.{arc-offset, length-accepted, length-arcs}
 use Rattle.transducer.proofs.Accept.{Bounds, bounds}
+use Rattle.compose.specs.declared.Run.{Run}
 use Rattle.compose.specs.Walk.{reading-from, begin-from}
 
 -- Accepted bytes
@@ -25,6 +26,10 @@ module _ (bs : List ℕ) (bytes : Bytes bs) (first : ℕ) (opened : Opened bs fi
 
   pub opened-arc : (j : ℕ) → j < length (decode bs .arcs) → arc (decode bs) j ≡ arc-at bs (first + 16 * j)
   opened-arc j h = rw (opened .first-is) (arc-offset bs bytes (opened .accepted) j h)
+
+  pub source-in-place : (j : ℕ) → j < length (decode bs .arcs) → arc (decode bs) j .source ≡ two bs (first + 16 * j + 4)
+  unfolding arc-at
+  source-in-place j h = ap (λ (a : Arc). a .source) (opened-arc j h)
 
   pub input-in-place : (j : ℕ) → j < length (decode bs .arcs) → arc (decode bs) j .input ≡ two bs (first + 16 * j + 6)
   unfolding arc-at
@@ -81,6 +86,12 @@ module _ {u : Transducer} {first label from to : ℕ} where
   pub fitting-stop : {j place : ℕ} → to ≤ j → Fitting u first label from to j place → j ≡ reading-from u label (to - from) from
   fitting-stop {j} l f = sym (reading-stop u label to j l) ∙ f .same
 
+-- Runs that differ in their target alone.
+pub to-target : {alone : Bool} {left label input target target' weight : ℕ} → target ≡ target'
+    → _≡_ {A = Run} (record { alone = alone; left = left; label = label; input = input; target = target; weight = weight })
+    (record { alone = alone; left = left; label = label; input = input; target = target'; weight = weight })
+to-target e = rw e
+
 -- begin-from
 
 module _ (t u : Transducer) (filter from to last k : ℕ) where
@@ -123,8 +134,8 @@ pub record Seeking (t u : Transducer) (filter from to i last k : ℕ) : Type 0 w
   pub same : begin-from t u filter from (to - from) (last - k) k ≡ begin-from t u filter from (to - from) (last - i) i
 
 module _ {t u : Transducer} {filter from to i last : ℕ} where
-  pub seeking-first : i ≤ last → Seeking t u filter from to i last i
-  seeking-first l = record { within = l; same = refl }
+  pub seeking-first : (k : ℕ) → k ≡ i → i ≤ last → Seeking t u filter from to i last k
+  seeking-first k e l = rw e (record { within = l; same = refl })
 
   pub seeking-alone : {k : ℕ} → k < last → arc t k .output ≡ 0 → filter ≡ 0 → Seeking t u filter from to i last k
       → record { alone = true; i = k; j = 0 } ≡ begin-from t u filter from (to - from) (last - i) i

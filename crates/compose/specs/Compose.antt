@@ -1,7 +1,7 @@
 -- Composition with the epsilon-sequencing filter (paper 01: the join). Assumes nothing: these are definitions.
-use mathlib.Core.Bool.{Bool, true, false, _&&_, cond}
+use mathlib.Core.Bool.{Bool, _&&_, cond}
 use mathlib.Core.List.{List, [], _∷_, _++_}
-use Prim.Native.Nat.{ℕ, zero, suc}
+use Prim.Native.Nat.{ℕ}
 use lib.Dec.{eqb}
 use Rattle.transducer.specs.declared.Arc.{Arc}
 use Rattle.transducer.specs.Format.{Transducer, barred}
@@ -73,3 +73,6 @@ unfoldable pub right-origin : Origin → ℕ
 right-origin (Left i) = barred
 right-origin (Right j) = j
 right-origin (Both i j) = j
+
+unfoldable pub origin-pair : Origin → List ℕ
+origin-pair o = left-origin o ∷ right-origin o ∷ []

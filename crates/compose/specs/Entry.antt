@@ -1,24 +1,23 @@
 -- What composing answers and leaves behind. Assumes nothing: these are definitions.
 use mathlib.Core.Path.{_≡_}
-use mathlib.Core.Bool.{Bool, true, false, _&&_, _||_, not, cond}
-use mathlib.Core.List.{List, [], _∷_}
-use Prim.Native.Nat.{ℕ, zero, suc}
-use lib.Dec.{ltb, leb, eqb}
-use lib.ListN.{length, replicate}
-use Rattle.wire.specs.Bytes.{filled}
-use Rattle.transducer.specs.Format.{Transducer, refusal, decode}
+use mathlib.Core.Bool.{_||_, cond}
+use mathlib.Core.List.{List, []}
+use Prim.Native.Nat.{ℕ}
+use lib.Dec.{ltb}
+use lib.ListN.{length}
+use Rattle.transducer.specs.Format.{refusal, decode}
 use Rattle.transducer.specs.Encode.{encode}
 use Rattle.transducer.specs.Entry.{or-else, unless}
-use Rattle.explore.specs.Explore.{Step, Built, built-refusal, left-behind}
+use Rattle.explore.specs.Explore.{Step, built-refusal, left-behind}
+use Rattle.explore.specs.Walk.{all-origins}
 use Rattle.compose.specs.declared.Answer.{Answer}
 use Rattle.compose.specs.declared.State.{State}
 use Rattle.compose.specs.declared.Origin.{Origin}
-use Rattle.compose.specs.Compose.{composed, left-origin, right-origin}
+use Rattle.compose.specs.Compose.{composed, origin-pair}
 
 -- The origins of each arc, the left one and then the right one.
 unfoldable pub origin-pairs : List (Step State Origin) → List ℕ
-origin-pairs [] = []
-origin-pairs (s ∷ ss) = left-origin (s .origin) ∷ right-origin (s .origin) ∷ origin-pairs ss
+origin-pairs ss = all-origins origin-pair ss
 
 -- 10: a lent buffer is too short
 unfoldable pub compose-room : (table origins states : ℕ) → ℕ

@@ -1,23 +1,19 @@
--- What is written when the walk is done: the finals of the states met, by their keys, and the arcs, which stand from 10,252 on until then.
--- Assumes nothing: these are definitions.
+-- What is written when the walk is done: the finals of the states met, by their keys. Assumes nothing: these are definitions.
 use mathlib.Core.Path.{_≡_}
 use mathlib.Core.Bool.{Bool, _&&_, not}
 use mathlib.Core.List.{List, []}
-use Prim.Native.Nat.{ℕ, _+_, _*_, _-_, _≤_, _<_}
+use Prim.Native.Nat.{ℕ, _-_, _≤_, _<_}
 use lib.Dec.{eqb}
 use lib.ListN.{length, getD}
-use lib.Seq.{sets}
-use Rattle.wire.specs.Bytes.{every, places, filled}
-use Rattle.transducer.specs.declared.Arc.{Arc}
+use Rattle.wire.specs.Bytes.{filled}
 use Rattle.transducer.specs.declared.Final.{Final}
-use Rattle.transducer.specs.Format.{weight-good, arc-at, refusal, decode}
-use Rattle.transducer.specs.Encode.{final-records}
+use Rattle.transducer.specs.Format.{refusal, decode}
 use Rattle.transducer.specs.Weight.{plus}
+use Rattle.explore.specs.declared.Walk.{Walk}
 use Rattle.explore.specs.Explore.{finals-from}
+use Rattle.explore.specs.Walk.{Told}
 use Rattle.compose.specs.declared.Answer.{Answer}
-use Rattle.compose.specs.declared.Finals.{Finals}
-use Rattle.compose.specs.declared.Walk.{Walk}
-use Rattle.compose.specs.Walk.{unpacked, explored, Told}
+use Rattle.compose.specs.Walk.{unpacked, key-walk}
 
 -- Whether the state of a key is final, by the final codes of its parts, and with which weight.
 unfoldable pub key-final : (lcodes rcodes : List ℕ) → (key : ℕ) → Bool
@@ -26,7 +22,7 @@ key-final ls rs k = not (eqb (getD ls (unpacked k .left) 0) 0) && not (eqb (getD
 unfoldable pub key-weight : (lcodes rcodes : List ℕ) → (key : ℕ) → ℕ
 key-weight ls rs k = plus (getD ls (unpacked k .left) 0 - 1) (getD rs (unpacked k .right) 0 - 1)
 
-unfoldable pub key-finals : (lcodes rcodes keys : List ℕ) → List Final
+abbrev pub key-finals : (lcodes rcodes keys : List ℕ) → List Final
 key-finals ls rs keys = finals-from (key-final ls rs) (key-weight ls rs) 0 keys
 
 -- The first `count` states are keys, there is room for 1,024 finals, and each code is that of a weight in range.
@@ -37,19 +33,6 @@ pub record Finishable (lcodes rcodes states : List ℕ) (count : ℕ) (table : L
   pub keys : (i : ℕ) → i < count → getD states i 0 < 2097152
   pub left : (s : ℕ) → s < 1024 → getD lcodes s 0 ≤ 1000001
   pub right : (s : ℕ) → s < 1024 → getD rcodes s 0 ≤ 1000001
-
--- The finals of some keys, written from 12 on.
-pub record Finals-say (lcodes rcodes keys : List ℕ) (r : Finals) (table table' : List ℕ) : Type 0 where
-  pub count-is : r .count ≡ length (key-finals lcodes rcodes keys)
-  pub dear-is : r .dear ≡ not (every (λ f. weight-good (f .weight)) (key-finals lcodes rcodes keys))
-  pub stored : table' ≡ sets table 12 (final-records (key-finals lcodes rcodes keys))
-
--- The arcs whose records stand from 10,252 on.
-unfoldable pub stored-arc : List ℕ → (i : ℕ) → Arc
-stored-arc table i = arc-at table (10252 + 16 * i)
-
-unfoldable pub stored-arcs : List ℕ → (count : ℕ) → List Arc
-stored-arcs table count = places count 0 1 (stored-arc table)
 
 -- A refusal once the buffers have been written to.
 pub record Refused-with (number : ℕ) (r : Answer) (a a' b b' c c' : List ℕ) : Type 0 where
@@ -68,5 +51,5 @@ pub record Composable (left right : List ℕ) (table origins states : ℕ) : Typ
 
 -- The walk is done, and neither 11 nor 12 holds.
 pub record Walked-through (left right : List ℕ) (w : Walk) (table origins states : List ℕ) : Type 0 where
-  pub told : Told (explored (decode left) (decode right)) w table origins states
+  pub told : Told 2 (key-walk (decode left) (decode right)) w table origins states
   pub few-arcs : w .arcs ≤ 3072

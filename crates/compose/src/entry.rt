@@ -7,10 +7,10 @@ ghost use Rattle.compose.specs.Compose.{composed};
 ghost use Rattle.compose.specs.Entry.{Compose-says, compose-refusal};
 ghost use Rattle.compose.specs.Finished.{Composable, Walked-through};
 use crate::Answer;
-use crate::Walk;
 use crate::finish;
 use crate::runs;
 use crate::walking;
+use explore::Walk;
 
 // Composes two transducers: the composed one's bytes, and the origins of its arcs, the left one and the right one in turn.
 pub fn compose(
@@ -71,6 +71,7 @@ fn compose_into(
     let rfirst = 12 + 10 * (r.finals as usize);
     let lindex = transducer::first_arcs(left, lfirst, l.states as usize, l.arcs as usize);
     let rindex = transducer::first_arcs(right, rfirst, r.states as usize, r.arcs as usize);
+    let present = runs::labels_present(right, rfirst, r.arcs as usize);
     let first = runs::pack(l.start, r.start, 0);
     let w = walking::walk_all(
         left,
@@ -79,6 +80,7 @@ fn compose_into(
         right,
         rfirst,
         &rindex,
+        &present,
         first,
         table,
         origins,
@@ -125,7 +127,7 @@ fn write_out(
     let finals = f.count;
     let behind = 12 + 10 * finals;
     let end = behind + 16 * arcs;
-    finish::move_arcs(table, behind, arcs);
+    explore::move_arcs(table, behind, arcs);
     transducer::put_head(table, count as u16, arcs as u16, finals as u16, 0);
     wire::clear8(table, end);
     wire::clear16(origins, 2 * arcs);

@@ -1,15 +1,27 @@
-// What is left when the walk is done: finals, arcs moved behind them, zeros.
+// What is left when the walk is done: the finals, or zeros.
 ghost use mathlib.Core.Path.{_≡_};
-ghost use Prim.Native.Nat.{_+_, _*_, _≤_};
-ghost use lib.ListN.{length, take};
-ghost use lib.Seq.{sets};
-ghost use Rattle.transducer.specs.Encode.{arc-records};
-ghost use Rattle.compose.specs.Finished.{Finishable, Finals-say, Refused-with, stored-arcs};
+ghost use Prim.Native.Nat.{_<_};
+ghost use lib.ListN.{take};
+ghost use Rattle.explore.specs.Walk.{Finals-stored};
+ghost use Rattle.compose.specs.Finished.{key-finals, Finishable, Refused-with};
 use crate::Answer;
-use crate::Finals;
 use crate::runs;
-use crate::walking;
+use explore::FinalsPut;
 use transducer::Final;
+
+// States are final by their parts in both filter states.
+const FINAL_FILTERS: u32 = 2;
+
+// A final code as it counts in a filter state.
+fn counted(code: u32, filter: u32) -> u32
+    requires { ⌜ filter < 2 ⌝ }
+    ensures { λ r. ⌜ r ≡ code ⌝ }
+{
+    if filter < FINAL_FILTERS {
+        return code;
+    }
+    0
+}
 
 // Writes the finals of `count` states, in order, from 12 on.
 pub fn put_finals(
@@ -18,9 +30,10 @@ pub fn put_finals(
     states: &[u32],
     count: usize,
     table: &mut [u8],
-) -> Finals
+) -> FinalsPut
     requires { ⌜ Finishable (now lcodes) (now rcodes) (now states) count (now table) ⌝ }
-    ensures { λ r. ⌜ Finals-say (now (lcodes .entry)) (now (rcodes .entry)) (take count (now (states .entry))) r (now (table .entry)) (now (table .exit)) ⌝ }
+    ensures { λ r. ⌜ Finals-stored (key-finals (now (lcodes .entry)) (now (rcodes .entry)) (take count (now (states .entry)))) r
+        (now (table .entry)) (now (table .exit)) ⌝ }
 {
     let mut finals = 0;
     let mut dear = false;
@@ -31,7 +44,7 @@ pub fn put_finals(
         let p = x.left as usize;
         let q = x.right as usize;
         let a = lcodes[p];
-        let b = rcodes[q];
+        let b = counted(rcodes[q], x.filter);
         s += 1;
         if a != 0 {
             if b != 0 {
@@ -46,22 +59,9 @@ pub fn put_finals(
             }
         }
     }
-    Finals {
+    FinalsPut {
         count: finals,
         dear: dear,
-    }
-}
-
-// Moves the arcs' records to their place behind the finals.
-pub fn move_arcs(table: &mut [u8], first: usize, arcs: usize)
-    requires { ⌜ (first ≤ 10252) × (10252 + 16 * arcs ≤ length (now table)) ⌝ }
-    ensures { λ _. ⌜ now (table .exit) ≡ sets (now (table .entry)) first (arc-records (stored-arcs (now (table .entry)) arcs)) ⌝ }
-{
-    let mut j = 0;
-    while j < arcs {
-        let a = transducer::load_arc(table, walking::ARCS_AT + 16 * j);
-        transducer::put_arc(table, first + 16 * j, a);
-        j += 1;
     }
 }
 

@@ -47,20 +47,6 @@ pub struct Begin {
     pub j: usize,
 }
 
-// How far the walk has come: states met, arcs (3,073 stands for more than 3,072), a weight out of range, more than 1,024 states met.
-pub struct Walk {
-    pub states: usize,
-    pub arcs: usize,
-    pub dear: bool,
-    pub full: bool,
-}
-
-// The finals written, and whether one of their weights is out of range.
-pub struct Finals {
-    pub count: usize,
-    pub dear: bool,
-}
-
 // What composing answers: the refusal or 0, and the number of bytes written, 0 on refusal.
 pub struct Answer {
     pub refusal: u32,

@@ -7,7 +7,7 @@ ghost use lib.ListN.{length};
 ghost use Rattle.transducer.specs.Format.{decode, barred};
 ghost use Rattle.transducer.specs.Leaf.{Opened};
 ghost use Rattle.compose.specs.Compose.{left-origin, right-origin};
-ghost use Rattle.compose.specs.Walk.{pack, unpacked, run-step, run-at, begin-from, reading-from};
+ghost use Rattle.compose.specs.Walk.{pack, unpacked, run-step, run-at, begin-from, reading-from, label-bucket, Present, Leaving};
 use crate::Begin;
 use crate::Origin;
 use crate::Run;
@@ -15,6 +15,13 @@ use crate::State;
 use crate::Step;
 
 const STILL: u16 = 65535;
+
+// The filter state that a step leads to: of a left arc alone, of a right arc alone, of one of each.
+const AFTER_LEFT: u32 = 0;
+
+const AFTER_RIGHT: u32 = 1;
+
+const AFTER_BOTH: u32 = 0;
 
 // A composed state as one number.
 pub fn pack(left: u32, right: u32, filter: u32) -> u32
@@ -52,6 +59,53 @@ pub fn next_fit(right: &[u8], first: usize, from: usize, to: usize, label: u16) 
     j
 }
 
+// The bucket of a state and a label.
+fn label_bucket(state: u16, label: u16) -> usize
+    ensures { λ r. ⌜ (r ≡ label-bucket state label) × (r < 4096) ⌝ }
+{
+    ((state as usize) * 61 + (label as usize)) % 4096
+}
+
+// Marks the bucket of each right arc's source and input label.
+pub fn labels_present(right: &[u8], rfirst: usize, arcs: usize) -> [bool; 4096]
+    requires { ⌜ Opened (now right) rfirst × (arcs ≡ length (decode (now right) .arcs)) ⌝ }
+    ensures { λ r. ⌜ Present (decode (now (right .entry))) r ⌝ }
+{
+    let mut present = [false; 4096];
+    let mut j = 0;
+    let mut place = rfirst + 4;
+    while j < arcs {
+        let source = wire::u16_at(right, place);
+        let label = wire::u16_at(right, place + 2);
+        let b = label_bucket(source, label);
+        present[b] = true;
+        place += 16;
+        j += 1;
+    }
+    present
+}
+
+// The first arc of right state `q` that reads `label`; `to` where none does, which a bucket without a mark tells without a search.
+fn first_fit(
+    right: &[u8],
+    rfirst: usize,
+    present: &[bool; 4096],
+    q: u16,
+    from: usize,
+    to: usize,
+    label: u16,
+) -> usize
+    requires { ⌜ Opened (now right) rfirst × (from ≤ to) × (to ≤ length (decode (now right) .arcs)) ⌝ }
+    requires { ⌜ Present (decode (now right)) (now present) × Leaving (decode (now right)) q from to ⌝ }
+    ensures { λ r. ⌜ r ≡ reading-from (decode (now (right .entry))) label (to - from) from ⌝ }
+{
+    let b = label_bucket(q, label);
+    if present[b] {
+        return next_fit(right, rfirst, from, to, label);
+    }
+    to
+}
+
 // Where the next run with a step begins, from left arc `i` on: a left arc that writes nothing, where the filter state allows it; one
 // whose output some right arc reads; or behind the last left arc, with the first right arc that reads nothing.
 pub fn next_run(
@@ -62,11 +116,14 @@ pub fn next_run(
     filter: u32,
     right: &[u8],
     rfirst: usize,
+    present: &[bool; 4096],
+    q: u16,
     from: usize,
     to: usize,
 ) -> Begin
     requires { ⌜ Opened (now left) lfirst × (i ≤ last) × (last ≤ length (decode (now left) .arcs)) ⌝ }
     requires { ⌜ Opened (now right) rfirst × (from ≤ to) × (to ≤ length (decode (now right) .arcs)) ⌝ }
+    requires { ⌜ Present (decode (now right)) (now present) × Leaving (decode (now right)) q from to ⌝ }
     ensures { λ r. ⌜ r ≡ begin-from (decode (now (left .entry))) (decode (now (right .entry))) filter from (to - from) (last - i) i ⌝ }
 {
     let mut k = i;
@@ -83,7 +140,7 @@ pub fn next_run(
                 };
             }
         } else {
-            let j = next_fit(right, rfirst, from, to, label);
+            let j = first_fit(right, rfirst, present, q, from, to, label);
             if j < to {
                 return Begin {
                     alone: false,
@@ -112,7 +169,7 @@ pub fn run_of(left: &[u8], lfirst: usize, at: Begin, last: usize, x: State) -> R
             left: STILL,
             label: 0,
             input: 0,
-            target: x.left * 2048 + 1,
+            target: x.left * 2048 + AFTER_RIGHT,
             weight: 0,
         };
     }
@@ -124,7 +181,7 @@ pub fn run_of(left: &[u8], lfirst: usize, at: Begin, last: usize, x: State) -> R
             left: i as u16,
             label: 0,
             input: a.input,
-            target: base + 2 * x.right,
+            target: base + 2 * x.right + AFTER_LEFT,
             weight: a.weight,
         };
     }
@@ -133,7 +190,7 @@ pub fn run_of(left: &[u8], lfirst: usize, at: Begin, last: usize, x: State) -> R
         left: i as u16,
         label: a.output,
         input: a.input,
-        target: base,
+        target: base + AFTER_BOTH,
         weight: a.weight,
     }
 }

@@ -1,51 +1,34 @@
 // The walk: each state is served in turn, its steps taken, their targets numbered as first reached.
 ghost use mathlib.Core.Path.{_≡_};
-ghost use mathlib.Core.Bool.{cond};
-ghost use mathlib.Core.List.{List};
-ghost use Prim.Native.Nat.{ℕ, _+_, _*_, _-_, _≤_, _<_};
-ghost use lib.Dec.{eqb};
-ghost use lib.ListN.{length, getD, set};
-ghost use lib.Seq.{sets};
-ghost use Rattle.transducer.specs.Encode.{arc-record};
+ghost use mathlib.Core.Bool.{true, cond};
+ghost use mathlib.Core.List.{map};
+ghost use Prim.Native.Nat.{_-_, _≤_, _<_};
+ghost use lib.ListN.{length, getD};
 ghost use Rattle.transducer.specs.Format.{decode};
 ghost use Rattle.transducer.specs.Leaf.{Opened};
-ghost use Rattle.explore.specs.Explore.{place};
-ghost use Rattle.explore.specs.Chain.{Chained};
-ghost use Rattle.compose.specs.Compose.{first-state, left-origin, right-origin};
-ghost use Rattle.compose.specs.Walk.{pack, unpacked, run-steps, Sofar, all-taken, state-served, explored, Walked, Went, Walkable, Walk-says};
-ghost use Rattle.compose.specs.Taking.{with-key, Records, Ready, In-both};
+ghost use Rattle.explore.specs.Walk.{Sofar, all-taken, state-served, traced-by, Records, Walked, Went, Walk-says};
+ghost use Rattle.compose.specs.Compose.{first-state, origin-pair};
+ghost use Rattle.compose.specs.Walk.{pack, unpacked, keyed-step, key-steps, key-walk, run-steps, Walkable};
+ghost use Rattle.compose.specs.Taking.{Ready, In-both};
 use crate::Begin;
+use crate::Origin;
 use crate::Run;
 use crate::Step;
-use crate::Walk;
 use crate::runs;
+use explore::Walk;
 use transducer::Arc;
 
 const MAX_STATES: usize = 1024;
 
-const MAX_ARCS: usize = 3072;
-
-// Where the arcs are written until the number of finals is known: behind room for 1,024 finals.
-pub const ARCS_AT: usize = 10252;
-
-// Writes the arc of a step and its origins.
-fn put_step(table: &mut [u8], origins: &mut [u16], arcs: usize, source: u16, s: Step, target: u16)
-    requires { ⌜ (arcs < 3072) × (59404 ≤ length (now table)) × (6144 ≤ length (now origins)) ⌝ }
-    ensures { λ _. ⌜ now (table .exit) ≡ sets (now (table .entry)) (10252 + 16 * arcs)
-        (arc-record (record { source = source; input = s .input; output = s .output; target = target; weight = s .weight })) ⌝ }
-    ensures { λ _. ⌜ now (origins .exit) ≡ set (set (now (origins .entry)) (2 * arcs) (left-origin (s .origin))) (2 * arcs + 1) (right-origin (s .origin)) ⌝ }
+// Writes the origins of the arc of number `arcs`, where there is room for that arc.
+fn put_origins(origins: &mut [u16], arcs: usize, o: Origin)
+    requires { ⌜ 6144 ≤ length (now origins) ⌝ }
+    ensures { λ _. ⌜ now (origins .exit) ≡ traced-by 2 arcs (origin-pair o) (now (origins .entry)) ⌝ }
 {
-    let a = Arc {
-        source: source,
-        input: s.input,
-        output: s.output,
-        target: target,
-        weight: s.weight,
-    };
-    transducer::put_arc(table, ARCS_AT + 16 * arcs, a);
-    let o = s.origin;
-    origins[2 * arcs] = runs::left_origin(o);
-    origins[2 * arcs + 1] = runs::right_origin(o);
+    if arcs < explore::MAX_ARCS {
+        origins[2 * arcs] = runs::left_origin(o);
+        origins[2 * arcs + 1] = runs::right_origin(o);
+    }
 }
 
 // Writes the arc of a step and its origins where there is room, and tells how far the walk has come with it.
@@ -58,50 +41,69 @@ fn record_step(
     number: usize,
 ) -> Walk
     requires { ⌜ (number < 1024) × (59404 ≤ length (now table)) × (6144 ≤ length (now origins)) ⌝ }
-    ensures { λ r. ⌜ Records source number s w r (now (table .entry)) (now (table .exit)) (now (origins .entry)) (now (origins .exit)) ⌝ }
+    ensures { λ r. ⌜ Records (record { source = source; input = s .input; output = s .output; target = number; weight = s .weight }) w r
+        (now (table .entry)) (now (table .exit)) ⌝ }
+    ensures { λ _. ⌜ now (origins .exit) ≡ traced-by 2 (w .arcs) (origin-pair (s .origin)) (now (origins .entry)) ⌝ }
 {
-    let dear = w.dear | !transducer::weight_ok(s.weight);
-    let arcs = w.arcs;
-    if arcs < MAX_ARCS {
-        put_step(table, origins, arcs, source, s, number as u16);
-        return Walk {
-            states: w.states,
-            arcs: arcs + 1,
-            dear: dear,
-            full: w.full,
-        };
-    }
-    Walk {
-        states: w.states,
-        arcs: MAX_ARCS + 1,
-        dear: dear,
-        full: w.full,
-    }
+    let o = s.origin;
+    put_origins(origins, w.arcs, o);
+    let a = Arc {
+        source: source,
+        input: s.input,
+        output: s.output,
+        target: number as u16,
+        weight: s.weight,
+    };
+    explore::record_arc(table, w, a)
 }
 
-// Stores a key that was found under the number of the next one, which is to say not at all; how many are stored then.
-fn store_new(
+// Takes the step of a run of a left arc alone, from a state of number `source`.
+fn take_one(
+    right: &[u8],
+    rfirst: usize,
+    r: Run,
+    source: u16,
+    from: usize,
+    to: usize,
+    w: Walk,
+    table: &mut [u8],
+    origins: &mut [u16],
     states: &mut [u32],
     heads: &mut [u16; 1024],
     links: &mut [u16; 1024],
-    count: usize,
-    key: u32,
-    number: usize,
-) -> usize
-    requires { ⌜ (number < 1024) × (1024 ≤ length (now states)) ⌝ }
-    ensures { λ r. ⌜ ((xs : List ℕ) → length xs ≡ count → number ≡ place eqb key xs →
-        Chained xs (now (states .entry)) (now (heads .entry)) (now (links .entry)) →
-        Chained (with-key key xs) (now (states .exit)) (now (heads .exit)) (now (links .exit)) × (r ≡ length (with-key key xs))) ⌝ }
+) -> Walk
+    requires { ⌜ Opened (now right) rfirst × Ready (decode (now right)) r from to × (r .alone ≡ true) ⌝ }
+    requires { ⌜ ((b : Sofar) × Walked 2 b w (now table) (now origins) (now states) (now heads) (now links)) ⌝ }
+    ensures { λ z. ⌜ ((b : Sofar) → Walked 2 b w (now (table .entry)) (now (origins .entry)) (now (states .entry)) (now (heads .entry)) (now (links .entry)) →
+        Went 2 (all-taken source (map keyed-step (run-steps (decode (now (right .entry))) r (to - from) from)) b) z
+        (now (table .exit)) (now (origins .exit)) (now (states .exit)) (now (heads .exit)) (now (links .exit))) ⌝ }
 {
-    if number == count {
-        explore::insert(states, heads, links, count, key);
-        return count + 1;
+    if to <= from {
+        return w;
     }
-    count
+    let s = runs::step_of(r, right, rfirst, from);
+    let key = s.target;
+    let count = w.states;
+    let number = explore::find(states, heads, links, count, key);
+    if number == MAX_STATES {
+        return Walk {
+            states: count,
+            arcs: w.arcs,
+            dear: w.dear,
+            full: true,
+        };
+    }
+    let next = Walk {
+        states: explore::store_new(states, heads, links, count, key, number),
+        arcs: w.arcs,
+        dear: w.dear,
+        full: w.full,
+    };
+    record_step(table, origins, next, source, s, number)
 }
 
-// Takes the steps of a run from a state of number `source`, the first of them with right arc `from`.
-fn take_run(
+// Takes the steps of a run with right arcs, from a state of number `source`; the first of them with right arc `from`.
+fn take_each(
     right: &[u8],
     rfirst: usize,
     r: Run,
@@ -116,9 +118,9 @@ fn take_run(
     links: &mut [u16; 1024],
 ) -> Walk
     requires { ⌜ Opened (now right) rfirst × Ready (decode (now right)) r from to ⌝ }
-    requires { ⌜ ((b : Sofar) × Walked b w (now table) (now origins) (now states) (now heads) (now links)) ⌝ }
-    ensures { λ z. ⌜ ((b : Sofar) → Walked b w (now (table .entry)) (now (origins .entry)) (now (states .entry)) (now (heads .entry)) (now (links .entry)) →
-        Went (all-taken source (run-steps (decode (now (right .entry))) r (to - from) from) b) z
+    requires { ⌜ ((b : Sofar) × Walked 2 b w (now table) (now origins) (now states) (now heads) (now links)) ⌝ }
+    ensures { λ z. ⌜ ((b : Sofar) → Walked 2 b w (now (table .entry)) (now (origins .entry)) (now (states .entry)) (now (heads .entry)) (now (links .entry)) →
+        Went 2 (all-taken source (map keyed-step (run-steps (decode (now (right .entry))) r (to - from) from)) b) z
         (now (table .exit)) (now (origins .exit)) (now (states .exit)) (now (heads .exit)) (now (links .exit))) ⌝ }
 {
     let mut walk = w;
@@ -143,11 +145,64 @@ fn take_run(
             walk.full = true;
             return walk;
         }
-        walk.states = store_new(states, heads, links, count, key, number);
+        walk.states = explore::store_new(states, heads, links, count, key, number);
         walk = record_step(table, origins, walk, source, s, number);
         j = runs::advance(r, right, rfirst, j + 1, to);
     }
     walk
+}
+
+// Takes the steps of a run. One alone is told from the others once, not at each step.
+fn take_run(
+    right: &[u8],
+    rfirst: usize,
+    r: Run,
+    source: u16,
+    from: usize,
+    to: usize,
+    w: Walk,
+    table: &mut [u8],
+    origins: &mut [u16],
+    states: &mut [u32],
+    heads: &mut [u16; 1024],
+    links: &mut [u16; 1024],
+) -> Walk
+    requires { ⌜ Opened (now right) rfirst × Ready (decode (now right)) r from to ⌝ }
+    requires { ⌜ ((b : Sofar) × Walked 2 b w (now table) (now origins) (now states) (now heads) (now links)) ⌝ }
+    ensures { λ z. ⌜ ((b : Sofar) → Walked 2 b w (now (table .entry)) (now (origins .entry)) (now (states .entry)) (now (heads .entry)) (now (links .entry)) →
+        Went 2 (all-taken source (map keyed-step (run-steps (decode (now (right .entry))) r (to - from) from)) b) z
+        (now (table .exit)) (now (origins .exit)) (now (states .exit)) (now (heads .exit)) (now (links .exit))) ⌝ }
+{
+    if r.alone {
+        return take_one(
+            right,
+            rfirst,
+            r,
+            source,
+            from,
+            to,
+            w,
+            table,
+            origins,
+            states,
+            heads,
+            links,
+        );
+    }
+    take_each(
+        right,
+        rfirst,
+        r,
+        source,
+        from,
+        to,
+        w,
+        table,
+        origins,
+        states,
+        heads,
+        links,
+    )
 }
 
 // The right arc behind those of a run that begins there: a left arc alone takes none, and counts as one.
@@ -168,6 +223,7 @@ fn serve(
     right: &[u8],
     rfirst: usize,
     rindex: &[u16; 1025],
+    present: &[bool; 4096],
     source: usize,
     w: Walk,
     table: &mut [u8],
@@ -176,11 +232,11 @@ fn serve(
     heads: &mut [u16; 1024],
     links: &mut [u16; 1024],
 ) -> Walk
-    requires { ⌜ Walkable (now left) lfirst (now lindex) (now right) rfirst (now rindex) × (source < w .states) ⌝ }
+    requires { ⌜ Walkable (now left) lfirst (now lindex) (now right) rfirst (now rindex) (now present) × (source < w .states) ⌝ }
     requires { ⌜ In-both (decode (now left)) (decode (now right)) (unpacked (getD (now states) source 0)) ⌝ }
-    requires { ⌜ ((b : Sofar) × Walked b w (now table) (now origins) (now states) (now heads) (now links)) ⌝ }
-    ensures { λ z. ⌜ ((b : Sofar) → Walked b w (now (table .entry)) (now (origins .entry)) (now (states .entry)) (now (heads .entry)) (now (links .entry)) →
-        Went (state-served (decode (now (left .entry))) (decode (now (right .entry))) source b) z
+    requires { ⌜ ((b : Sofar) × Walked 2 b w (now table) (now origins) (now states) (now heads) (now links)) ⌝ }
+    ensures { λ z. ⌜ ((b : Sofar) → Walked 2 b w (now (table .entry)) (now (origins .entry)) (now (states .entry)) (now (heads .entry)) (now (links .entry)) →
+        Went 2 (state-served (key-steps (decode (now (left .entry))) (decode (now (right .entry)))) source b) z
         (now (table .exit)) (now (origins .exit)) (now (states .exit)) (now (heads .exit)) (now (links .exit))) ⌝ }
 {
     let x = runs::unpack(states[source]);
@@ -192,7 +248,19 @@ fn serve(
     let mut walk = w;
     let mut i = lindex[p] as usize;
     while i <= last {
-        let at = runs::next_run(left, lfirst, i, last, x.filter, right, rfirst, from, to);
+        let at = runs::next_run(
+            left,
+            lfirst,
+            i,
+            last,
+            x.filter,
+            right,
+            rfirst,
+            present,
+            q as u16,
+            from,
+            to,
+        );
         let r = runs::run_of(left, lfirst, at, last, x);
         let end = end_of(at, to);
         walk = take_run(
@@ -225,15 +293,16 @@ pub fn walk_all(
     right: &[u8],
     rfirst: usize,
     rindex: &[u16; 1025],
+    present: &[bool; 4096],
     first: u32,
     table: &mut [u8],
     origins: &mut [u16],
     states: &mut [u32],
 ) -> Walk
-    requires { ⌜ Walkable (now left) lfirst (now lindex) (now right) rfirst (now rindex) ⌝ }
+    requires { ⌜ Walkable (now left) lfirst (now lindex) (now right) rfirst (now rindex) (now present) ⌝ }
     requires { ⌜ first ≡ pack (first-state (decode (now left)) (decode (now right))) ⌝ }
     requires { ⌜ (59404 ≤ length (now table)) × (6144 ≤ length (now origins)) × (1024 ≤ length (now states)) ⌝ }
-    ensures { λ r. ⌜ Walk-says (explored (decode (now (left .entry))) (decode (now (right .entry)))) r (now (table .entry)) (now (table .exit))
+    ensures { λ r. ⌜ Walk-says 2 (key-walk (decode (now (left .entry))) (decode (now (right .entry)))) r (now (table .entry)) (now (table .exit))
         (now (origins .entry)) (now (origins .exit)) (now (states .entry)) (now (states .exit)) ⌝ }
 {
     let mut heads = [0u16; 1024];
@@ -254,6 +323,7 @@ pub fn walk_all(
             right,
             rfirst,
             rindex,
+            present,
             s,
             walk,
             table,

@@ -1,6 +1,9 @@
 -- Cases on a test, and what a test that joins others says. Assumes nothing.
-use mathlib.Core.Path.{_≡_, refl, sym}
-use mathlib.Core.Bool.{Bool, true, false, _||_, false≢true}
+use mathlib.Core.Path.{_≡_, refl, sym, ap, _∙_}
+use mathlib.Core.Bool.{Bool, true, false, _&&_, _||_, not, false≢true}
+use mathlib.Core.List.{List, [], _∷_, _++_}
+use Rattle.wire.specs.Bytes.{every}
+use Rattle.wire.proofs.Places.{every-append}
 
 pub by-test : {C : Type 0} (b : Bool) → (b ≡ true → C) → (b ≡ false → C) → C
 by-test true f g = f refl
@@ -28,3 +31,13 @@ or-right false b h = h
 pub or-assoc : (a b c : Bool) → (a || b) || c ≡ a || (b || c)
 or-assoc true b c = refl
 or-assoc false b c = refl
+
+not-and : (a b : Bool) → not a || not b ≡ not (a && (b && true))
+not-and true true = refl
+not-and true false = refl
+not-and false b = refl
+
+-- A test fails somewhere in a list with one more element where it fails in the list or of that element.
+pub not-every-snoc : {A : Type 0} (t : A → Bool) (xs : List A) (x : A) → not (every t xs) || not (t x) ≡ not (every t (xs ++ (x ∷ [])))
+unfolding every
+not-every-snoc t xs x = not-and (every t xs) (t x) ∙ ap not (sym (every-append t xs (x ∷ [])))

@@ -1,9 +1,8 @@
--- Arcs written one behind the other, at most 3,072 of them, and their origins: what stands after one more. Assumes nothing.
+-- Arcs written one behind the other, at most 3,072 of them: what stands after one more. Assumes nothing.
 use mathlib.Core.Path.{_≡_, refl, sym, ap, _∙_}
 use mathlib.Core.List.{List, [], _∷_, _++_, append-nil}
 use Prim.Native.Nat.{ℕ, suc, _+_, _*_, _≤_, _<_, min}
 use native.Mathlib.Nat.{add-suc}
-use native.Mathlib.Numerals.{add-one}
 use native.Mathlib.Omega.{arith}
 use lib.ListN.{length, set, take, drop, length-append, length-drop}
 use lib.Seq.{sets, sets-eq, take-all, take-append-le, take-at, drop-set-add, length-take-le}
@@ -57,20 +56,3 @@ pub written-full : (base : ℕ) (as' : List Arc) (a : Arc) (table : List ℕ) �
 written-full base as' a table full is =
     let e : min (length (as' ++ (a ∷ []))) 3072 ≡ min (length as') 3072 = omega (arith, length-append as' (a ∷ [])) in
     rw (e, take-append-le 3072 as' (a ∷ []) full) is
-
--- Two origins for each arc: two more, or those of the first 3,072 arcs stay.
-pub pairs-next : {A : Type 0} (count : ℕ) (as' : List A) (a : A) (os origins : List ℕ) (x y : ℕ) → length as' ≡ count → count < 3072
-    → length os ≡ 2 * length as' → 6144 ≤ length origins → take (2 * min (length as') 3072) origins ≡ take (2 * min (length as') 3072) os
-    → take (2 * min (length (as' ++ (a ∷ []))) 3072) (set (set origins (2 * count) x) (2 * count + 1) y)
-    ≡ take (2 * min (length (as' ++ (a ∷ []))) 3072) (os ++ (x ∷ y ∷ []))
-pairs-next count as' a os origins x y long less os-long room is =
-    let n : 2 * min (length as') 3072 ≡ 2 * count = omega arith in
-    let e : 2 * min (length (as' ++ (a ∷ []))) 3072 ≡ 2 * count + 2 = omega (arith, length-append as' (a ∷ [])) in
-    rw (e, add-one) (front-next os origins (2 * count) (x ∷ y ∷ []) (omega arith) (omega arith) (rw n at is))
-
-pub pairs-full : {A : Type 0} (as' : List A) (a : A) (os vs origins : List ℕ) → 3072 ≤ length as' → length os ≡ 2 * length as'
-    → take (2 * min (length as') 3072) origins ≡ take (2 * min (length as') 3072) os
-    → take (2 * min (length (as' ++ (a ∷ []))) 3072) origins ≡ take (2 * min (length (as' ++ (a ∷ []))) 3072) (os ++ vs)
-pairs-full as' a os vs origins full long is =
-    let e : min (length (as' ++ (a ∷ []))) 3072 ≡ min (length as') 3072 = omega (arith, length-append as' (a ∷ [])) in
-    rw (e, take-append-le (2 * min (length as') 3072) os vs (omega arith)) is

@@ -4,14 +4,17 @@ use mathlib.Core.Path.{_≡_}
 use mathlib.Core.Bool.{Bool, true, false, _||_, not, cond}
 use mathlib.Core.List.{List, [], _∷_, _++_}
 use Prim.Native.Nat.{ℕ, zero, suc, _+_, _*_, _≤_, _<_, min}
-use lib.Dec.{leb, eqb}
+use lib.Dec.{ltb, leb, eqb}
 use lib.ListN.{length, getD, take, drop}
-use Rattle.wire.specs.Bytes.{places}
+use lib.Seq.{sets}
+use Rattle.wire.specs.Bytes.{every, places}
 use Rattle.transducer.specs.declared.Arc.{Arc}
+use Rattle.transducer.specs.declared.Final.{Final}
 use Rattle.transducer.specs.Format.{weight-good, arc-at}
-use Rattle.transducer.specs.Encode.{arc-records}
+use Rattle.transducer.specs.Encode.{final-records, arc-records}
+use Rattle.explore.specs.declared.FinalsPut.{FinalsPut}
 use Rattle.explore.specs.declared.Walk.{Walk}
-use Rattle.explore.specs.Explore.{there, place}
+use Rattle.explore.specs.Explore.{Step, there, place}
 use Rattle.explore.specs.Chain.{Chained}
 
 -- A step by keys: the key of the state where it leads, its labels and weight, and the numbers that say where it comes from.
@@ -21,6 +24,16 @@ pub record Keyed : Type 0 where
   pub output : ℕ
   pub weight : ℕ
   pub origins : List ℕ
+
+-- A step between states as a step by keys.
+unfoldable pub keyed : {A O : Type 0} → (pack : A → ℕ) → (os : O → List ℕ) → Step A O → Keyed
+keyed pack os s =
+    record { target = pack (s .target); input = s .input; output = s .output; weight = s .weight; origins = os (s .origin) }
+
+-- The origins of some steps, one behind the other.
+unfoldable pub all-origins : {A O : Type 0} → (os : O → List ℕ) → List (Step A O) → List ℕ
+all-origins os [] = []
+all-origins os (s ∷ ss) = os (s .origin) ++ all-origins os ss
 
 -- What has been built so far: the keys of the states met, the arcs, their origins, and whether a weight is out of range.
 pub record Sofar : Type 0 where
@@ -65,15 +78,33 @@ begun first = record { keys = first ∷ []; arcs = []; origins = []; dear = fals
 unfoldable pub explored : (next : ℕ → List Keyed) → (first : ℕ) → Sofar
 explored next first = served-from next 1025 0 (begun first)
 
--- How the buffers hold the arcs, each with `width` origins: their records from 10,252 on (behind room for 1,024 finals), at most 3,072 of them.
-pub record Recorded (width : ℕ) (as' : List Arc) (os : List ℕ) (dear : Bool) (w : Walk) (table origins : List ℕ) : Type 0 where
+-- How a buffer holds the arcs: their records from 10,252 on (behind room for 1,024 finals), at most 3,072 of them.
+pub record Arcs-held (as' : List Arc) (dear : Bool) (w : Walk) (table : List ℕ) : Type 0 where
   pub arcs-are : w .arcs ≡ min (length as') 3073
   pub dear-is : w .dear ≡ dear
   pub table-long : 59404 ≤ length table
-  pub origins-long : width * 3072 ≤ length origins
-  pub paired : length os ≡ width * length as'
   pub written : take (16 * min (length as') 3072) (drop 10252 table) ≡ arc-records (take 3072 as')
-  pub traced : take (width * min (length as') 3072) origins ≡ take (width * min (length as') 3072) os
+
+-- How a buffer holds the origins of `count` arcs, `width` for each: those of the first 3,072 arcs from the front on.
+pub record Origins-held (width count : ℕ) (os origins : List ℕ) : Type 0 where
+  pub origins-long : width * 3072 ≤ length origins
+  pub paired : length os ≡ width * count
+  pub traced : take (width * min count 3072) origins ≡ take (width * min count 3072) os
+
+pub record Recorded (width : ℕ) (as' : List Arc) (os : List ℕ) (dear : Bool) (w : Walk) (table origins : List ℕ) : Type 0 where
+  pub arcs-held : Arcs-held as' dear w table
+  pub origins-held : Origins-held width (length as') os origins
+
+-- The origins of the arc of number `count` are written where there is room for that arc.
+unfoldable pub traced-by : (width count : ℕ) → (vs origins : List ℕ) → List ℕ
+traced-by width count vs origins = cond (ltb count 3072) (sets origins (width * count) vs) origins
+
+-- An arc is written where there is room, and counted; nothing else changes.
+pub record Records (a : Arc) (w w' : Walk) (table table' : List ℕ) : Type 0 where
+  pub states-stay : w' .states ≡ w .states
+  pub full-stays : w' .full ≡ w .full
+  pub one-more : (as' : List Arc) (dear : Bool) → Arcs-held as' dear w table
+      → Arcs-held (as' ++ (a ∷ [])) (dear || not (weight-good (a .weight))) w' table'
 
 -- How the buffers hold all that has been built.
 pub record Walked (width : ℕ) (b : Sofar) (w : Walk) (table origins states heads links : List ℕ) : Type 0 where
@@ -107,3 +138,9 @@ stored-arc table i = arc-at table (10252 + 16 * i)
 
 unfoldable pub stored-arcs : List ℕ → (count : ℕ) → List Arc
 stored-arcs table count = places count 0 1 (stored-arc table)
+
+-- Some finals, written from 12 on.
+pub record Finals-stored (fs : List Final) (r : FinalsPut) (table table' : List ℕ) : Type 0 where
+  pub count-is : r .count ≡ length fs
+  pub dear-is : r .dear ≡ not (every (λ f. weight-good (f .weight)) fs)
+  pub stored : table' ≡ sets table 12 (final-records fs)

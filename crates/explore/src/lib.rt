@@ -1,12 +1,22 @@
-// States numbered as first reached: the index of stored states.
+// States numbered as first reached: the index of stored states, and the arcs of a walk.
 ghost use mathlib.Core.Path.{_≡_};
 ghost use mathlib.Core.Bool.{false};
 ghost use mathlib.Core.List.{List, [], _∷_, _++_};
-ghost use Prim.Native.Nat.{ℕ, _+_, _≤_, _<_};
+ghost use Prim.Native.Nat.{ℕ, _+_, _*_, _≤_, _<_};
 ghost use lib.Dec.{eqb};
 ghost use lib.ListN.{length};
+ghost use lib.Seq.{sets};
+ghost use Rattle.transducer.specs.Encode.{arc-records};
 ghost use Rattle.explore.specs.Explore.{there, place};
 ghost use Rattle.explore.specs.Chain.{bucket-of, Chained};
+ghost use Rattle.explore.specs.Walk.{with-key, Records, stored-arcs};
+use transducer::Arc;
+
+// The most arcs that are written.
+pub const MAX_ARCS: usize = 3072;
+
+// Where the arcs are written until the number of finals is known: behind room for 1,024 finals.
+const ARCS_AT: usize = 10252;
 
 // The bucket of a key.
 pub fn bucket(key: u32) -> usize
@@ -60,10 +70,74 @@ pub fn find(
     }
 }
 
+// Stores a key that was found under the number of the next one, which is to say not at all; how many are stored then.
+pub fn store_new(
+    states: &mut [u32],
+    heads: &mut [u16; 1024],
+    links: &mut [u16; 1024],
+    count: usize,
+    key: u32,
+    number: usize,
+) -> usize
+    requires { ⌜ (number < 1024) × (1024 ≤ length (now states)) ⌝ }
+    ensures { λ r. ⌜ ((xs : List ℕ) → length xs ≡ count → number ≡ place eqb key xs →
+        Chained xs (now (states .entry)) (now (heads .entry)) (now (links .entry)) →
+        Chained (with-key key xs) (now (states .exit)) (now (heads .exit)) (now (links .exit)) × (r ≡ length (with-key key xs))) ⌝ }
+{
+    if number == count {
+        insert(states, heads, links, count, key);
+        return count + 1;
+    }
+    count
+}
+
 // How far a walk has come: states met, arcs (3,073 stands for more than 3,072), a weight out of range, more than 1,024 states met.
 pub struct Walk {
     pub states: usize,
     pub arcs: usize,
     pub dear: bool,
     pub full: bool,
+}
+
+// The finals written, and whether one of their weights is out of range.
+pub struct FinalsPut {
+    pub count: usize,
+    pub dear: bool,
+}
+
+// Writes an arc's record where there is room for it, and tells how far the walk has come with it.
+pub fn record_arc(table: &mut [u8], w: Walk, arc: Arc) -> Walk
+    requires { ⌜ 59404 ≤ length (now table) ⌝ }
+    ensures { λ r. ⌜ Records arc w r (now (table .entry)) (now (table .exit)) ⌝ }
+{
+    let dear = w.dear | !transducer::weight_ok(arc.weight);
+    let arcs = w.arcs;
+    if arcs < MAX_ARCS {
+        transducer::put_arc(table, ARCS_AT + 16 * arcs, arc);
+        return Walk {
+            states: w.states,
+            arcs: arcs + 1,
+            dear: dear,
+            full: w.full,
+        };
+    }
+    Walk {
+        states: w.states,
+        arcs: MAX_ARCS + 1,
+        dear: dear,
+        full: w.full,
+    }
+}
+
+// Moves the arcs' records to their place behind the finals.
+pub fn move_arcs(table: &mut [u8], first: usize, arcs: usize)
+    requires { ⌜ (first ≤ 10252) × (10252 + 16 * arcs ≤ length (now table)) ⌝ }
+    ensures { λ _. ⌜ now (table .exit) ≡ sets (now (table .entry)) first (arc-records (stored-arcs (now (table .entry)) arcs)) ⌝ }
+{
+    let mut j = 0;
+    while j < arcs {
+        let a = transducer::load_arc(table, ARCS_AT + 16 * j);
+        transducer::put_arc(table, first + 16 * j, a);
+        j += 1;
+    }
 }

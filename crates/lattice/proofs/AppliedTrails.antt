@@ -16,7 +16,8 @@ use Rattle.transducer.specs.Path.{arc, runs, ends, non-empty, read-by, written-
 use Rattle.transducer.specs.Weight.{plus}
 use Rattle.transducer.proofs.Paths.{Runs, runs-cons, cons-runs, empty-passed, symbol-kept}
 use Rattle.explore.specs.Explore.{Step}
-use Rattle.explore.proofs.Trail.{Trail, inputs, outputs, weights}
+use Rattle.explore.proofs.Member.{mem-in, in-mem}
+use Rattle.explore.proofs.Trails.{Trail, inputs, outputs, weights}
 use Rattle.lattice.specs.Apply.{State, step, steps, final-state}
 use Rattle.lattice.proofs.AppliedSteps.{empty-step, symbol-step, OfArc, of-empty, of-symbol, Move, step-move, move-step, same-origin}
 
@@ -86,10 +87,9 @@ leads-step cs t x s ss y i below leaves (of-empty e made) = rw made (leads-empty
 leads-step cs t x s ss y i below leaves (of-symbol h here fit made) = rw made (leads-symbol cs t x i ss y below leaves h here fit)
 
 pub trail-leads : (cs : List ℕ) (t : Transducer) (x : State) (ss : List (Step State ℕ)) (y : State) → Trail (steps cs t) x ss y → Leads cs t x ss y
-unfolding Trail
 trail-leads cs t x [] y h = leads-none cs t x y h
 trail-leads cs t x (s ∷ ss) y h =
-    let m : Move cs t x s = step-move cs t x s (h .0) in
+    let m : Move cs t x s = step-move cs t x s (mem-in (h .0)) in
     leads-step cs t x s ss y (m .number) (m .below) (m .leaves) (m .made) (trail-leads cs t (s .target) ss y (h .1))
 
 -- Every path that reads what is left of the string has a trail
@@ -104,19 +104,19 @@ pub record Followed (cs : List ℕ) (t : Transducer) (x : State) (p : List ℕ) 
 
 followed-step : (cs : List ℕ) (t : Transducer) (x : State) (s : Step State ℕ) (i : ℕ) (p : List ℕ) → Mem s (steps cs t x) → s .origin ≡ i
     → s .target .state ≡ arc t i .target → Followed cs t (s .target) p → Followed cs t x (i ∷ p)
-unfolding Trail numbers ends
+unfolding numbers ends
 followed-step cs t x s i p m o e r =
     record {
       taken = s ∷ r .taken;
       last = r .last;
-      trail = (m, r .trail);
+      trail = (in-mem m, r .trail);
       path = ap₂ _∷_ o (r .path);
       at-end = r .at-end;
       in-state = r .in-state ∙ ap (λ (q : ℕ). ends t q p) e;
     }
 
 followed-none : (cs : List ℕ) (t : Transducer) (x : State) → x .position ≤ length cs → [] ≡ drop (x .position) cs → Followed cs t x []
-unfolding Trail numbers ends
+unfolding numbers ends
 followed-none cs t x h e =
     let l : 0 ≡ length (drop (x .position) cs) = ap length e in
     let at-end : x .position ≡ length cs = omega (arith, length-drop (x .position) cs) in
@@ -165,14 +165,14 @@ path-followed cs t (i ∷ p) x h run e = on (eqb (arc t i .input) 0) refl (path-
 
 pub never-two : (cs : List ℕ) (t : Transducer) (x : State) (ss ss' : List (Step State ℕ)) (y y' : State) → Trail (steps cs t) x ss y
     → Trail (steps cs t) x ss' y' → numbers ss ≡ numbers ss' → ss ≡ ss'
-unfolding Trail numbers
+unfolding numbers
 never-two cs t x [] [] y y' h h' e = refl
 never-two cs t x [] (s ∷ ss) y y' h h' e = let z : _≡_ {A = ℕ} 0 1 = cc in absurd (omega arith)
 never-two cs t x (s ∷ ss) [] y y' h h' e = let z : _≡_ {A = ℕ} 0 1 = cc in absurd (omega arith)
 never-two cs t x (s ∷ ss) (s' ∷ ss') y y' h h' e =
     let o : s .origin ≡ s' .origin = cc in
     let os : map (λ (s : Step State ℕ). s .origin) ss ≡ map (λ (s : Step State ℕ). s .origin) ss' = cc in
-    let same : s ≡ s' = same-origin cs t x s s' (h .0) (h' .0) o in
+    let same : s ≡ s' = same-origin cs t x s s' (mem-in (h .0)) (mem-in (h' .0)) o in
     let rest : Trail (steps cs t) (s .target) ss' y' = rw same (h' .1) in
     ap₂ _∷_ same (never-two cs t (s .target) ss ss' y y' (h .1) rest os)
 

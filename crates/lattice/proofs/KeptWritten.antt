@@ -201,10 +201,11 @@ module _ {t : Transducer} {at : ℕ} where
           origins-are = rw same-numbers (k .origins-are);
         }
 
-    pub arcs-more : {last last-origins : List ℕ} (a' : Arc) (v : ℕ) → arc-useful t a ≡ true → a' ≡ moved t a → v ≡ i → length last ≡ length out
-        → last ≡ sets out (at + 16 * count) (arc-record a') → last-origins ≡ set origins count v → Arcs-kept t at (i + 1) (count + 1) out₀ last origins₀ last-origins
+    pub arcs-more : {last last-origins : List ℕ} (a' : Arc) (v p : ℕ) → arc-useful t a ≡ true → a' ≡ moved t a → v ≡ i → p ≡ count → length last ≡ length out
+        → last ≡ sets out (at + 16 * count) (arc-record a') → last-origins ≡ set origins p v → Arcs-kept t at (i + 1) (count + 1) out₀ last origins₀ last-origins
     unfolding arcs-to numbers-to arc-records
-    arcs-more {last} {last-origins} a' v u e number l put put-origin =
+    arcs-more {last} {last-origins} a' v p u e number compact l put put-there =
+        let put-origin : last-origins ≡ set origins count v = rw compact at put-there in
         let old : List Arc = kept-arcs t (take i (t .arcs)) in
         let numbers : List ℕ = kept-numbers t 0 (take i (t .arcs)) in
         let more : kept-arcs t (take (i + 1) (t .arcs)) ≡ old ++ (a' ∷ []) =

@@ -15,6 +15,7 @@ use Rattle.transducer.specs.Path.{arc, runs, ends, accepts, is-final, final-wei
 use Rattle.transducer.proofs.Paths.{Runs, runs-cons, cons-runs}
 use Rattle.transducer.proofs.Runs.{Accepting, AcceptingBy, accepting-cons, accepts-accepting, Within}
 use Rattle.lattice.specs.Trim.{useful, arc-useful, renumbered, kept-arcs, kept-finals, kept-numbers, trimmed, origins-kept}
+use Rattle.lattice.specs.Lattice.{through}
 use Rattle.lattice.proofs.Useful.{useful-next, start-useful}
 use Rattle.lattice.proofs.Kept.{renumbered-injective, moved, length-kept, KeptAt, kept-at, KeptTo, kept-to, kept-rise, kept-is-final, kept-final-weight}
 
@@ -53,10 +54,6 @@ lone-accepts-nothing p h =
     let z : _≡_ {A = ℕ} 0 1 = cc in
     omega arith
 
--- Where a path leads by origins.
-unfoldable pub led : (origins path : List ℕ) → List ℕ
-led os p = map (λ j. getD os j 0) p
-
 -- The arc that an arc was kept from.
 pub record KeptArc (t : Transducer) (j i : ℕ) : Type 0 where
   pub below : i < length (t .arcs)
@@ -73,19 +70,19 @@ kept-arc t j h =
 -- A path of what is kept, from a useful state
 
 pub record LedFrom (t z : Transducer) (os : List ℕ) (s : ℕ) (p : List ℕ) : Type 0 where
-  pub goes : runs t s (led os p) ≡ true
-  pub there : ends z (renumbered t s) p ≡ renumbered t (ends t s (led os p))
-  pub used : useful t (ends t s (led os p)) ≡ true
-  pub reads : read-by z p ≡ read-by t (led os p)
-  pub writes : written-by z p ≡ written-by t (led os p)
-  pub costs : arcs-cost z p ≡ arcs-cost t (led os p)
+  pub goes : runs t s (through os p) ≡ true
+  pub there : ends z (renumbered t s) p ≡ renumbered t (ends t s (through os p))
+  pub used : useful t (ends t s (through os p)) ≡ true
+  pub reads : read-by z p ≡ read-by t (through os p)
+  pub writes : written-by z p ≡ written-by t (through os p)
+  pub costs : arcs-cost z p ≡ arcs-cost t (through os p)
 
 led-cons : (t z : Transducer) (os : List ℕ) (s j : ℕ) (p : List ℕ) → getD os j 0 < length (t .arcs) → arc z j ≡ moved t (arc t (getD os j 0))
     → arc t (getD os j 0) .source ≡ s → LedFrom t z os (arc t (getD os j 0) .target) p → LedFrom t z os s (j ∷ p)
-unfolding led moved ends read-by written-by arcs-cost
+unfolding through moved ends read-by written-by arcs-cost
 led-cons t z os s j p h e from r =
     record {
-      goes = cons-runs t s (getD os j 0) (led os p) (record { below = h; leaves = from; rest = r .goes });
+      goes = cons-runs t s (getD os j 0) (through os p) (record { below = h; leaves = from; rest = r .goes });
       there = ap (λ (a : Arc). ends z (a .target) p) e ∙ r .there;
       used = r .used;
       reads = ap₂ non-empty (ap (λ (a : Arc). a .input) e) (r .reads);
@@ -95,7 +92,7 @@ led-cons t z os s j p h e from r =
 
 pub kept-led : (t : Transducer) (s : ℕ) (p : List ℕ) → useful t s ≡ true → runs (kept t) (renumbered t s) p ≡ true
     → LedFrom t (kept t) (kept-numbers t 0 (t .arcs)) s p
-unfolding led runs ends read-by written-by arcs-cost kept moved arc-useful
+unfolding through runs ends read-by written-by arcs-cost kept moved arc-useful
 kept-led t s [] u h = record { goes = refl; there = refl; used = u; reads = refl; writes = refl; costs = refl }
 kept-led t s (j ∷ p) u h =
     let i : ℕ = getD (kept-numbers t 0 (t .arcs)) j 0 in
@@ -109,16 +106,16 @@ kept-led t s (j ∷ p) u h =
     (kept-led t (arc t i .target) p (two .1) rest)
 
 pub record Led (t z : Transducer) (os p : List ℕ) : Type 0 where
-  pub accepting : accepts t (led os p) ≡ true
-  pub reads : read-by z p ≡ read-by t (led os p)
-  pub writes : written-by z p ≡ written-by t (led os p)
-  pub cost : path-cost z p ≡ path-cost t (led os p)
+  pub accepting : accepts t (through os p) ≡ true
+  pub reads : read-by z p ≡ read-by t (through os p)
+  pub writes : written-by z p ≡ written-by t (through os p)
+  pub cost : path-cost z p ≡ path-cost t (through os p)
 
 kept-accepted : (t : Transducer) (p : List ℕ) → useful t (t .start) ≡ true → accepts (kept t) p ≡ true → Led t (kept t) (kept-numbers t 0 (t .arcs)) p
 unfolding kept accepts path-cost
 kept-accepted t p u h =
     let os : List ℕ = kept-numbers t 0 (t .arcs) in
-    let last : ℕ = ends t (t .start) (led os p) in
+    let last : ℕ = ends t (t .start) (through os p) in
     let last' : ℕ = ends (kept t) (renumbered t (t .start)) p in
     let both : (runs (kept t) (renumbered t (t .start)) p ≡ true) × (is-final (kept-finals t (t .finals)) last' ≡ true) =
     and-true (runs (kept t) (renumbered t (t .start)) p) (is-final (kept-finals t (t .finals)) last') h in
@@ -126,7 +123,7 @@ kept-accepted t p u h =
     let final : is-final (t .finals) last ≡ true =
     sym (kept-is-final t (t .finals) last (l .used)) ∙ sym (ap (is-final (kept-finals t (t .finals))) (l .there)) ∙ both .1 in
     record {
-      accepting = true-and (runs t (t .start) (led os p)) (is-final (t .finals) last) (l .goes) final;
+      accepting = true-and (runs t (t .start) (through os p)) (is-final (t .finals) last) (l .goes) final;
       reads = l .reads;
       writes = l .writes;
       cost =
@@ -153,8 +150,8 @@ kept-injective t j j' h h' e = on (ltb j j') refl (ltb j' j) refl
     on false c false c' = omega (arith, ltb-false j j' c, ltb-false j' j c')
 
 kept-led-injective : (t : Transducer) (s s' : ℕ) (p p' : List ℕ) → runs (kept t) s p ≡ true → runs (kept t) s' p' ≡ true
-    → led (kept-numbers t 0 (t .arcs)) p ≡ led (kept-numbers t 0 (t .arcs)) p' → p ≡ p'
-unfolding led kept
+    → through (kept-numbers t 0 (t .arcs)) p ≡ through (kept-numbers t 0 (t .arcs)) p' → p ≡ p'
+unfolding through kept
 kept-led-injective t s s' [] [] h h' e = refl
 kept-led-injective t s s' [] (j' ∷ p') h h' e = let z : _≡_ {A = ℕ} 0 1 = cc in absurd (omega arith)
 kept-led-injective t s s' (j ∷ p) [] h h' e = let z : _≡_ {A = ℕ} 0 1 = cc in absurd (omega arith)
@@ -168,7 +165,7 @@ kept-led-injective t s s' (j ∷ p) (j' ∷ p') h h' e =
     (kept-led-injective t (arc (kept t) j .target) (arc (kept t) j' .target) p p' (r .rest) (r' .rest) more)
 
 pub led-injective : (t : Transducer) (s s' : ℕ) (p p' : List ℕ) → runs (trimmed t) s p ≡ true → runs (trimmed t) s' p' ≡ true
-    → led (origins-kept t) p ≡ led (origins-kept t) p' → p ≡ p'
+    → through (origins-kept t) p ≡ through (origins-kept t) p' → p ≡ p'
 led-injective t s s' p p' h h' e = on (useful t (t .start)) refl
   where
     on : (b : Bool) → useful t (t .start) ≡ b → p ≡ p'
@@ -176,16 +173,16 @@ led-injective t s s' p p' h h' e = on (useful t (t .start)) refl
         kept-led-injective t s s' p p' (rw (trimmed-kept t u) at h) (rw (trimmed-kept t u) at h') (rw (origins-some t u) at e)
     on false u = lone-runs s p (rw (trimmed-lone t u) at h) ∙ sym (lone-runs s' p' (rw (trimmed-lone t u) at h'))
 
--- Every accepting path is led to
+-- Every accepting path is through to
 
 pub record LedBy (t z : Transducer) (os q : List ℕ) : Type 0 where
   pub path : List ℕ
   pub accepting : accepts z path ≡ true
-  pub leads : led os path ≡ q
+  pub leads : through os path ≡ q
 
 kept-unled : (t : Transducer) → Within t → (s : ℕ) (q : List ℕ) → useful t s ≡ true → Accepting t s q
-    → (p : List ℕ) × (runs (kept t) (renumbered t s) p ≡ true) × (led (kept-numbers t 0 (t .arcs)) p ≡ q)
-unfolding led runs kept moved arc-useful arc
+    → (p : List ℕ) × (runs (kept t) (renumbered t s) p ≡ true) × (through (kept-numbers t 0 (t .arcs)) p ≡ q)
+unfolding through runs kept moved arc-useful arc
 kept-unled t w s [] u a = ([], refl, refl)
 kept-unled t w s (i ∷ q) u a =
     let os : List ℕ = kept-numbers t 0 (t .arcs) in
@@ -214,7 +211,7 @@ kept-led-by t w q u h =
     let r = kept-unled t w (t .start) q u (accepts-accepting t q h) in
     let p : List ℕ = r .0 in
     let l : LedFrom t (kept t) os (t .start) p = kept-led t (t .start) p u (r .1) in
-    let last : ℕ = ends t (t .start) (led os p) in
+    let last : ℕ = ends t (t .start) (through os p) in
     let final : is-final (t .finals) last ≡ true = ap (λ (q : List ℕ). is-final (t .finals) (ends t (t .start) q)) (r .2) ∙ accepts-accepting t q h .final in
     let final' : is-final (kept-finals t (t .finals)) (ends (kept t) (renumbered t (t .start)) p) ≡ true =
     ap (is-final (kept-finals t (t .finals))) (l .there) ∙ kept-is-final t (t .finals) last (l .used) ∙ final in

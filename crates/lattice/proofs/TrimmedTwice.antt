@@ -19,7 +19,8 @@ use Rattle.lattice.specs.Trim.{entered, left-for, comes-to, gets-out, us
 use Rattle.lattice.proofs.Counted.{count, CountedAt, count-onto}
 use Rattle.lattice.proofs.Useful.{OnPath, useful-on-path, on-path-useful, on-path-accepts, accepts-on-path}
 use Rattle.lattice.proofs.Kept.{renumbered-count}
-use Rattle.lattice.proofs.Trimmed.{kept, lone, trimmed-kept, trimmed-lone, led, LedFrom, kept-led, LedBy, kept-led-by}
+use Rattle.lattice.specs.Lattice.{through}
+use Rattle.lattice.proofs.Trimmed.{kept, lone, trimmed-kept, trimmed-lone, LedFrom, kept-led, LedBy, kept-led-by}
 use Rattle.lattice.proofs.TrimmedGood.{kept-good}
 
 -- A path that leads to two laid end to end is itself two.
@@ -27,10 +28,10 @@ pub record Split (os p q r : List ℕ) : Type 0 where
   pub front : List ℕ
   pub back : List ℕ
   pub whole : p ≡ front ++ back
-  pub front-leads : led os front ≡ q
+  pub front-leads : through os front ≡ q
 
-pub led-split : (os p q r : List ℕ) → led os p ≡ q ++ r → Split os p q r
-unfolding led
+pub led-split : (os p q r : List ℕ) → through os p ≡ q ++ r → Split os p q r
+unfolding through
 led-split os p [] r e = record { front = []; back = p; whole = refl; front-leads = refl }
 led-split os [] (i ∷ q) r e = let z : _≡_ {A = ℕ} 0 1 = cc in absurd (omega arith)
 led-split os (j ∷ p) (i ∷ q) r e =
@@ -40,7 +41,7 @@ led-split os (j ∷ p) (i ∷ q) r e =
     record { front = j ∷ s .front; back = s .back; whole = ap (λ (l : List ℕ). j ∷ l) (s .whole); front-leads = ap₂ _∷_ one (s .front-leads) }
 
 kept-on-front : (t : Transducer) (s : ℕ) (front back before : List ℕ) → useful t (t .start) ≡ true → accepts (kept t) (front ++ back) ≡ true
-    → led (kept-numbers t 0 (t .arcs)) front ≡ before → ends t (t .start) before ≡ s → OnPath (kept t) (renumbered t s)
+    → through (kept-numbers t 0 (t .arcs)) front ≡ before → ends t (t .start) before ≡ s → OnPath (kept t) (renumbered t s)
 unfolding kept
 kept-on-front t s front back before u a e here =
     let o : OnPath (kept t) (ends (kept t) (renumbered t (t .start)) front) = accepts-on-path (kept t) front back a in

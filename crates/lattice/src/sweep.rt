@@ -107,13 +107,10 @@ fn get_out(bytes: &[u8], first: usize, arcs: usize, finals: usize) -> [bool; 102
 fn both(a: bool, b: bool) -> u16
     ensures { λ r. ⌜ r ≡ cond (a && b) 1 0 ⌝ }
 {
-    if !a {
-        return 0;
+    if a & b {
+        return 1;
     }
-    if !b {
-        return 0;
-    }
-    1
+    0
 }
 
 // At each state up to and with `states`, how many states before it have both marks.

@@ -1,7 +1,7 @@
 // Trimming: what lies on accepting paths, in its order, renumbered.
 ghost use mathlib.Core.Path.{_≡_};
 ghost use Prim.Native.Nat.{_+_, _*_, _≤_, _<_};
-ghost use lib.ListN.{length};
+ghost use lib.ListN.{length, getD};
 ghost use lib.Seq.{sets};
 ghost use Rattle.transducer.specs.Format.{refusal, decode, head-finals};
 ghost use Rattle.transducer.specs.Encode.{final-records};
@@ -61,6 +61,7 @@ fn put_arcs(
         let a = transducer::arc_of(bytes, first, i);
         let s = a.source as usize;
         let t = a.target as usize;
+        let number = i;
         i += 1;
         if index[s] == index[s + 1] {
             continue;
@@ -76,10 +77,18 @@ fn put_arcs(
             weight: a.weight,
         };
         transducer::put_arc(out, at + 16 * count, kept);
-        origins[count] = (i - 1) as u16;
+        origins[count] = number as u16;
         count += 1;
     }
     count
+}
+
+// The new number of a state.
+fn new_number(index: &[u16; 1025], state: usize) -> u16
+    requires { ⌜ state < 1025 ⌝ }
+    ensures { λ r. ⌜ r ≡ getD (now (index .entry)) state 0 ⌝ }
+{
+    index[state]
 }
 
 // Writes what trimming leaves of accepted bytes, and for each arc the number that it had. Answers the length in bytes.
@@ -104,7 +113,13 @@ pub fn trim_into(table: &[u8], out: &mut [u8], origins: &mut [u16]) -> usize
     let at = 12 + 10 * finals;
     let arcs = put_arcs(table, first, m, &index, at, out, origins);
     let end = at + 16 * arcs;
-    transducer::put_head(out, index[n], arcs as u16, finals as u16, index[start]);
+    transducer::put_head(
+        out,
+        index[n],
+        arcs as u16,
+        finals as u16,
+        new_number(&index, start),
+    );
     wire::clear8(out, end);
     wire::clear16(origins, arcs);
     end

@@ -6,9 +6,11 @@ ghost use lib.ListN.{length};
 
 mod codec;
 mod composing;
+mod latticing;
 mod lent;
 mod load;
 mod show;
+mod telling;
 
 // The bytes that all cases take at most.
 const INPUT: usize = 524288;
@@ -19,7 +21,12 @@ fn call(number: u8, case: &[u8], room: u8) {
         1 => codec::read(case, room),
         2 => codec::write(case, room),
         3 => codec::round_trip(case),
-        _ => composing::compose(case, room),
+        4 => composing::compose(case, room),
+        5 => latticing::apply(case, room),
+        6 => latticing::trim(case, room),
+        7 => telling::count(case),
+        8 => telling::nth(case, room),
+        _ => telling::shortest(case, room),
     }
 }
 

@@ -11,6 +11,8 @@ pub mod Walk
 pub mod Ready
 pub mod CountsInPlace
 pub mod MarksInPlace
+pub mod EndlessMarks
+pub mod DeadMarks
 pub mod CountSays
 pub mod Steps
 pub mod Telling

@@ -1,6 +1,6 @@
 -- What is known of accepted bytes and their first-arc index: states, arcs and their ranges. Assumes nothing.
-use mathlib.Core.Path.{_≡_, sym, ap, _∙_}
-use mathlib.Core.Bool.{Bool, true, false, cond}
+use mathlib.Core.Path.{_≡_, refl, sym, ap, _∙_}
+use mathlib.Core.Bool.{Bool, true, false, not, cond}
 use mathlib.Core.List.{List}
 use Prim.Native.Nat.{ℕ, _+_, _*_, _≤_, _<_}
 use native.Mathlib.Omega.{arith}
@@ -101,11 +101,20 @@ module _ (t : Transducer) (good : Content t) (s from to : ℕ) (r : Range t s fr
   pub in-range : (i : ℕ) → i < length (t .arcs) → arc t i .source ≡ s → (from ≤ i) × (i < to)
   in-range i l e = let both = arcs-of-state t i s good l e in (omega (arith, both .0, r .from-is), omega (arith, both .1, r .to-is))
 
+-- A final code is 0 where the state is not final.
+pub code-final : (t : Transducer) (codes : List ℕ) (s code : ℕ) → Finals-by-state t codes → s < 1024 → code ≡ getD codes s 0 → eqb code 0 ≡ not (is-final (t .finals) s)
+unfolding final-code
+code-final t codes s code f h e = on (is-final (t .finals) s) (e ∙ f .at-state s h)
+  where
+    on : (b : Bool) → code ≡ cond b (final-weight (t .finals) s + 1) 0 → eqb code 0 ≡ not b
+    on true q = ne-eqb code 0 (λ z. omega arith)
+    on false q = eq-eqb code 0 q
+
 -- The count of the empty path by a final code.
 pub own-code : (t : Transducer) (codes : List ℕ) (s code : ℕ) → Finals-by-state t codes → s < 1024 → code ≡ getD codes s 0 → cond (eqb code 0) 0 1 ≡ own t s
-unfolding final-code own
-own-code t codes s code f h e = on (is-final (t .finals) s) (e ∙ f .at-state s h)
+unfolding own
+own-code t codes s code f h e = rw (code-final t codes s code f h e) (on (is-final (t .finals) s))
   where
-    on : (b : Bool) → code ≡ cond b (final-weight (t .finals) s + 1) 0 → _≡_ {A = ℕ} (cond (eqb code 0) 0 1) (cond b 1 0)
-    on true q = rw (ne-eqb code 0 (λ z. omega arith))
-    on false q = rw (eq-eqb code 0 q)
+    on : (b : Bool) → _≡_ {A = ℕ} (cond (not b) 0 1) (cond b 1 0)
+    on true = refl
+    on false = refl

@@ -4,19 +4,17 @@ use mathlib.Core.Path.{_≡_, refl, sym, ap, _∙_}
 use mathlib.Core.Bool.{Bool, true, false, _&&_, not}
 use Prim.Native.Nat.{ℕ, zero, suc, _≤_, _<_}
 use native.Mathlib.Omega.{arith}
-use lib.Dec.{eqb, ltb}
+use lib.Dec.{eqb}
 use lib.ListN.{length}
-use borrow.Author.Tests.{eqb-true, eqb-false, ltb-true, lt-ltb, not-true}
+use borrow.Author.Tests.{eqb-true, eqb-false, not-true}
 use Rattle.wire.proofs.Places.{and-true, true-and}
 use Rattle.transducer.specs.Format.{Transducer}
 use Rattle.transducer.specs.Path.{arc}
 use Rattle.transducer.proofs.Runs.{Within, accepts-accepting}
 use Rattle.paths.specs.Count.{some-arc, can-accept, goes-on, endless}
-use Rattle.paths.specs.Tally.{add-all}
-use Rattle.paths.specs.Sweep.{Rising, Stopping}
+use Rattle.paths.specs.Sweep.{Stopping}
 use Rattle.paths.proofs.GoesOn.{some-arc-true, true-some-arc, can-accept-some, goes-on-path, path-goes-on}
 use Rattle.paths.proofs.Endless.{endless-longer}
-use Rattle.paths.proofs.Sweep.{settled-accepts}
 
 same-truth : (a b : Bool) → (a ≡ true → b ≡ true) → (b ≡ true → a ≡ true) → a ≡ b
 same-truth true b f g = sym (f refl)
@@ -26,20 +24,9 @@ same-truth false false f g = refl
 never-both : {A : Type 0} (b : Bool) → b ≡ true → b ≡ false → A
 never-both b p q = let z : _≡_ {A = ℕ} 0 1 = cc in absurd (omega arith)
 
--- A settled count that is not 0 tells that something accepts.
-pub settled-can-accept : (t : Transducer) → Within t → (c : ℕ → ℕ) → Rising t c → ((s : ℕ) → s < t .states → c s ≡ add-all t c s)
-    → (s : ℕ) → s < t .states → ltb 0 (c s) ≡ can-accept (t .states) t s
-settled-can-accept t w c r e s b =
-    same-truth (ltb 0 (c s)) (can-accept (t .states) t s)
-    (λ h. can-accept-some t w s b .1 (settled-accepts t w c r e s b .0 (ltb-true 0 (c s) h)))
-    (λ h. lt-ltb 0 (c s) (settled-accepts t w c r e s b .1 (can-accept-some t w s b .0 h)))
-
 -- Whether some arc of a state leads to an unmarked one from which something accepts.
 unfoldable pub open-arc : Transducer → (live marked : ℕ → Bool) → (s : ℕ) → Bool
 open-arc t live g s = some-arc (t .arcs) s (λ u. live u && not (g u))
-
-pub stopping-none : (t : Transducer) (g : ℕ → Bool) → ((s : ℕ) → s < t .states → g s ≡ false) → Stopping t g
-stopping-none t g h = record { rounds = 0; stops = λ s b e. never-both (g s) e (h s b) }
 
 goes-on-less : (k : ℕ) (t : Transducer) → Within t → (s : ℕ) → s < t .states → goes-on k t s ≡ false → goes-on (suc k) t s ≡ false
 goes-on-less k t w s b h = on (goes-on (suc k) t s) refl

@@ -2,23 +2,19 @@
 -- They never come above a tally, and where each is the sum of those where its arcs lead they are not below one. Assumes nothing.
 use mathlib.Core.Path.{_≡_, refl, ap, _∙_}
 use mathlib.Core.Bool.{Bool, true, false}
-use mathlib.Core.Logic.{_↔_}
-use mathlib.Core.List.{List, [], _∷_}
-use mathlib.Core.List.{List·Memᴰ as Mem, List·Memᴰ·not-nil as none-in}
+use mathlib.Core.List.{List}
 use Prim.Native.Nat.{ℕ, zero, suc, _+_, _*_, _≤_, _<_, min}
 use native.Mathlib.Nat.{not-suc-le-zero}
 use native.Mathlib.Omega.{arith}
 use lib.Dec.{eqb}
-use lib.ListN.{length, getD}
+use lib.ListN.{length}
 use borrow.Author.Tests.{eqb-true, eqb-false}
 use Rattle.transducer.specs.Format.{Transducer}
 use Rattle.transducer.specs.Path.{arc}
-use Rattle.transducer.proofs.Members.{getD-in}
-use Rattle.transducer.proofs.Runs.{Accepting, Within}
-use Rattle.paths.specs.Count.{paths-from, paths, endless, path-count, most-counted}
+use Rattle.transducer.proofs.Runs.{Within}
+use Rattle.paths.specs.Count.{paths, endless, path-count, most-counted}
 use Rattle.paths.specs.Tally.{own, add-all, tally}
 use Rattle.paths.specs.Sweep.{Rising, total}
-use Rattle.paths.proofs.Listed.{in-paths-from, paths-from-has}
 use Rattle.paths.proofs.Endless.{all-from, Finite, finite-same, endless-false-finite}
 use Rattle.paths.proofs.Tally.{add-all-monotone, own-add-all, tally-length, tally-most, tally-suc, tally-monotone}
 
@@ -145,31 +141,6 @@ counts-start t w c h e = h (t .start) (endless-false-finite t w e)
 pub settled-path-count : (t : Transducer) → Within t → (c : ℕ → ℕ) → Rising t c → ((s : ℕ) → s < t .states → c s ≡ add-all t c s)
     → endless t ≡ false → c (t .start) ≡ path-count t
 settled-path-count t w c r e h = counts-start t w c (settled-counts t w c r e) h
-
--- A count is not 0 exactly where some accepting path begins, endless or not.
-pub settled-accepts : (t : Transducer) → Within t → (c : ℕ → ℕ) → Rising t c → ((s : ℕ) → s < t .states → c s ≡ add-all t c s)
-    → (s : ℕ) → s < t .states → (0 < c s) ↔ ((p : List ℕ) × Accepting t s p)
-settled-accepts t w c r e s b = (there, back)
-  where
-    there : 0 < c s → (p : List ℕ) × Accepting t s p
-    there h =
-        let k = r .rounds in
-        let same : c s ≡ tally k t s = settled-tally t w c r e k s b (omega arith) in
-        let long : tally k t s ≡ min 99 (length (paths-from k t s)) = tally-length k t s in
-        let m : Mem (getD (paths-from k t s) 0 []) (paths-from k t s) = getD-in (paths-from k t s) 0 [] (omega arith) in
-        (getD (paths-from k t s) 0 [], in-paths-from k t s (getD (paths-from k t s) 0 []) m .0)
-
-    some : (l : List (List ℕ)) (p : List ℕ) → Mem p l → 0 < length l
-    some [] p m = absurd (none-in m)
-    some (q ∷ l) p m = omega arith
-
-    back : (p : List ℕ) × Accepting t s p → 0 < c s
-    back (p, a) =
-        let k : ℕ = r .rounds + length p in
-        let same : c s ≡ tally k t s = settled-tally t w c r e k s b (omega arith) in
-        let long : tally k t s ≡ min 99 (length (paths-from k t s)) = tally-length k t s in
-        let one : 0 < length (paths-from k t s) = some (paths-from k t s) p (paths-from-has k t s p a (omega arith)) in
-        omega arith
 
 -- Sweeps come to an end: the sum of the counts grows with each change, and is at most 99 for each state.
 

@@ -92,6 +92,10 @@ add-arcs-sum (a ∷ l) s c x h = on (λ y b. add-arcs-sum l s c y b) (eqb (a .so
         let r : add-arcs l s c x ≡ min 99 (x + sum-arcs l s c) = below x h in
         omega arith
 
+-- A sum at its most stays there.
+pub add-arcs-most : (l : List Arc) (s : ℕ) (c : ℕ → ℕ) (x : ℕ) → x ≡ 99 → add-arcs l s c x ≡ x
+add-arcs-most l s c x e = omega (arith, add-arcs-sum l s c x (omega arith))
+
 pub own-small : (t : Transducer) (s : ℕ) → own t s ≤ 1
 unfolding own
 own-small t s = on (is-final (t .finals) s)

@@ -115,7 +115,7 @@ module _ (t : Transducer) (z : Sized t) (p : List ℕ) (room : ℕ) (labels : Li
   telling-put a is q = rw is (telling-symbol (rw is at q))
 
 -- A final weight is in range.
-final-weight-low : (fs : List Final) (s : ℕ) (d : Final) → ((i : ℕ) → i < length fs → getD fs i d .weight ≤ 1000000) → final-weight fs s ≤ 1000000
+pub final-weight-low : (fs : List Final) (s : ℕ) (d : Final) → ((i : ℕ) → i < length fs → getD fs i d .weight ≤ 1000000) → final-weight fs s ≤ 1000000
 unfolding final-weight
 final-weight-low [] s d h = omega arith
 final-weight-low (f ∷ fs) s d h = on (eqb (f .state) s) (final-weight-low fs s d (λ i b. h (suc i) (omega arith)))

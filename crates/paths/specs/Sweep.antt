@@ -3,7 +3,7 @@ use mathlib.Core.Path.{_≡_}
 use mathlib.Core.Bool.{Bool, true, false, not, cond}
 use mathlib.Core.List.{List}
 use Prim.Native.Nat.{ℕ, zero, suc, _+_, _≤_, _<_}
-use lib.ListN.{length, getD}
+use lib.ListN.{length, getD, set}
 use Rattle.transducer.specs.Format.{Transducer, decode}
 use Rattle.transducer.specs.Leaf.{Opened, Indexed}
 use Rattle.paths.specs.declared.Count.{Count}
@@ -44,39 +44,45 @@ pub record Settled (t : Transducer) (cs : List Count) : Type 0 where
   pub rising : Rising t (at-state cs)
   pub sums : Sums t (at-state cs)
 
--- What a sweep over the counts leaves: where it changed none they are settled, where it changed one their sum has grown.
+-- What a sweep over the counts leaves: where no other sweep may change more they are settled, else their sum has grown.
 pub record Swept-says (t : Transducer) (before : List Count) (r : Swept) : Type 0 where
   pub long : length (r .counts) ≡ 1024
   pub rising : Rising t (at-state (r .counts))
-  pub sums : r .changed ≡ false → Sums t (at-state (r .counts))
-  pub grown : r .changed ≡ true → total (t .states) (at-state before) < total (t .states) (at-state (r .counts))
+  pub sums : r .again ≡ false → Sums t (at-state (r .counts))
+  pub grown : r .again ≡ true → total (t .states) (at-state before) < total (t .states) (at-state (r .counts))
 
 -- Marks
 
 unfoldable pub marked : List Bool → (s : ℕ) → Bool
 marked ms s = getD ms s false
 
+-- The states from which nothing accepts are marked, and no others.
+pub record Dead (t : Transducer) (ms : List Bool) : Type 0 where
+  pub long : length ms ≡ 1024
+  pub dead : (s : ℕ) → s < t .states → marked ms s ≡ not (can-accept (t .states) t s)
+
 -- Marks on their way: a marked state has no accepting path of so many arcs.
 pub record Stopping (t : Transducer) (g : ℕ → Bool) : Type 0 where
   pub rounds : ℕ
   pub stops : (s : ℕ) → s < t .states → g s ≡ true → goes-on rounds t s ≡ false
 
--- The same of an array of marks, in which each state is marked from which nothing accepts.
-pub record Marking (t : Transducer) (ms : List Bool) : Type 0 where
-  pub long : length ms ≡ 1024
-  pub stopping : Stopping t (marked ms)
-  pub dead : (s : ℕ) → s < t .states → can-accept (t .states) t s ≡ false → marked ms s ≡ true
-
 -- Whether some arc of a state leads to an unmarked one.
 unfoldable pub leads-on : Transducer → List Bool → (s : ℕ) → Bool
 leads-on t ms s = some-arc (t .arcs) s (λ u. not (marked ms u))
 
--- How many states are unmarked.
-unfoldable pub unmarked : (states : ℕ) → List Bool → ℕ
-unmarked n ms = total n (λ s. cond (marked ms s) 0 1)
+-- Marks changed to one value, state by state: a state may be marked where none of its arcs leads to an unmarked one, and unmarked where one does.
+pub data Changed (t : Transducer) (value : Bool) (before : List Bool) : List Bool → Type 0 where
+  none : Changed t value before before
+  more : {ms after : List Bool} (s : ℕ) → Changed t value before ms → s < t .states → marked ms s ≡ not value → leads-on t ms s ≡ not value
+      → after ≡ set ms s value → Changed t value before after
 
--- What a sweep over the marks leaves: where it set none, each unmarked state leads to another; where it set one, fewer are unmarked.
-pub record Marked-says (t : Transducer) (before after : List Bool) (changed : Bool) : Type 0 where
-  pub marking : Marking t after
-  pub rest : changed ≡ false → (s : ℕ) → s < t .states → marked after s ≡ false → leads-on t after s ≡ true
-  pub fewer : changed ≡ true → unmarked (t .states) after < unmarked (t .states) before
+-- How many states have the other mark.
+unfoldable pub unlike : (value : Bool) → (states : ℕ) → List Bool → ℕ
+unlike value n ms = total n (λ s. cond value (cond (marked ms s) 0 1) (cond (marked ms s) 1 0))
+
+-- What a sweep over the marks leaves: where no other sweep may change more, none can; else fewer states have the other mark.
+pub record Marked-says (t : Transducer) (value : Bool) (before after : List Bool) (again : Bool) : Type 0 where
+  pub long : length after ≡ 1024
+  pub changed : Changed t value before after
+  pub rest : again ≡ false → (s : ℕ) → s < t .states → marked after s ≡ not value → leads-on t after s ≡ value
+  pub fewer : again ≡ true → unlike value (t .states) after < unlike value (t .states) before

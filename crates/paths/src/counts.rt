@@ -1,7 +1,7 @@
 // One running count for each state, updated in place until nothing changes.
 ghost use mathlib.Core.Path.{_≡_};
 ghost use mathlib.Core.Bool.{cond};
-ghost use Prim.Native.Nat.{_<_};
+ghost use Prim.Native.Nat.{_+_, _<_};
 ghost use lib.Dec.{eqb};
 ghost use lib.ListN.{length};
 ghost use Rattle.transducer.specs.Format.{decode};
@@ -49,7 +49,19 @@ pub fn target(table: &[u8], first: usize, i: usize) -> usize
     wire::u16_at(table, first + 16 * i + 10) as usize
 }
 
-// Each count brought up to date by those where the arcs of its state lead, last state first.
+// The arc to read after arc `i`: none before `end` once the sum is at its most.
+fn after(i: usize, end: usize, sum: Count) -> usize
+    requires { ⌜ i < end ⌝ }
+    ensures { λ r. ⌜ r ≡ cond (eqb (sum .value) 99) end (i + 1) ⌝ }
+{
+    if sum.value == MOST {
+        return end;
+    }
+    i + 1
+}
+
+// Each count brought up to date by those where the arcs of its state lead, last state first. Another sweep may change more where this one
+// changed a count and read that of a state which it had yet to come to.
 fn sweep(
     table: &[u8],
     first: usize,
@@ -64,6 +76,7 @@ fn sweep(
 {
     let mut counts = before;
     let mut changed = false;
+    let mut back = false;
     let mut s = states;
     while s > 0 {
         s -= 1;
@@ -73,13 +86,17 @@ fn sweep(
         while i < end {
             let to = target(table, first, i);
             sum = sum.add(counts[to]);
-            i += 1;
+            back = back | (to <= s);
+            i = after(i, end, sum);
         }
         let old = counts[s];
         changed = changed | (old.value != sum.value);
         counts[s] = sum;
     }
-    Swept { counts, changed }
+    Swept {
+        counts,
+        again: changed & back,
+    }
 }
 
 // The counts of the accepting paths from each state.
@@ -97,7 +114,7 @@ pub fn counts_of(
     loop {
         let next = sweep(table, first, states, index, codes, counts);
         let swept = next.counts;
-        if !next.changed {
+        if !next.again {
             break swept;
         }
         counts = swept;

@@ -28,13 +28,14 @@ pub fn count(table: &[u8]) -> Counted
     let first = 12 + 10 * f;
     let index = transducer::first_arcs(table, first, n, head.arcs as usize);
     let codes = transducer::final_codes(table, f);
-    let counts = counts::counts_of(table, first, n, &index, &codes);
-    if marks::is_endless(table, first, n, start, &index, counts) {
+    let dead = marks::dead_states(table, first, n, &index, &codes);
+    if marks::is_endless(table, first, n, start, &index, dead) {
         return Counted {
             refusal: 14,
             count: 0,
         };
     }
+    let counts = counts::counts_of(table, first, n, &index, &codes);
     let all = counts[start];
     Counted {
         refusal: 0,
@@ -76,10 +77,11 @@ pub fn nth(table: &[u8], k: u32, arcs: &mut [u16], labels: &mut [u16]) -> Told
     let first = 12 + 10 * f;
     let index = transducer::first_arcs(table, first, n, head.arcs as usize);
     let codes = transducer::final_codes(table, f);
-    let counts = counts::counts_of(table, first, n, &index, &codes);
-    if marks::is_endless(table, first, n, start, &index, counts) {
+    let dead = marks::dead_states(table, first, n, &index, &codes);
+    if marks::is_endless(table, first, n, start, &index, dead) {
         return refused(14);
     }
+    let counts = counts::counts_of(table, first, n, &index, &codes);
     let all = counts[start];
     if all.value <= k {
         return refused(15);

@@ -6,6 +6,7 @@ mod path;
 
 pub use entry::count as path_count;
 pub use entry::nth as nth_path;
+pub use path::tell;
 
 // A count of paths: 99 stands for 99 or more.
 pub struct Count {
@@ -18,10 +19,10 @@ pub struct Counted {
     pub count: u32,
 }
 
-// Counts after a sweep, and whether it changed one.
+// Counts after a sweep, and whether another one may change more.
 pub struct Swept {
     pub counts: [Count; 1024],
-    pub changed: bool,
+    pub again: bool,
 }
 
 // What a path's telling answers: the refusal or 0, then the cost and how many arcs and labels it has, 0 on refusal.

@@ -5,6 +5,8 @@ use lib.ListN.{getD}
 use Rattle.transducer.specs.declared.Header.{Header}
 use Rattle.transducer.specs.declared.Written.{Written}
 use Rattle.compose.specs.declared.Answer.{Answer}
+use Rattle.paths.specs.declared.Counted.{Counted}
+use Rattle.paths.specs.declared.Told.{Told}
 
 -- The head's numbers in their order: states, arcs, finals, start.
 abbrev pub header : (refusal : ℕ) → (head : List ℕ) → Header
@@ -15,3 +17,10 @@ written r l = record { refusal = r; len = l }
 
 abbrev pub composed : (refusal len : ℕ) → Answer
 composed r l = record { refusal = r; len = l }
+
+abbrev pub counted : (refusal count : ℕ) → Counted
+counted r n = record { refusal = r; count = n }
+
+-- What is told of a path in its order: cost, arcs, labels.
+abbrev pub told : (refusal : ℕ) → (numbers : List ℕ) → Told
+told r h = record { refusal = r; cost = getD h 0 0; arcs = getD h 1 0; labels = getD h 2 0 }

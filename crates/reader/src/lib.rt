@@ -4,7 +4,13 @@ ghost use lib.ListN.{length};
 ghost use Rattle.transducer.specs.Format.{refusal};
 ghost use Rattle.transducer.specs.Entry.{Read-says, read-refusal, Write-says, write-refusal, given};
 ghost use Rattle.compose.specs.Entry.{Compose-says, compose-refusal};
-ghost use Rattle.reader.specs.Answer.{header, written, composed};
+ghost use Rattle.lattice.specs.ApplyEntry.{Apply-says, apply-refusal};
+ghost use Rattle.lattice.specs.TrimEntry.{Trim-says, trim-refusal};
+ghost use Rattle.paths.specs.Entry.{Count-says, count-refusal, Nth-says, nth-refusal};
+ghost use Rattle.shortest.specs.Entry.{Shortest-says, shortest-refusal};
+ghost use Rattle.claim.specs.Entry.{Readings-says};
+ghost use Rattle.listing.specs.Entry.{Listing-says, text-room};
+ghost use Rattle.reader.specs.Answer.{header, written, composed, counted, told};
 
 // Refusals 1 to 8 of a transducer's bytes, or 0 where they are accepted.
 #[no_mangle]
@@ -85,6 +91,138 @@ pub extern "C" fn forthwn_compose(
         (composed r (now (len .exit))) (now (table .entry)) (now (table .exit)) (now (origins .entry)) (now (origins .exit)) (now (states .entry)) (now (states .exit)) ⌝ }
 {
     let answer = compose::compose(left, right, table, origins, states);
+    *len = answer.len;
+    answer.refusal
+}
+
+// Applies a string to a transducer: the lattice into a lent buffer, the origins of its arcs, and the number of bytes into `len`; the
+// pairs are lent to work in.
+#[no_mangle]
+pub extern "C" fn forthwn_apply(
+    string: &[u16],
+    table: &[u8],
+    lattice: &mut [u8],
+    origins: &mut [u16],
+    pairs: &mut [u32],
+    len: &mut u32,
+) -> u32
+    ensures { λ r. ⌜ Apply-says (now (string .entry)) (now (table .entry))
+        (apply-refusal (now (string .entry)) (now (table .entry)) (length (now (lattice .entry))) (length (now (origins .entry))) (length (now (pairs .entry))))
+        (written r (now (len .exit))) (now (lattice .entry)) (now (lattice .exit)) (now (origins .entry)) (now (origins .exit)) (now (pairs .entry)) (now (pairs .exit)) ⌝ }
+{
+    let answer = lattice::apply(string, table, lattice, origins, pairs);
+    *len = answer.len;
+    answer.refusal
+}
+
+// Trims a transducer into a lent buffer, with the number that each kept arc had, and puts the number of bytes into `len`.
+#[no_mangle]
+pub extern "C" fn forthwn_trim(
+    table: &[u8],
+    out: &mut [u8],
+    origins: &mut [u16],
+    len: &mut u32,
+) -> u32
+    ensures { λ r. ⌜ Trim-says (now (table .entry)) (trim-refusal (now (table .entry)) (length (now (out .entry))) (length (now (origins .entry))))
+        (written r (now (len .exit))) (now (out .entry)) (now (out .exit)) (now (origins .entry)) (now (origins .exit)) ⌝ }
+{
+    let answer = lattice::trim(table, out, origins);
+    *len = answer.len;
+    answer.refusal
+}
+
+// Puts the number of accepting paths into `count`, 99 standing for 99 or more.
+#[no_mangle]
+pub extern "C" fn forthwn_count(table: &[u8], count: &mut u32) -> u32
+    ensures { λ r. ⌜ Count-says (now (table .entry)) (count-refusal (now (table .entry))) (counted r (now (count .exit))) ⌝ }
+{
+    let answer = paths::path_count(table);
+    *count = answer.count;
+    answer.refusal
+}
+
+// The k-th path: its arcs and labels into lent buffers, and its cost, number of arcs and number of labels into `numbers`.
+#[no_mangle]
+pub extern "C" fn forthwn_nth(
+    table: &[u8],
+    k: u32,
+    arcs: &mut [u16],
+    labels: &mut [u16],
+    numbers: &mut [u64; 3],
+) -> u32
+    ensures { λ r. ⌜ Nth-says (now (table .entry)) k
+        (nth-refusal (now (table .entry)) k (length (now (arcs .entry))) (length (now (labels .entry))))
+        (told r (now (numbers .exit))) (now (arcs .entry)) (now (arcs .exit)) (now (labels .entry)) (now (labels .exit)) ⌝ }
+{
+    let answer = paths::nth_path(table, k, arcs, labels);
+    *numbers = [answer.cost, answer.arcs as u64, answer.labels as u64];
+    answer.refusal
+}
+
+// The shortest path, told in the same way.
+#[no_mangle]
+pub extern "C" fn forthwn_shortest(
+    table: &[u8],
+    arcs: &mut [u16],
+    labels: &mut [u16],
+    numbers: &mut [u64; 3],
+) -> u32
+    ensures { λ r. ⌜ Shortest-says (now (table .entry))
+        (shortest-refusal (now (table .entry)) (length (now (arcs .entry))) (length (now (labels .entry))))
+        (told r (now (numbers .exit))) (now (arcs .entry)) (now (arcs .exit)) (now (labels .entry)) (now (labels .exit)) ⌝ }
+{
+    let answer = shortest::shortest_path(table, arcs, labels);
+    *numbers = [answer.cost, answer.arcs as u64, answer.labels as u64];
+    answer.refusal
+}
+
+// The whole chain in one call: composes two transducers, applies a string and puts the number of accepting paths into `count`. The
+// buffers hold afterwards what the calls left in them.
+#[no_mangle]
+pub extern "C" fn forthwn_readings(
+    left: &[u8],
+    right: &[u8],
+    string: &[u16],
+    table: &mut [u8],
+    origins: &mut [u16],
+    states: &mut [u32],
+    lattice: &mut [u8],
+    lattice_origins: &mut [u16],
+    pairs: &mut [u32],
+    count: &mut u32,
+) -> u32
+    ensures { λ r. ⌜ Readings-says (now (left .entry)) (now (right .entry)) (now (string .entry)) (counted r (now (count .exit)))
+        (now (table .entry)) (now (table .exit)) (now (origins .entry)) (now (origins .exit)) (now (states .entry)) (now (states .exit))
+        (now (lattice .entry)) (now (lattice .exit)) (now («lattice_origins» .entry)) (now («lattice_origins» .exit)) (now (pairs .entry)) (now (pairs .exit)) ⌝ }
+{
+    let answer = claim::readings(
+        left,
+        right,
+        string,
+        table,
+        origins,
+        states,
+        lattice,
+        lattice_origins,
+        pairs,
+    );
+    *count = answer.count;
+    answer.refusal
+}
+
+// The listing of two transducers and a code's bytes: the text into a lent buffer, and its length into `len`. A refusal is a text too.
+#[no_mangle]
+pub extern "C" fn forthwn_list(
+    left: &[u8],
+    right: &[u8],
+    code: &[u8],
+    out: &mut [u8],
+    len: &mut u32,
+) -> u32
+    ensures { λ r. ⌜ Listing-says (now (left .entry)) (now (right .entry)) (now (code .entry)) (text-room (length (now (out .entry))))
+        (written r (now (len .exit))) (now (out .entry)) (now (out .exit)) ⌝ }
+{
+    let answer = listing::list(left, right, code, out);
     *len = answer.len;
     answer.refusal
 }

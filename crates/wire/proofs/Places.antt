@@ -7,7 +7,7 @@ use native.Mathlib.Nat.{not-suc-le-zero, le-of-suc-le-suc, zero-add, add-zero, m
 use native.Mathlib.Numerals.{add-one}
 use native.Mathlib.Omega.{arith}
 use lib.ListN.{length, getD, set, take, drop, replicate, length-append, length-replicate, length-drop}
-use lib.Seq.{sets, take-at, length-sets}
+use lib.Seq.{sets, take-at, take-append-seam, length-sets}
 use Rattle.wire.specs.Bytes.{places, every, filled, cleared}
 
 -- places
@@ -104,6 +104,25 @@ sets-append l i (x ∷ xs) ys =
 pub length-filled : (room : ℕ) (xs : List ℕ) → length xs ≤ room → length (filled room xs) ≡ room
 unfolding filled
 length-filled room xs h = simp (length-append, length-replicate) (omega arith)
+
+pub take-filled : (room : ℕ) (xs : List ℕ) → take (length xs) (filled room xs) ≡ xs
+unfolding filled
+take-filled room xs = take-append-seam xs (replicate (room - length xs) 0)
+
+-- Zeros behind a list read as what lies behind its end does.
+getD-zeros : (k i : ℕ) → _≡_ {A = ℕ} (getD (replicate k 0) i 0) 0
+getD-zeros zero i = refl
+getD-zeros (suc k) zero = refl
+getD-zeros (suc k) (suc i) = getD-zeros k i
+
+getD-behind : (xs : List ℕ) (k i : ℕ) → getD (xs ++ replicate k 0) i 0 ≡ getD xs i 0
+getD-behind [] k i = getD-zeros k i
+getD-behind (x ∷ xs) k zero = refl
+getD-behind (x ∷ xs) k (suc i) = getD-behind xs k i
+
+pub getD-filled : (room : ℕ) (xs : List ℕ) (i : ℕ) → getD (filled room xs) i 0 ≡ getD xs i 0
+unfolding filled
+getD-filled room xs i = getD-behind xs (room - length xs) i
 
 -- What is written at the front, then cleared behind.
 pub cleared-append : (k : ℕ) (xs ys : List ℕ) → length xs ≡ k → cleared k (xs ++ ys) ≡ filled (length (xs ++ ys)) xs

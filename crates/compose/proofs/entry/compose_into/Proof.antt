@@ -16,10 +16,10 @@ abbrev entry : tie.After-shared-slice-known2 → tie.Start
 entry c = c .before .before
 
 abbrev heads : tie.After-pack → tie.After-header2
-heads c = c .before .before .before .before .before .before .before .before .before
+heads c = c .before .before .before .before .before .before .before .before .before .before .before
 
 abbrev packed : tie.After-walk-all → tie.After-pack
-packed c = c .before .before .before .before .before .before
+packed c = c .before .before .before .before .before .before .before
 
 -- The bytes are bytes.
 left-bytes : (c : tie.After-shared-slice-known2) → Bytes (entry c .args .left .now)
@@ -83,22 +83,29 @@ cast-first-arcs-4 c = search needs
 first-arcs-requires-2 : tie.Need-first-arcs-requires-2
 first-arcs-requires-2 c κs = let h = right-head (c .before .before .before .before .before .before .before) in (h .opened, h .states, h .arcs)
 
+cast-labels-present : tie.Need-cast-labels-present
+cast-labels-present c = search needs
+
+labels-present-requires : tie.Need-labels-present-requires
+labels-present-requires c κs = let h = right-head (c .before .before .before .before .before .before .before .before .before) in (h .opened, h .arcs)
+
 pack-requires : tie.Need-pack-requires
 pack-requires c κs =
-    let h = c .before .before .before .before .before .before .before .before in
+    let h = c .before .before .before .before .before .before .before .before .before .before in
     (left-head h .small, right-head h .small, omega arith)
 
 walk-all-requires : tie.Need-walk-all-requires
 walk-all-requires c κs =
-    let p = c .before .before .before .before .before in
+    let p = c .before .before .before .before .before .before in
     let h = heads p in
     let k = lent (h .before) in
     let pre = entry k .pre in (
       record {
         left-open = left-head h .opened;
-        left-index = c .before .before .before .before .before .before .before .before .before .first-arcs .ensures;
+        left-index = p .before .before .before .before .before .before .first-arcs .ensures;
         right-open = right-head h .opened;
-        right-index = c .before .before .before .before .before .before .first-arcs2 .ensures;
+        right-index = p .before .before .before .first-arcs2 .ensures;
+        right-labels = p .before .labels-present .ensures;
       },
       (
         first-key (decode (entry k .args .left .now)) (decode (entry k .args .right .now)) (p .pack .result)
@@ -156,7 +163,7 @@ cast-final-codes c = search needs
 
 final-codes-requires : tie.Need-final-codes-requires
 final-codes-requires c κs =
-    let h = c .before .before .before .before .before .before .before .before .before .before .before .before .before .before .before .before .before .before .before .before .before .before .before .before in
+    let h = c .before .before .before .before .before .before .before .before .before .before .before .before .before .before .before .before .before .before .before .before .before .before .before .before .before .before .before in
     (entry (lent (h .before)) .pre .left-accepted, left-head h .finals)
 
 cast-final-codes-2 : tie.Need-cast-final-codes-2
@@ -164,7 +171,7 @@ cast-final-codes-2 c = search needs
 
 final-codes-requires-2 : tie.Need-final-codes-requires-2
 final-codes-requires-2 c κs =
-    let h = c .before .before .before .before .before .before .before .before .before .before .before .before .before .before .before .before .before .before .before .before .before .before .before .before .before .before in
+    let h = c .before .before .before .before .before .before .before .before .before .before .before .before .before .before .before .before .before .before .before .before .before .before .before .before .before .before .before .before .before in
     (entry (lent (h .before)) .pre .right-accepted, right-head h .finals)
 
 write-out-requires : tie.Need-write-out-requires
@@ -222,6 +229,8 @@ compose-into-spec =
     cast-first-arcs-3
     cast-first-arcs-4
     first-arcs-requires-2
+    cast-labels-present
+    labels-present-requires
     pack-requires
     walk-all-requires
     refuse-requires

@@ -1,21 +1,25 @@
 -- A store loop over the keys, a record for each that is final. The invariant, `Finishing`: the finals of the first `s` keys are written and counted.
 use borrow.Author.Needs.{needs}
-use Prim.Native.Nat.{_<_, _-_}
+use mathlib.Core.Path.{sym, _∙_}
+use Prim.Native.Nat.{_<_, _+_, _-_}
 use native.Mathlib.Omega.{arith}
 use lib.ListN.{getD}
-use Rattle.compose.proofs.KeyFinals.{Finishing, key-parts, finishing-first, finishing-left, finishing-right, finishing-more, finishing-stop}
+use Rattle.explore.proofs.PutFinals.{Finishing, finishing-first, finishing-none, finishing-more, finishing-stop}
+use Rattle.compose.specs.Finished.{key-final, key-weight}
+use Rattle.compose.proofs.KeyFinals.{key-parts, key-filter, left-not-final, right-not-final, both-final, both-weight}
 use Rattle.compose.proofs.finish.put_finals.Statement.{statement}
 use Rattle.compose.proofs.finish.put_finals.Tie as tie
 
 abbrev Inv-loop : tie.InvT-loop
-Inv-loop lcodes rcodes states count table₀ finals₀ dear₀ s₀ table finals dear s = Finishing lcodes rcodes states count table₀ table finals dear s
+Inv-loop lcodes rcodes states count table₀ finals₀ dear₀ s₀ table finals dear s =
+    Finishing (key-final lcodes rcodes) (key-weight lcodes rcodes) states count table₀ table finals dear s
 
 abbrev μ-loop : tie.MeasureT-loop
 μ-loop lcodes rcodes states count table₀ finals₀ dear₀ s₀ table finals dear s = count - s
 
 -- The way back from a place to an earlier one.
-abbrev unpacking : tie.After-b Inv-loop μ-loop → tie.After-unpack Inv-loop μ-loop
-unpacking c = c .before .before .before .before
+abbrev unpacking : tie.After-counted Inv-loop μ-loop → tie.After-unpack Inv-loop μ-loop
+unpacking c = c .before .before .before .before .before
 
 abbrev turn : tie.After-unpack Inv-loop μ-loop → tie.At-loop Inv-loop μ-loop
 turn c = c .before .before .before
@@ -31,7 +35,7 @@ parts c =
 loop-holds : tie.Need-loop-holds Inv-loop μ-loop
 loop-holds c =
     let x = c .before .before .args in
-    finishing-first (x .lcodes .now) (x .rcodes .now) (x .states .now) (x .count) (x .table .now)
+    finishing-first (key-final (x .lcodes .now) (x .rcodes .now)) (key-weight (x .lcodes .now) (x .rcodes .now)) (x .states .now) (x .count) (x .table .now)
 
 cast-state : tie.Need-cast-state Inv-loop μ-loop
 cast-state c = omega arith
@@ -57,11 +61,17 @@ mul-a c = omega (arith, parts (c .before .before))
 element-copy-out-a : tie.Need-element-copy-out-a Inv-loop μ-loop
 element-copy-out-a c = parts (c .before .before) .0
 
-mul-b : tie.Need-mul-b Inv-loop μ-loop
-mul-b c = omega (arith, parts (c .before .before .before))
+mul-counted : tie.Need-mul-counted Inv-loop μ-loop
+mul-counted c = omega (arith, parts (c .before .before .before))
 
-element-copy-out-b : tie.Need-element-copy-out-b Inv-loop μ-loop
-element-copy-out-b c = parts (c .before .before .before) .1
+element-copy-out-counted : tie.Need-element-copy-out-counted Inv-loop μ-loop
+element-copy-out-counted c = parts (c .before .before .before) .1
+
+counted-requires : tie.Need-counted-requires Inv-loop μ-loop
+counted-requires c κs =
+    let here = c .before .before .before .before in
+    let h = turn here in
+    key-filter (getD (h .before .before .before .args .states .now) (h .loop .s) 0) (here .unpack .result) (here .unpack .ensures)
 
 add-s : tie.Need-add-s Inv-loop μ-loop
 add-s c = omega arith
@@ -77,7 +87,7 @@ add-weight c =
     let here = unpacking (c .before .before) in
     let pre = turn here .before .before .before .pre in
     let x = here .unpack .result in
-    omega (arith, pre .left (x .left) (parts here .0), pre .right (x .right) (parts here .1))
+    omega (arith, pre .left (x .left) (parts here .0), pre .right (x .right) (parts here .1), c .before .before .counted .ensures)
 
 mul-put-final : tie.Need-mul-put-final Inv-loop μ-loop
 mul-put-final c = omega arith
@@ -110,10 +120,15 @@ loop-again c =
     let start = h .before .before .before in
     let x = start .args in
     let put = c .before .before .before .put-final in
-    finishing-more (x .lcodes .now) (x .rcodes .now) (x .states .now) (x .count) (x .table .now) (h .loop .table) (h .loop .finals) (h .loop .dear) (h .loop .s)
-    (here .unpack .result) (h .loop .inv) (here .before .before .loop-test .taken) (start .pre .stored) (here .unpack .ensures) _ (c .weight-ok .result)
-    (c .before .before .before .before .before .before .if1 .taken) (c .before .before .before .before .before .if2 .taken) (put .ensures) (put .kept .0)
-    (c .weight-ok .ensures)
+    let ls = x .lcodes .now in
+    let rs = x .rcodes .now in
+    let key = getD (x .states .now) (h .loop .s) 0 in
+    let p = here .unpack .result in
+    finishing-more (key-final ls rs) (key-weight ls rs) (x .states .now) (h .loop .inv) (here .before .before .loop-test .taken) (start .pre .stored) _
+    ((getD ls (p .left) 0 - 1) + (getD rs (p .right) 0 - 1)) (c .weight-ok .result)
+    (both-final ls rs key p (here .unpack .ensures) (c .before .before .before .before .before .before .if1 .taken) (λ e. c .before .before .before .before .before .if2 .taken (b .counted .ensures ∙ e)))
+    (sym (both-weight ls rs key p (here .unpack .ensures))) (rw (b .counted .ensures) at (put .ensures)) (put .kept .0)
+    (rw (b .counted .ensures) at (c .weight-ok .ensures))
 
 loop-less-2 : tie.Need-loop-less-2 Inv-loop μ-loop
 loop-less-2 c = omega (arith, unpacking (c .before .before) .before .before .loop-test .taken)
@@ -124,9 +139,10 @@ loop-again-2 c =
     let h = turn here in
     let start = h .before .before .before in
     let x = start .args in
-    finishing-right (x .lcodes .now) (x .rcodes .now) (x .states .now) (x .count) (x .table .now) (h .loop .table) (h .loop .finals) (h .loop .dear) (h .loop .s)
-    (here .unpack .result) (h .loop .inv) (here .before .before .loop-test .taken) (start .pre .stored) (here .unpack .ensures) (c .before .if1 .taken)
-    (c .if2 .left)
+    finishing-none (key-final (x .lcodes .now) (x .rcodes .now)) (key-weight (x .lcodes .now) (x .rcodes .now)) (x .states .now) (h .loop .inv)
+    (here .before .before .loop-test .taken) (start .pre .stored)
+    (right-not-final (x .lcodes .now) (x .rcodes .now) (getD (x .states .now) (h .loop .s) 0) (here .unpack .result) (here .unpack .ensures) (c .before .if1 .taken)
+    (sym (c .before .before .counted .ensures) ∙ c .if2 .left))
 
 loop-less-3 : tie.Need-loop-less-3 Inv-loop μ-loop
 loop-less-3 c = omega (arith, unpacking (c .before) .before .before .loop-test .taken)
@@ -137,8 +153,9 @@ loop-again-3 c =
     let h = turn here in
     let start = h .before .before .before in
     let x = start .args in
-    finishing-left (x .lcodes .now) (x .rcodes .now) (x .states .now) (x .count) (x .table .now) (h .loop .table) (h .loop .finals) (h .loop .dear) (h .loop .s)
-    (here .unpack .result) (h .loop .inv) (here .before .before .loop-test .taken) (start .pre .stored) (here .unpack .ensures) (c .if1 .left)
+    finishing-none (key-final (x .lcodes .now) (x .rcodes .now)) (key-weight (x .lcodes .now) (x .rcodes .now)) (x .states .now) (h .loop .inv)
+    (here .before .before .loop-test .taken) (start .pre .stored)
+    (left-not-final (x .lcodes .now) (x .rcodes .now) (getD (x .states .now) (h .loop .s) 0) (here .unpack .result) (here .unpack .ensures) (c .if1 .left))
 
 same-length : tie.Need-same-length Inv-loop μ-loop
 same-length c = c .before .loop .inv .kept
@@ -147,8 +164,7 @@ returns : tie.Need-returns Inv-loop μ-loop
 returns c =
     let h = c .before in
     let x = h .before .before .before .args in
-    finishing-stop (x .lcodes .now) (x .rcodes .now) (x .states .now) (x .count) (x .table .now) (h .loop .table) (h .loop .finals) (h .loop .dear) (h .loop .s)
-    (c .loop-test .left) (h .loop .inv)
+    finishing-stop (key-final (x .lcodes .now) (x .rcodes .now)) (key-weight (x .lcodes .now) (x .rcodes .now)) (x .states .now) (h .loop .inv) (c .loop-test .left)
 
 pub put-finals-spec : {M : Type 1} → statement M
 put-finals-spec =
@@ -165,8 +181,9 @@ put-finals-spec =
     cast-q
     mul-a
     element-copy-out-a
-    mul-b
-    element-copy-out-b
+    mul-counted
+    element-copy-out-counted
+    counted-requires
     add-s
     sub-weight
     sub-weight-2

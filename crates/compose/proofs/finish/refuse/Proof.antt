@@ -2,7 +2,7 @@
 use borrow.Author.Needs.{needs}
 use mathlib.Core.Path.{refl}
 use mathlib.Core.List.{[]}
-use Rattle.compose.proofs.EncodeStored.{filled-front}
+use Rattle.explore.proofs.EncodeStored.{filled-front}
 use Rattle.compose.proofs.finish.refuse.Statement.{statement}
 use Rattle.compose.proofs.finish.refuse.Tie as tie
 

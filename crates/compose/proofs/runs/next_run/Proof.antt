@@ -12,13 +12,13 @@ use Rattle.compose.proofs.runs.next_run.Statement.{statement}
 use Rattle.compose.proofs.runs.next_run.Tie as tie
 
 abbrev Inv-loop : tie.InvT-loop
-Inv-loop left lfirst i last filter right rfirst from to k₀ k = Seeking (decode left) (decode right) filter from to i last k
+Inv-loop left lfirst i last filter right rfirst present q from to k₀ k = Seeking (decode left) (decode right) filter from to i last k
 
 abbrev μ-loop : tie.MeasureT-loop
-μ-loop left lfirst i last filter right rfirst from to k₀ k = last - k
+μ-loop left lfirst i last filter right rfirst present q from to k₀ k = last - k
 
 loop-holds : tie.Need-loop-holds Inv-loop μ-loop
-loop-holds c = seeking-first (c .before .before .pre .0 .1)
+loop-holds c = seeking-first _ (omega arith) (c .before .before .pre .0 .1)
 
 -- In a turn: there is a left arc of this number, and its record lies within the bytes.
 is-bytes : (c : tie.In-loop Inv-loop μ-loop) → Bytes (c .before .before .before .before .args .left .now)
@@ -55,12 +55,12 @@ label-is c =
     ∙ sym (c .u16-at .ensures)
 
 -- The right arc that is found is the first that reads the label.
-found-is : (c : tie.After-next-fit Inv-loop μ-loop) →
+found-is : (c : tie.After-first-fit Inv-loop μ-loop) →
     let turn = c .before .before .before in
     let args = turn .before .before .before .before .args in
-    c .next-fit .result
+    c .first-fit .result
     ≡ reading-from (decode (args .right .now)) (arc (decode (args .left .now)) (turn .before .loop .k) .output) (args .to - args .from) (args .from)
-found-is c = rw (label-is (c .before .before)) (c .next-fit .ensures)
+found-is c = rw (label-is (c .before .before)) (c .first-fit .ensures)
 
 add-k : tie.Need-add-k Inv-loop μ-loop
 add-k c = omega (arith, c .before .loop-test .taken, c .before .before .before .before .before .fits .last)
@@ -78,14 +78,14 @@ loop-again c =
     let turn = c .before .before .before in
     seeking-silent (turn .loop-test .taken) (label-is (c .before .before) ∙ c .before .if1 .taken) (c .if2 .left) (turn .before .loop .inv)
 
-next-fit-requires : tie.Need-next-fit-requires Inv-loop μ-loop
-next-fit-requires c κs = c .before .before .before .before .before .before .pre .1
+first-fit-requires : tie.Need-first-fit-requires Inv-loop μ-loop
+first-fit-requires c κs = c .before .before .before .before .before .before .pre .1
 
 returns-2 : tie.Need-returns-2 Inv-loop μ-loop
 returns-2 c =
     let turn = c .before .before .before .before in
     seeking-met (turn .loop-test .taken) (λ e. c .before .before .if1 .left (sym (label-is (c .before .before .before)) ∙ e)) (found-is (c .before))
-    (turn .before .before .before .before .pre .1 .1) (c .if3 .taken) (turn .before .loop .inv)
+    (turn .before .before .before .before .pre .1 .0 .1) (c .if3 .taken) (turn .before .loop .inv)
 
 loop-less-2 : tie.Need-loop-less-2 Inv-loop μ-loop
 loop-less-2 c = omega (arith, c .before .before .before .before .loop-test .taken)
@@ -94,13 +94,13 @@ loop-again-2 : tie.Need-loop-again-2 Inv-loop μ-loop
 loop-again-2 c =
     let turn = c .before .before .before .before in
     seeking-unmet (turn .loop-test .taken) (λ e. c .before .before .if1 .left (sym (label-is (c .before .before .before)) ∙ e)) (found-is (c .before))
-    (turn .before .before .before .before .pre .1 .1) (c .if3 .left) (turn .before .loop .inv)
+    (turn .before .before .before .before .pre .1 .0 .1) (c .if3 .left) (turn .before .loop .inv)
 
-next-fit-requires-2 : tie.Need-next-fit-requires-2 Inv-loop μ-loop
-next-fit-requires-2 c κs = c .before .before .before .before .pre .1
+next-fit-requires : tie.Need-next-fit-requires Inv-loop μ-loop
+next-fit-requires c κs = c .before .before .before .before .pre .1 .0
 
 returns-3 : tie.Need-returns-3 Inv-loop μ-loop
-returns-3 c = seeking-stop (c .next-fit2 .result) (c .before .loop-test .left) (c .next-fit2 .ensures) (c .before .before .loop .inv)
+returns-3 c = seeking-stop (c .next-fit .result) (c .before .loop-test .left) (c .next-fit .ensures) (c .before .before .loop .inv)
 
 pub next-run-spec : {M : Type 1} → statement M
 next-run-spec =
@@ -117,9 +117,9 @@ next-run-spec =
     returns
     loop-less
     loop-again
-    next-fit-requires
+    first-fit-requires
     returns-2
     loop-less-2
     loop-again-2
-    next-fit-requires-2
+    next-fit-requires
     returns-3)

@@ -5,7 +5,7 @@ use Prim.Native.Nat.{_<_}
 use native.Mathlib.Omega.{arith}
 use Rattle.wire.specs.Bytes.{Bytes}
 use Rattle.compose.specs.Walk.{run-at}
-use Rattle.compose.proofs.RunCode.{opened-few}
+use Rattle.compose.proofs.RunCode.{opened-few, to-target}
 use Rattle.compose.proofs.runs.run_of.Statement.{statement}
 use Rattle.compose.proofs.runs.run_of.Tie as tie
 
@@ -25,7 +25,7 @@ returns : tie.Need-returns
 unfolding run-at
 returns c =
     let args = c .before .before .before .args in
-    rw (eq-eqb (args .at .i) (args .last) (c .before .if1 .taken))
+    rw (eq-eqb (args .at .i) (args .last) (c .before .if1 .taken)) (to-target (omega arith))
 
 arc-of-requires : tie.Need-arc-of-requires
 arc-of-requires c κs = search needs
@@ -45,22 +45,28 @@ mul-t14 c = search needs
 add-t15 : tie.Need-add-t15
 add-t15 c = search needs
 
+add-t16 : tie.Need-add-t16
+add-t16 c = search needs
+
 returns-2 : tie.Need-returns-2
 unfolding run-at
 returns-2 c =
     let other = c .before .before .before .before in
     let args = other .before .before .args in
-    rw (c .before .before .before .arc-of .ensures, ne-eqb (args .at .i) (args .last) (other .if1 .left), c .before .if2 .taken)
+    rw (c .before .before .before .arc-of .ensures, ne-eqb (args .at .i) (args .last) (other .if1 .left), c .before .if2 .taken) (to-target (omega arith))
 
-cast-t16 : tie.Need-cast-t16
-cast-t16 c = omega (arith, few (c .before .before .before .before))
+cast-t17 : tie.Need-cast-t17
+cast-t17 c = omega (arith, few (c .before .before .before .before))
+
+add-t12 : tie.Need-add-t12
+add-t12 c = search needs
 
 returns-3 : tie.Need-returns-3
 unfolding run-at
 returns-3 c =
     let other = c .before .before .before in
     let args = other .before .before .args in
-    rw (c .before .before .arc-of .ensures, ne-eqb (args .at .i) (args .last) (other .if1 .left), c .if2 .left)
+    rw (c .before .before .arc-of .ensures, ne-eqb (args .at .i) (args .last) (other .if1 .left), c .if2 .left) (to-target (omega arith))
 
 pub run-of-spec : {M : Type 1} → statement M
 run-of-spec =
@@ -75,6 +81,8 @@ run-of-spec =
     cast-t13
     mul-t14
     add-t15
+    add-t16
     returns-2
-    cast-t16
+    cast-t17
+    add-t12
     returns-3)

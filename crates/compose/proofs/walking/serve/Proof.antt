@@ -3,31 +3,33 @@
 use borrow.Author.Needs.{needs}
 use mathlib.Core.Path.{_≡_, refl, sym, subst, _∙_}
 use mathlib.Core.Bool.{cond}
-use Prim.Native.Nat.{ℕ, _+_, _-_, _≤_, _<_}
+use Prim.Native.Nat.{_+_, _-_, _≤_, _<_}
 use native.Mathlib.Omega.{arith}
 use lib.ListN.{length, getD}
-use Rattle.wire.specs.Bytes.{Bytes}
 use Rattle.transducer.specs.Format.{decode, Good}
 use Rattle.transducer.proofs.RoundTrip.{accepted-good}
+use Rattle.explore.specs.Walk.{Sofar, all-taken, state-served, Walked, Went}
 use Rattle.compose.specs.declared.Run.{Run}
 use Rattle.compose.specs.declared.State.{State}
-use Rattle.compose.specs.Walk.{unpacked, run-at, run-steps, Sofar, all-taken, state-served, Walked, Went}
+use Rattle.compose.specs.Walk.{key-steps, run-at}
 use Rattle.compose.specs.Taking.{In-both}
 use Rattle.compose.proofs.Pack.{good-head}
+use Rattle.compose.proofs.Marks.{placed-leaving}
 use Rattle.compose.proofs.Reading.{Run-here, next-run-here}
-use Rattle.compose.proofs.WalkCode.{Placed, placed, placed-left, placed-right, Serving, serving-first, serving-next, serving-full, serving-stop}
+use Rattle.compose.proofs.WalkCode.{run-left, Placed, placed, placed-left, placed-right, Serving, serving-first, serving-next, serving-full, serving-stop}
 use Rattle.compose.proofs.walking.serve.Statement.{statement}
 use Rattle.compose.proofs.walking.serve.Tie as tie
 
 abbrev Inv-loop : tie.InvT-loop
-Inv-loop left lfirst lindex right rfirst rindex source table₀ origins₀ states₀ heads₀ links₀ x p q from to last walk₀ i₀ table origins states heads links walk i =
-    ((b : Sofar) → Walked b walk₀ table₀ origins₀ states₀ heads₀ links₀
-    → Serving (decode left) (decode right) x source last (state-served (decode left) (decode right) source b) i walk table origins states heads links)
+Inv-loop left lfirst lindex right rfirst rindex present source table₀ origins₀ states₀ heads₀ links₀ x p q from to last walk₀ i₀ table origins states heads links walk i =
+    ((b : Sofar) → Walked 2 b walk₀ table₀ origins₀ states₀ heads₀ links₀
+    → Serving (decode left) (decode right) x source last (state-served (key-steps (decode left) (decode right)) source b) i walk table origins states
+    heads links)
     × Placed (decode left) (decode right) x i₀ last from to × (length table ≡ length table₀) × (length origins ≡ length origins₀)
     × (length states ≡ length states₀)
 
 abbrev μ-loop : tie.MeasureT-loop
-μ-loop left lfirst lindex right rfirst rindex source table₀ origins₀ states₀ heads₀ links₀ x p q from to last walk₀ i₀ table origins states heads links walk i =
+μ-loop left lfirst lindex right rfirst rindex present source table₀ origins₀ states₀ heads₀ links₀ x p q from to last walk₀ i₀ table origins states heads links walk i =
     last + 1 - i
 
 -- Both transducers are good ones.
@@ -159,11 +161,16 @@ loop-holds c =
       refl,
     )
 
+cast-next-run : tie.Need-cast-next-run Inv-loop μ-loop
+cast-next-run c = omega (arith, parts (c .before .before .before .before .before .before .before .before) .1)
+
 next-run-requires : tie.Need-next-run-requires Inv-loop μ-loop
 next-run-requires c κs =
     let walkable = c .before .before .before .before .before .before .before .before .before .before .before .before .before .before .before .pre .0 .0 in
-    let p = c .before .loop .inv .1 in
-    ((walkable .left-open, c .loop-test .taken, placed-left p .1), (walkable .right-open, placed-right p .0, placed-right p .1))
+    let p = c .before .loop .inv .1 in (
+      (walkable .left-open, c .loop-test .taken, placed-left p .1),
+      ((walkable .right-open, placed-right p .0, placed-right p .1), (walkable .right-labels, placed-leaving (right-good (c .before .before .before .before .before .before .before .before .before .before .before .before .before)) p)),
+    )
 
 -- The run that begins at the place that `next_run` gave is the next one.
 begins : (c : tie.After-next-run Inv-loop μ-loop) (r : Run) → r ≡ run-at (decode (c .before .before .before .before .before .before .before .before .before .before .before .before .before .before .before .before .args .left .now)) (getD (c .before .before .before .before .before .before .before .before .before .before .before .before .before .before .before .before .args .lindex .now) (c .before .before .before .before .before .before .before .before .before .unpack .result .left + 1) 0) (c .before .before .before .before .before .before .before .before .before .unpack .result) (c .next-run .result)
@@ -200,13 +207,13 @@ take-run-requires : tie.Need-take-run-requires Inv-loop μ-loop
 take-run-requires c κs =
     let pre = c .before .before .before .before .before .before .before .before .before .before .before .before .before .before .before .before .before .before .before .before .before .before .before .pre in
     let g = c .before .before .before .before .before .before .before .before .before .loop .inv .0 (pre .1 .1 .0) (pre .1 .1 .1) in
-    ((pre .0 .0 .right-open, rw (c .before .before .before .before .before .end-of .ensures) (here (c .before .before .before .before .before .before) .ready)), (g .sofar, g .walked))
+    ((pre .0 .0 .right-open, rw (c .before .before .before .before .before .end-of .ensures) (here (c .before .before .before .before .before .before) .ready)), (g .taking .sofar, g .taking .walked))
 
 -- What `take_run` leaves, with the run's end written out.
-went : (c : tie.After-take-run Inv-loop μ-loop) (b : Sofar) → Walked b (c .before .before .before .before .before .before .before .before .before .before .loop .walk) (c .before .before .before .before .before .before .before .before .before .before .loop .table) (c .before .before .before .before .before .before .before .before .before .before .loop .origins) (c .before .before .before .before .before .before .before .before .before .before .loop .states) (c .before .before .before .before .before .before .before .before .before .before .loop .heads) (c .before .before .before .before .before .before .before .before .before .before .loop .links)
-    → Went (all-taken (c .before .before .before .before .before .before .before .before .before .before .before .before .before .before .before .before .before .before .before .before .before .before .before .before .args .source)
-    (run-steps (decode (c .before .before .before .before .before .before .before .before .before .before .before .before .before .before .before .before .before .before .before .before .before .before .before .before .args .right .now)) (c .before .before .before .before .before .before .before .run-of .result)
-    (cond (c .before .before .before .before .before .before .before .before .next-run .result .alone) 1 (getD (c .before .before .before .before .before .before .before .before .before .before .before .before .before .before .before .before .before .before .before .before .before .before .before .before .args .rindex .now) (c .before .before .before .before .before .before .before .before .before .before .before .before .before .before .before .before .before .unpack .result .right + 1) 0) - c .before .before .before .before .before .before .before .before .next-run .result .j) (c .before .before .before .before .before .before .before .before .next-run .result .j)) b)
+went : (c : tie.After-take-run Inv-loop μ-loop) (b : Sofar) → Walked 2 b (c .before .before .before .before .before .before .before .before .before .before .loop .walk) (c .before .before .before .before .before .before .before .before .before .before .loop .table) (c .before .before .before .before .before .before .before .before .before .before .loop .origins) (c .before .before .before .before .before .before .before .before .before .before .loop .states) (c .before .before .before .before .before .before .before .before .before .before .loop .heads) (c .before .before .before .before .before .before .before .before .before .before .loop .links)
+    → Went 2 (all-taken (c .before .before .before .before .before .before .before .before .before .before .before .before .before .before .before .before .before .before .before .before .before .before .before .before .args .source)
+    (run-left (decode (c .before .before .before .before .before .before .before .before .before .before .before .before .before .before .before .before .before .before .before .before .before .before .before .before .args .right .now)) (c .before .before .before .before .before .before .before .run-of .result)
+    (cond (c .before .before .before .before .before .before .before .before .next-run .result .alone) 1 (getD (c .before .before .before .before .before .before .before .before .before .before .before .before .before .before .before .before .before .before .before .before .before .before .before .before .args .rindex .now) (c .before .before .before .before .before .before .before .before .before .before .before .before .before .before .before .before .before .unpack .result .right + 1) 0)) (c .before .before .before .before .before .before .before .before .next-run .result .j)) b)
     (c .take-run .result) (c .take-run .last .1 .1 .1 .1 .1 .1 .1 .0) (c .take-run .last .1 .1 .1 .1 .1 .1 .1 .1 .0)
     (c .take-run .last .1 .1 .1 .1 .1 .1 .1 .1 .1 .0) (c .take-run .last .1 .1 .1 .1 .1 .1 .1 .1 .1 .1 .0)
     (c .take-run .last .1 .1 .1 .1 .1 .1 .1 .1 .1 .1 .1 .0)
@@ -226,7 +233,7 @@ returns c = λ b k.
     let g = c .before .before .before .before .before .before .before .before .before .before .before .before .before .before .before .before .before .loop .inv .0 b k in
     let out = c .before .before .before .before .before .before .before .take-run .last .1 .1 .1 .1 .1 .1 .1 in
     serving-full g (c .before .before .before .before .before .before .before .before .before .before .before .before .before .before .before .before .loop-test .taken) (here (c .before .before .before .before .before .before .before .before .before .before .before .before .before .before)) (c .before .before .before .before .before .before .before .take-run .result) (out .0) (out .1 .0) (out .1 .1 .0) (out .1 .1 .1 .0) (out .1 .1 .1 .1 .0)
-    (went (c .before .before .before .before .before .before .before) (g .sofar) (g .walked)) (c .if1 .taken)
+    (went (c .before .before .before .before .before .before .before) (g .taking .sofar) (g .taking .walked)) (c .if1 .taken)
 
 add-i : tie.Need-add-i Inv-loop μ-loop
 add-i c = omega (arith, here (c .before .before .before .before .before .before .before .before .before .before .before .before .before .before .before) .at-most, left-most (c .before .before .before .before .before .before .before .before .before .before .before .before .before .before .before .before .before .before .before .before .before .before .before .before .before) .1)
@@ -241,7 +248,7 @@ loop-again c =
       λ b k.
           let g = c .before .before .before .before .before .before .before .before .before .before .before .before .before .before .before .before .before .before .loop .inv .0 b k in
           serving-next g (c .before .before .before .before .before .before .before .before .before .before .before .before .before .before .before .before .before .loop-test .taken) (here (c .before .before .before .before .before .before .before .before .before .before .before .before .before .before .before)) (c .before .before .before .before .before .before .before .before .take-run .result) (out .0) (out .1 .0) (out .1 .1 .0) (out .1 .1 .1 .0) (out .1 .1 .1 .1 .0)
-          (went (c .before .before .before .before .before .before .before .before) (g .sofar) (g .walked)) (c .before .if1 .left),
+          (went (c .before .before .before .before .before .before .before .before) (g .taking .sofar) (g .taking .walked)) (c .before .if1 .left),
       c .before .before .before .before .before .before .before .before .before .before .before .before .before .before .before .before .before .before .loop .inv .1,
       kept .0 ∙ c .before .before .before .before .before .before .before .before .before .before .before .before .before .before .before .before .before .before .loop .inv .2,
       kept .1 .0 ∙ c .before .before .before .before .before .before .before .before .before .before .before .before .before .before .before .before .before .before .loop .inv .3,
@@ -286,6 +293,7 @@ serve-spec =
     element-copy-out-i
     cast-i
     loop-holds
+    cast-next-run
     next-run-requires
     run-of-requires
     end-of-requires

@@ -1,9 +1,8 @@
 -- The laws of `Walking` carry the loop. The invariant: the states of numbers below `s` are served, and serving those from `s` on gives what is
 -- explored in the end.
-use borrow.Author.Needs.{needs}
 use mathlib.Core.Path.{_≡_, refl, _∙_}
 use mathlib.Core.List.{[]}
-use Prim.Native.Nat.{ℕ, _+_, _-_, _≤_, _<_}
+use Prim.Native.Nat.{_-_, _<_}
 use native.Mathlib.Omega.{arith}
 use lib.ListN.{length}
 use Rattle.transducer.specs.Format.{decode, Good}
@@ -11,18 +10,23 @@ use Rattle.transducer.proofs.RoundTrip.{accepted-good}
 use Rattle.explore.specs.Explore.{there}
 use Rattle.explore.proofs.Cases.{clash}
 use Rattle.explore.proofs.Chain.{chained-zeros}
-use Rattle.compose.specs.Walk.{Walk-says}
-use Rattle.compose.proofs.WalkCode.{Walking, walking-first, walking-small, walking-state, walking-next, walking-full, walking-stop}
+use Rattle.explore.proofs.ExploredKeys.{Keying}
+use Rattle.explore.proofs.Walking.{Walking, walking-first, walking-small, walking-state, walking-next, walking-full, walking-stop}
+use Rattle.compose.specs.Compose.{same-state, steps, first-state, origin-pair}
+use Rattle.compose.specs.Walk.{pack, key-steps}
+use Rattle.compose.proofs.Explored.{composed-keying, key-inside}
+use Rattle.compose.proofs.Pack.{Within}
 use Rattle.compose.proofs.walking.walk_all.Statement.{statement}
 use Rattle.compose.proofs.walking.walk_all.Tie as tie
 
 abbrev Inv-loop : tie.InvT-loop
-Inv-loop left lfirst lindex right rfirst rindex first table₀ origins₀ states₀ heads₀ links₀ walk₀ s₀ table origins states heads links walk s =
-    Walking (decode left) (decode right) s walk table origins states heads links × (length table ≡ length table₀) × (length origins ≡ length origins₀)
+Inv-loop left lfirst lindex right rfirst rindex present first table₀ origins₀ states₀ heads₀ links₀ walk₀ s₀ table origins states heads links walk s =
+    Walking pack (Within (decode left) (decode right)) 2 (key-steps (decode left) (decode right)) (pack (first-state (decode left) (decode right))) s walk
+    table origins states heads links × (length table ≡ length table₀) × (length origins ≡ length origins₀)
     × (length states ≡ length states₀)
 
 abbrev μ-loop : tie.MeasureT-loop
-μ-loop left lfirst lindex right rfirst rindex first table₀ origins₀ states₀ heads₀ links₀ walk₀ s₀ table origins states heads links walk s = 1024 - s
+μ-loop left lfirst lindex right rfirst rindex present first table₀ origins₀ states₀ heads₀ links₀ walk₀ s₀ table origins states heads links walk s = 1024 - s
 
 -- Both transducers are good ones.
 left-good : (c : tie.After-shared-slice-known Inv-loop μ-loop) → Good (decode (c .before .args .left .now))
@@ -30,6 +34,16 @@ left-good c = accepted-good (c .before .args .left .now) (λ i. omega (arith, c 
 
 right-good : (c : tie.After-shared-slice-known2 Inv-loop μ-loop) → Good (decode (c .before .before .args .right .now))
 right-good c = accepted-good (c .before .before .args .right .now) (λ i. omega (arith, c .shared-slice-known2 .given i)) (c .before .before .pre .0 .right-open .accepted)
+
+-- Keys stand for the states of the composition.
+keying : (c : tie.After-shared-slice-known2 Inv-loop μ-loop)
+    → Keying same-state (steps (decode (c .before .before .args .left .now)) (decode (c .before .before .args .right .now)))
+    (first-state (decode (c .before .before .args .left .now)) (decode (c .before .before .args .right .now))) pack origin-pair
+    (key-steps (decode (c .before .before .args .left .now)) (decode (c .before .before .args .right .now)))
+    (Within (decode (c .before .before .args .left .now)) (decode (c .before .before .args .right .now)))
+keying c =
+    let a = c .before .before .args in
+    composed-keying (decode (a .left .now)) (decode (a .right .now)) (left-good (c .before)) (right-good c)
 
 insert-requires : tie.Need-insert-requires Inv-loop μ-loop
 insert-requires c κs = (omega arith, c .before .before .before .before .before .before .before .before .pre .1 .1 .2)
@@ -40,7 +54,7 @@ loop-holds c =
     let a = c .before .before .before .before .before .before .before .before .before .before .before .args in
     let pre = c .before .before .before .before .before .before .before .before .before .before .before .pre in
     let out = c .before .before .insert .last in (
-      walking-first (decode (a .left .now)) (decode (a .right .now)) (left-good (c .before .before .before .before .before .before .before .before .before .before)) (right-good (c .before .before .before .before .before .before .before .before .before)) (a .first)
+      walking-first (keying (c .before .before .before .before .before .before .before .before .before)) 2 (a .first)
           (a .table .now) (a .origins .now) (out .0) (out .1 .0) (out .1 .1 .0) (pre .1 .0) (pre .1 .1 .0) (pre .1 .1 .1)
           (c .before .before .insert .ensures .0 [] refl refl (chained-zeros (a .states .now) (pre .1 .1 .2))),
       refl,
@@ -54,7 +68,8 @@ serve-requires c κs =
     let g = c .before .before .before .before .before .before .before .loop .inv .0 in (
       (c .before .before .before .before .before .before .before .before .before .before .before .before .before .before .before .before .before .before .before .pre .0, c .before .before .before .before .before .if1 .taken),
       (
-        walking-state (decode (a .left .now)) (decode (a .right .now)) (left-good (c .before .before .before .before .before .before .before .before .before .before .before .before .before .before .before .before .before .before)) (right-good (c .before .before .before .before .before .before .before .before .before .before .before .before .before .before .before .before .before)) g (c .before .before .before .before .before .if1 .taken),
+        key-inside (decode (a .left .now)) (decode (a .right .now)) (left-good (c .before .before .before .before .before .before .before .before .before .before .before .before .before .before .before .before .before .before)) (right-good (c .before .before .before .before .before .before .before .before .before .before .before .before .before .before .before .before .before)) _
+            (walking-state (keying (c .before .before .before .before .before .before .before .before .before .before .before .before .before .before .before .before .before)) 2 g (c .before .before .before .before .before .if1 .taken)),
         (g .sofar, g .walked),
       ),
     )
@@ -63,26 +78,26 @@ serve-requires c κs =
 small : (c : tie.Then1 Inv-loop μ-loop) → c .before .before .loop .s < 1024
 small c =
     let a = c .before .before .before .before .before .before .before .before .before .before .before .before .before .before .args in
-    walking-small (decode (a .left .now)) (decode (a .right .now)) (left-good (c .before .before .before .before .before .before .before .before .before .before .before .before .before)) (right-good (c .before .before .before .before .before .before .before .before .before .before .before .before)) (c .before .before .loop .inv .0)
+    walking-small (keying (c .before .before .before .before .before .before .before .before .before .before .before .before)) 2 (c .before .before .loop .inv .0)
     (c .if1 .taken)
 
 same-length : tie.Need-same-length Inv-loop μ-loop
-same-length c = c .before .before .before .before .before .before .before .serve .kept .1 .1 .1 .1 .1 .1 .1 .1 .0 ∙ c .before .before .before .before .before .before .before .before .before .before .before .before .before .before .before .loop .inv .1
+same-length c = c .before .before .before .before .before .before .before .serve .kept .1 .1 .1 .1 .1 .1 .1 .1 .1 .0 ∙ c .before .before .before .before .before .before .before .before .before .before .before .before .before .before .before .loop .inv .1
 
 same-length-2 : tie.Need-same-length-2 Inv-loop μ-loop
-same-length-2 c = c .before .before .before .before .before .before .before .serve .kept .1 .1 .1 .1 .1 .1 .1 .1 .1 .0 ∙ c .before .before .before .before .before .before .before .before .before .before .before .before .before .before .before .loop .inv .2
+same-length-2 c = c .before .before .before .before .before .before .before .serve .kept .1 .1 .1 .1 .1 .1 .1 .1 .1 .1 .0 ∙ c .before .before .before .before .before .before .before .before .before .before .before .before .before .before .before .loop .inv .2
 
 same-length-3 : tie.Need-same-length-3 Inv-loop μ-loop
-same-length-3 c = c .before .before .before .before .before .before .before .serve .kept .1 .1 .1 .1 .1 .1 .1 .1 .1 .1 .0 ∙ c .before .before .before .before .before .before .before .before .before .before .before .before .before .before .before .loop .inv .3 ∙ c .before .before .before .before .before .before .before .before .before .before .before .before .before .before .before .before .before .before .insert .kept .0
+same-length-3 c = c .before .before .before .before .before .before .before .serve .kept .1 .1 .1 .1 .1 .1 .1 .1 .1 .1 .1 .0 ∙ c .before .before .before .before .before .before .before .before .before .before .before .before .before .before .before .loop .inv .3 ∙ c .before .before .before .before .before .before .before .before .before .before .before .before .before .before .before .before .before .before .insert .kept .0
 
 returns : tie.Need-returns Inv-loop μ-loop
 returns c =
     let a = c .before .before .before .before .before .before .before .before .before .before .before .before .before .before .before .before .before .before .before .before .before .before .before .before .before .before .before .args in
     let g = c .before .before .before .before .before .before .before .before .before .before .before .before .before .before .before .loop .inv .0 in
-    let out = c .before .before .before .before .before .before .before .serve .last .1 .1 .1 .1 .1 .1 .1 .1 in
+    let out = c .before .before .before .before .before .before .before .serve .last .1 .1 .1 .1 .1 .1 .1 .1 .1 in
     record {
       full =
-          walking-full (decode (a .left .now)) (decode (a .right .now)) (left-good (c .before .before .before .before .before .before .before .before .before .before .before .before .before .before .before .before .before .before .before .before .before .before .before .before .before .before)) (right-good (c .before .before .before .before .before .before .before .before .before .before .before .before .before .before .before .before .before .before .before .before .before .before .before .before .before)) g (c .before .before .before .before .before .before .before .before .before .before .before .before .before .if1 .taken)
+          walking-full (keying (c .before .before .before .before .before .before .before .before .before .before .before .before .before .before .before .before .before .before .before .before .before .before .before .before .before)) 2 g (c .before .before .before .before .before .before .before .before .before .before .before .before .before .if1 .taken)
           (c .before .before .before .before .before .before .before .serve .result) (out .0) (out .1 .0) (out .1 .1 .0) (out .1 .1 .1 .0) (out .1 .1 .1 .1 .0) (c .before .before .before .before .before .before .before .serve .ensures (g .sofar) (g .walked));
       done = λ h. clash (c .if2 .taken) h;
       table-kept = same-length c;
@@ -100,9 +115,9 @@ loop-again : tie.Need-loop-again Inv-loop μ-loop
 loop-again c =
     let a = c .before .before .before .before .before .before .before .before .before .before .before .before .before .before .before .before .before .before .before .before .before .before .before .before .before .before .before .args in
     let g = c .before .before .before .before .before .before .before .before .before .before .before .before .before .before .before .loop .inv .0 in
-    let out = c .before .before .before .before .before .before .before .serve .last .1 .1 .1 .1 .1 .1 .1 .1 in
-    let kept = c .before .before .before .before .before .before .before .serve .kept .1 .1 .1 .1 .1 .1 .1 .1 in (
-      walking-next (decode (a .left .now)) (decode (a .right .now)) (left-good (c .before .before .before .before .before .before .before .before .before .before .before .before .before .before .before .before .before .before .before .before .before .before .before .before .before .before)) (right-good (c .before .before .before .before .before .before .before .before .before .before .before .before .before .before .before .before .before .before .before .before .before .before .before .before .before)) g (c .before .before .before .before .before .before .before .before .before .before .before .before .before .if1 .taken)
+    let out = c .before .before .before .before .before .before .before .serve .last .1 .1 .1 .1 .1 .1 .1 .1 .1 in
+    let kept = c .before .before .before .before .before .before .before .serve .kept .1 .1 .1 .1 .1 .1 .1 .1 .1 in (
+      walking-next (keying (c .before .before .before .before .before .before .before .before .before .before .before .before .before .before .before .before .before .before .before .before .before .before .before .before .before)) 2 g (c .before .before .before .before .before .before .before .before .before .before .before .before .before .if1 .taken)
           (c .before .before .before .before .before .before .before .serve .result) (out .0) (out .1 .0) (out .1 .1 .0) (out .1 .1 .1 .0) (out .1 .1 .1 .1 .0) (c .before .before .before .before .before .before .before .serve .ensures (g .sofar) (g .walked)) (c .if2 .left),
       kept .0 ∙ c .before .before .before .before .before .before .before .before .before .before .before .before .before .before .before .loop .inv .1,
       kept .1 .0 ∙ c .before .before .before .before .before .before .before .before .before .before .before .before .before .before .before .loop .inv .2,
@@ -125,7 +140,7 @@ returns-2 c =
     record {
       full = λ h. clash h (g .walked .not-full);
       done = λ h.
-          walking-stop (decode (a .left .now)) (decode (a .right .now)) (left-good (c .before .before .before .before .before .before .before .before .before .before .before .before .before)) (right-good (c .before .before .before .before .before .before .before .before .before .before .before .before)) g (c .if1 .left);
+          walking-stop (keying (c .before .before .before .before .before .before .before .before .before .before .before .before)) 2 g (c .if1 .left);
       table-kept = same-length-4 c;
       origins-kept = same-length-5 c;
       states-kept = same-length-6 c;

@@ -1,21 +1,18 @@
--- Each arm computes.
-use borrow.Author.Tests.{not-true, not-false}
+-- The test is the contract's.
+use mathlib.Core.Path.{_≡_}
+use mathlib.Core.Bool.{true, false, _&&_}
 use Rattle.lattice.proofs.sweep.both.Statement.{statement}
 use Rattle.lattice.proofs.sweep.both.Tie as tie
 
 returns : tie.Need-returns
-returns c = rw (not-true (c .before .args .a) (c .if1 .taken))
+returns c = let hold : c .before .args .a && c .before .args .b ≡ true = c .if1 .taken in rw hold
 
 returns-2 : tie.Need-returns-2
-returns-2 c = rw (not-false (c .before .before .args .a) (c .before .if1 .left), not-true (c .before .before .args .b) (c .if2 .taken))
-
-returns-3 : tie.Need-returns-3
-returns-3 c = rw (not-false (c .before .before .args .a) (c .before .if1 .left), not-false (c .before .before .args .b) (c .if2 .left))
+returns-2 c = let fail : c .before .args .a && c .before .args .b ≡ false = c .if1 .left in rw fail
 
 pub both-spec : {M : Type 1} → statement M
 both-spec =
     tie.close
     (tie.spec
     returns
-    returns-2
-    returns-3)
+    returns-2)

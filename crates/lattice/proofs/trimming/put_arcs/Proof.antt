@@ -126,14 +126,14 @@ loop-again-2 c =
     let here = loaded (c .before .before .before) in
     let turn = here .before in
     let a = here .arc-of .result in
-    let unused = index-no (start turn .pre .2) (a .target) (ends here .target-below) (c .if2 .taken) in
+    let unused = index-no (start turn .pre .2) (a .target) (ends here .target-below) (omega (arith, c .if2 .taken)) in
     arcs-skipped a (is-arc turn) (here .arc-of .ensures) (turn .before .loop .inv) (unused-target (decode (bytes-of turn)) a unused)
 
-mul-t15 : tie.Need-mul-t15 Inv-loop μ-loop
-mul-t15 c = omega (arith, ends (loaded (source-kept c)))
+mul-t16 : tie.Need-mul-t16 Inv-loop μ-loop
+mul-t16 c = omega (arith, ends (loaded (source-kept c)))
 
-element-copy-out-t18 : tie.Need-element-copy-out-t18 Inv-loop μ-loop
-element-copy-out-t18 c = omega (arith, ends (loaded (source-kept c)))
+element-copy-out-t19 : tie.Need-element-copy-out-t19 Inv-loop μ-loop
+element-copy-out-t19 c = omega (arith, ends (loaded (source-kept c)))
 
 mul-origins : tie.Need-mul-origins Inv-loop μ-loop
 mul-origins c = omega (arith, ends (loaded (source-kept (c .before))))
@@ -150,9 +150,6 @@ add-put-arc c = let e = c .before .before .before in omega (arith, room e .0, st
 put-arc-requires : tie.Need-put-arc-requires Inv-loop μ-loop
 put-arc-requires c κs = let e = c .before .before .before in omega (arith, room e .0, turn-of e .before .loop .inv .long)
 
-sub-origins : tie.Need-sub-origins Inv-loop μ-loop
-sub-origins c = omega arith
-
 cast-origins : tie.Need-cast-origins Inv-loop μ-loop
 cast-origins c =
     let turn = turn-of (both-kept (c .before .before)) in
@@ -160,10 +157,15 @@ cast-origins c =
     omega (arith, is-arc turn, length-arcs (bytes-of turn) (is-bytes turn) ok, accepted-within (bytes-of turn) (is-bytes turn) ok .arcs)
 
 mul-origins-2 : tie.Need-mul-origins-2 Inv-loop μ-loop
-mul-origins-2 c = let e = both-kept (c .before .before) in omega (arith, room e .1, start (turn-of e) .good)
+mul-origins-2 c =
+    let turn = turn-of (both-kept (c .before .before)) in
+    omega (arith, turn .loop-test .taken, turn .before .loop .inv .few, start turn .pre .4, start turn .good)
 
 slice-write-origins : tie.Need-slice-write-origins Inv-loop μ-loop
-slice-write-origins c = let e = both-kept (c .before .before) in omega (arith, room e .1, turn-of e .before .loop .inv .origins-long)
+slice-write-origins c =
+    let turn = turn-of (both-kept (c .before .before)) in
+    let here = turn .before .loop .inv in
+    omega (arith, turn .loop-test .taken, here .few, here .origins-long, start turn .pre .4)
 
 add-count : tie.Need-add-count Inv-loop μ-loop
 add-count c = let e = both-kept (c .before .before) in omega (arith, room e .1, start (turn-of e) .good)
@@ -180,9 +182,9 @@ loop-again-3 c =
     let a = here .arc-of .result in
     let index = start turn .pre .2 in
     let used = used-both (decode (bytes-of turn)) a (index-yes index (a .source) (ends here .source-below) (source-kept e .if1 .left))
-    (index-yes index (a .target) (ends here .target-below) (e .if2 .left)) in
-    arcs-more a (is-arc turn) (here .arc-of .ensures) (turn .before .loop .inv) _ _ used
-    (index-arc index a (ends here .source-below) (ends here .target-below)) (omega arith) (put .put-arc .kept .0) (put .put-arc .ensures) refl
+    (index-yes index (a .target) (ends here .target-below) (λ same. e .if2 .left (omega (arith, same)))) in
+    arcs-more a (is-arc turn) (here .arc-of .ensures) (turn .before .loop .inv) _ _ _ used
+    (index-arc index a (ends here .source-below) (ends here .target-below)) (omega arith) (omega arith) (put .put-arc .kept .0) (put .put-arc .ensures) refl
 
 same-length : tie.Need-same-length Inv-loop μ-loop
 same-length c = c .before .loop .inv .long
@@ -218,14 +220,13 @@ put-arcs-spec =
     element-copy-out-if2-2
     loop-less-2
     loop-again-2
-    mul-t15
-    element-copy-out-t18
+    mul-t16
+    element-copy-out-t19
     mul-origins
     element-copy-out-origins
     mul-put-arc
     add-put-arc
     put-arc-requires
-    sub-origins
     cast-origins
     mul-origins-2
     slice-write-origins

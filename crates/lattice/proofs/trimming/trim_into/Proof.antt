@@ -1,6 +1,6 @@
 -- The head, the new numbers, and either the start alone or what is kept: each call says what it leaves, and the laws of `TrimSays` put it together.
 use borrow.Author.Needs.{needs}
-use mathlib.Core.Path.{_≡_}
+use mathlib.Core.Path.{_≡_, _∙_}
 use mathlib.Core.List.{List}
 use Prim.Native.Nat.{ℕ, _+_, _*_, _≤_, _<_}
 use native.Mathlib.Omega.{arith}
@@ -33,6 +33,9 @@ finals-put c = c .before .before .before .before .before .before
 
 abbrev arcs-put : tie.After-put-head-arg2 → tie.After-put-arcs
 arcs-put c = c .before .before .before .before .before
+
+abbrev start-read : tie.After-put-head2 → tie.After-new-number
+start-read c = c .before
 
 abbrev head-put : tie.After-clear82 → tie.After-put-head2
 head-put c = c .before .before .before .before
@@ -185,11 +188,10 @@ cast-put-head c = omega (arith, few-arcs (arcs-put c))
 cast-put-head-2 : tie.Need-cast-put-head-2
 cast-put-head-2 c = omega (arith, few-finals (finals-put (arcs-put c)) .0)
 
-mul-put-head-2 : tie.Need-mul-put-head-2
-mul-put-head-2 c = let k = head-is (opened (numbered (finals-put (arcs-put c)) .before .before)) in omega (arith, k .few-states, k .start-below)
-
-array-read-put-head-2 : tie.Need-array-read-put-head-2
-array-read-put-head-2 c = let k = head-is (opened (numbered (finals-put (arcs-put c)) .before .before)) in omega (arith, k .few-states, k .start-below)
+new-number-requires : tie.Need-new-number-requires
+new-number-requires c κs =
+    let k = head-is (opened (numbered (finals-put (arcs-put (c .before))) .before .before)) in
+    omega (arith, k .few-states, k .start-below)
 
 -- The buffers keep their lengths.
 table-long : (c : tie.After-put-arcs) →
@@ -202,18 +204,18 @@ origins-long c = omega (arith, c .put-arcs .kept)
 
 put-head-requires-2 : tie.Need-put-head-requires-2
 put-head-requires-2 c κs =
-    let put = arcs-put c in
+    let put = arcs-put (c .before .before) in
     omega (arith, table-long put, start (opened (numbered (finals-put put) .before .before)) .pre .1)
 
 clear8-requires-2 : tie.Need-clear8-requires-2
 clear8-requires-2 c κs =
     let head = c .before .before .before in
-    let put = arcs-put (head .before) in
+    let put = arcs-put (start-read head .before .before) in
     omega (arith, head .put-head2 .kept, table-long put, few-arcs put, few-finals (finals-put put) .1)
 
 clear16-requires-2 : tie.Need-clear16-requires-2
 clear16-requires-2 c κs =
-    let put = arcs-put (head-put (c .before .before .before) .before) in
+    let put = arcs-put (start-read (head-put (c .before .before .before)) .before .before) in
     omega (arith, origins-long put, few-arcs put, start (opened (numbered (finals-put put) .before .before)) .pre .2)
 
 same-length-3 : tie.Need-same-length-3
@@ -227,7 +229,7 @@ returns-2 c =
     let zeroed = c .before .before in
     let table = cleared-table zeroed in
     let head = head-put table in
-    let arcs = arcs-put (head .before) in
+    let arcs = arcs-put (start-read head .before .before) in
     let finals = finals-put arcs in
     let some = numbered finals in
     let h = opened (some .before .before) in
@@ -239,7 +241,7 @@ returns-2 c =
     trims-kept t (start h .args .out .now) (start h .args .origins .now) (h .header .result .start) _ _ _ _ (k .start-is)
     (index-yes index (h .header .result .start) below (some .if1 .left))
     (index-at index (h .header .result .states) (t .states) (k .states-are) (omega arith))
-    (index-at index (h .header .result .start) (t .start) (k .start-is) start-under)
+    (start-read head .new-number .ensures ∙ index-at index (h .header .result .start) (t .start) (k .start-is) start-under)
     (finals .put-finals .ensures .0) (omega (arith, few-finals finals .1, few-arcs arcs)) (omega (arith, few-arcs arcs, start h .pre .2))
     (finals .put-finals .ensures .1) (arcs .put-arcs .ensures) (head .put-head2 .ensures) (table .clear82 .ensures) (zeroed .clear162 .ensures)
 
@@ -276,8 +278,7 @@ trim-into-spec =
     array-read-put-head
     cast-put-head
     cast-put-head-2
-    mul-put-head-2
-    array-read-put-head-2
+    new-number-requires
     put-head-requires-2
     clear8-requires-2
     clear16-requires-2

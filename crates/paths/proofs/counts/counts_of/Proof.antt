@@ -26,7 +26,7 @@ loop-less : tie.Need-loop-less Inv-loop μ-loop
 loop-less c =
     let swept = c .before .before .before in
     let t = decode (swept .before .before .before .args .table .now) in
-    sweeps-less t (swept .before .loop .counts) (swept .sweep .result) (swept .sweep .ensures) (not-false (swept .sweep .result .changed) (c .if1 .left))
+    sweeps-less t (swept .before .loop .counts) (swept .sweep .result) (swept .sweep .ensures) (not-false (swept .sweep .result .again) (c .if1 .left))
 
 loop-again : tie.Need-loop-again Inv-loop μ-loop
 loop-again c = let says = c .before .before .before .sweep .ensures in (says .long, says .rising)
@@ -35,7 +35,7 @@ returns : tie.Need-returns Inv-loop μ-loop
 returns c =
     let swept = c .before .before .before in
     let t = decode (swept .before .before .before .args .table .now) in
-    sweeps-stop t (swept .before .loop .counts) (swept .sweep .result) (swept .sweep .ensures) (not-true (swept .sweep .result .changed) (c .if1 .taken))
+    sweeps-stop t (swept .before .loop .counts) (swept .sweep .result) (swept .sweep .ensures) (not-true (swept .sweep .result .again) (c .if1 .taken))
 
 pub counts-of-spec : {M : Type 1} → statement M
 counts-of-spec =

@@ -8,21 +8,21 @@ use Rattle.wire.specs.Bytes.{Bytes}
 use Rattle.transducer.specs.Format.{decode}
 use Rattle.paths.specs.Sweep.{at-state}
 use Rattle.paths.proofs.Ready.{Sized, Range, sized, range, own-code}
-use Rattle.paths.proofs.CountsInPlace.{Adding, Sweeping, adding-first, adding-next, adding-stop, adding-below, sweeping-first, sweeping-down, sweeping-stop}
+use Rattle.paths.proofs.CountsInPlace.{Adding, Sweeping, after-less, adding-first, adding-next, adding-stop, adding-below, sweeping-first, sweeping-down, sweeping-stop}
 use Rattle.paths.proofs.counts.sweep.Statement.{statement}
 use Rattle.paths.proofs.counts.sweep.Tie as tie
 
 abbrev Inv-loop2 : tie.InvT-loop2
-Inv-loop2 table first states index codes counts changed s end i₀ sum₀ i sum = Adding (decode table) (at-state counts) s i end (sum .value)
+Inv-loop2 table first states index codes counts changed back₀ s end i₀ sum₀ back i sum = Adding (decode table) (at-state counts) s i end (sum .value) back₀ back
 
 abbrev μ-loop2 : tie.MeasureT-loop2
-μ-loop2 table first states index codes counts changed s end i₀ sum₀ i sum = end - i
+μ-loop2 table first states index codes counts changed back₀ s end i₀ sum₀ back i sum = end - i
 
 abbrev Inv-loop : tie.InvT-loop
-Inv-loop table first states index codes counts₀ changed₀ s₀ counts changed s = Sweeping (decode table) counts₀ s counts changed
+Inv-loop table first states index codes counts₀ changed₀ back₀ s₀ counts changed back s = Sweeping (decode table) counts₀ s counts changed back
 
 abbrev μ-loop : tie.MeasureT-loop
-μ-loop table first states index codes counts₀ changed₀ s₀ counts changed s = s
+μ-loop table first states index codes counts₀ changed₀ back₀ s₀ counts changed back s = s
 
 -- A turn of the outer loop: its state, and what is known of the bytes.
 abbrev Turn : Type 0
@@ -93,7 +93,7 @@ loop2-holds c =
     let t = c .before .before .before .before in
     let a = start t .args in
     let s = t .before .loop .s - 1 in
-    adding-first (decode (a .table .now)) (size t) (at-state (t .before .loop .counts)) s (getD (a .index .now) s 0) (getD (a .index .now) (s + 1) 0) (c .own .result .value) (arcs t)
+    adding-first (decode (a .table .now)) (size t) (at-state (t .before .loop .counts)) s (getD (a .index .now) s 0) (getD (a .index .now) (s + 1) 0) (c .own .result .value) (t .before .loop .back) (arcs t)
     (c .own .ensures ∙ own-code (decode (a .table .now)) (a .codes .now) s (getD (a .codes .now) s 0) (start t .pre .1) (below t) refl)
 
 target-requires : tie.Need-target-requires Inv-loop2 μ-loop2 Inv-loop μ-loop
@@ -101,7 +101,7 @@ target-requires c κs =
     let t = turn (c .before) in (
       start t .pre .0 .opened,
       adding-below (decode (start t .args .table .now)) (at-state (t .before .loop .counts)) (t .before .loop .s - 1) (c .before .loop2 .i)
-          (getD (start t .args .index .now) (t .before .loop .s - 1 + 1) 0) (c .before .loop2 .sum .value) (c .before .loop2 .inv) (c .loop2-test .taken),
+          (getD (start t .args .index .now) (t .before .loop .s - 1 + 1) 0) (c .before .loop2 .sum .value) (t .before .loop .back) (c .before .loop2 .back) (c .before .loop2 .inv) (c .loop2-test .taken),
     )
 
 mul-add : tie.Need-mul-add Inv-loop2 μ-loop2 Inv-loop μ-loop
@@ -113,22 +113,24 @@ array-copy-out-add c = omega (arith, c .target .ensures .1, size (turn (c .befor
 add-requires : tie.Need-add-requires Inv-loop2 μ-loop2 Inv-loop μ-loop
 add-requires c κs = tt
 
-add-i : tie.Need-add-i Inv-loop2 μ-loop2 Inv-loop μ-loop
-add-i c =
-    let t = turn (c .before .before .before .before) in
-    omega (arith, c .before .before .before .loop2-test .taken, arcs t .inside, size t .arcs)
+after-requires : tie.Need-after-requires Inv-loop2 μ-loop2 Inv-loop μ-loop
+after-requires c κs = c .before .before .before .loop2-test .taken
 
 loop2-less : tie.Need-loop2-less Inv-loop2 μ-loop2 Inv-loop μ-loop
-loop2-less c = search needs
+loop2-less c =
+    let inner = c .before .before .before .before .before in
+    let to = getD (start (turn inner) .args .index .now) (turn inner .before .loop .s - 1 + 1) 0 in
+    after-less (inner .loop2 .i) to (c .before .add .result .value) (c .after .result) (c .before .before .before .before .loop2-test .taken) (c .after .ensures)
 
 loop2-again : tie.Need-loop2-again Inv-loop2 μ-loop2 Inv-loop μ-loop
 unfolding at-state
 loop2-again c =
-    let inner = c .before .before .before .before in
+    let inner = c .before .before .before .before .before in
     let t = turn inner in
-    adding-next (decode (start t .args .table .now)) (size t) (at-state (t .before .loop .counts)) (t .before .loop .s - 1) (inner .loop2 .i)
-    (getD (start t .args .index .now) (t .before .loop .s - 1 + 1) 0) (inner .loop2 .sum .value) (c .add .result .value) (c .before .before .target .result)
-    (inner .loop2 .inv) (c .before .before .before .loop2-test .taken) (c .before .before .target .ensures .0) (c .add .ensures)
+    adding-next (decode (start t .args .table .now)) (size t) (at-state (t .before .loop .counts)) (t .before .loop .s - 1) (inner .loop2 .i) (c .after .result)
+    (getD (start t .args .index .now) (t .before .loop .s - 1 + 1) 0) (inner .loop2 .sum .value) (c .before .add .result .value) (c .before .before .before .target .result)
+    (t .before .loop .back) (inner .loop2 .back) (inner .loop2 .inv) (c .before .before .before .before .loop2-test .taken) (c .before .before .before .target .ensures .0) (c .before .add .ensures)
+    (c .after .ensures)
 
 mul-old : tie.Need-mul-old Inv-loop2 μ-loop2 Inv-loop μ-loop
 mul-old c = omega (arith, below (turn (c .before)))
@@ -153,13 +155,15 @@ loop-again c =
     let cs = t .before .loop .counts in
     let s = t .before .loop .s in
     let z = decode (start t .args .table .now) in
-    sweeping-down z (size t) (start t .args .before) s cs (t .before .loop .changed) (at-state cs (s - 1)) (inner .loop2 .sum) (t .before .loop .inv) (t .loop-test .taken) refl
-    (adding-stop z (size t) (at-state cs) (s - 1) (inner .loop2 .i) (getD (start t .args .index .now) (s - 1 + 1) 0) (inner .loop2 .sum .value) (inner .loop2 .inv) (c .before .before .before .loop2-test .left))
+    sweeping-down z (size t) (start t .args .before) s cs (t .before .loop .changed) (t .before .loop .back) (inner .loop2 .back) (at-state cs (s - 1)) (inner .loop2 .sum) (t .before .loop .inv)
+    (t .loop-test .taken) (inner .loop2 .inv .kept) refl
+    (adding-stop z (size t) (at-state cs) (s - 1) (inner .loop2 .i) (getD (start t .args .index .now) (s - 1 + 1) 0) (inner .loop2 .sum .value) (t .before .loop .back) (inner .loop2 .back) (inner .loop2 .inv)
+    (c .before .before .before .loop2-test .left))
 
 returns : tie.Need-returns Inv-loop2 μ-loop2 Inv-loop μ-loop
 returns c =
     let a = c .before .before .before .args in
-    sweeping-stop (decode (a .table .now)) (a .before) (c .before .loop .s) (c .before .loop .counts) (c .before .loop .changed) _ refl (c .before .loop .inv) (c .loop-test .left)
+    sweeping-stop (decode (a .table .now)) (a .before) (c .before .loop .s) (c .before .loop .counts) (c .before .loop .changed) (c .before .loop .back) _ refl (c .before .loop .inv) (c .loop-test .left)
 
 pub sweep-spec : {M : Type 1} → statement M
 sweep-spec =
@@ -186,7 +190,7 @@ sweep-spec =
     mul-add
     array-copy-out-add
     add-requires
-    add-i
+    after-requires
     loop2-less
     loop2-again
     mul-old

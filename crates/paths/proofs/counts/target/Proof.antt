@@ -45,7 +45,7 @@ returns c =
     let found = sym (ap (λ (a : Arc). a .target) (arc-offset bs bytes (opened .accepted) (start .args .i) (start .pre .1))) in
     let target = c .u16-at .ensures ∙ ap (λ (first : ℕ). two bs (first + 16 * start .args .i + 10)) (opened .first-is) ∙ found in
     let inside = content-range (decode bs) (accepted-content bs (opened .accepted)) .target (start .args .i) (start .pre .1) in
-    (target , omega (arith, target, inside))
+    (target, omega (arith, target, inside))
 
 pub target-spec : {M : Type 1} → statement M
 target-spec =

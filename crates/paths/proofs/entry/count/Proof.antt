@@ -35,6 +35,9 @@ at-index c = c .before .before .before
 abbrev at-codes : tie.After-is-endless → tie.After-codes
 at-codes c = c .before .before .before
 
+abbrev asked : tie.After-codes2 → tie.After-is-endless
+asked c = c .before .before .before
+
 ready : (c : tie.After-first-arcs) → Ready (at-header (c .before) .before .before .before .before .args .table .now) (12 + 10 * at-header (c .before) .header .result .finals) (at-header (c .before) .header .result .states) (c .first-arcs .result)
 ready c =
     let known = head (at-header (c .before)) in
@@ -73,33 +76,37 @@ first-arcs-requires c κs = let known = head (at-header c) in (known .opened, kn
 final-codes-requires : tie.Need-final-codes-requires
 final-codes-requires c κs = let known = head (at-header (c .before)) in (known .opened .accepted, known .finals-are)
 
-counts-of-requires : tie.Need-counts-of-requires
-counts-of-requires c κs = (ready (at-index c), c .before .before .final-codes .ensures)
+dead-states-requires : tie.Need-dead-states-requires
+dead-states-requires c κs = (ready (at-index c), c .before .before .final-codes .ensures)
 
 is-endless-requires : tie.Need-is-endless-requires
 is-endless-requires c κs =
     let index = at-index (c .before .before) in
-    (ready index, head (at-header (index .before)) .start-is, c .before .counts-of .ensures)
+    (ready index, head (at-header (index .before)) .start-is, c .before .dead-states .ensures)
 
 returns-2 : tie.Need-returns-2
 returns-2 c =
     let passed = at-header (at-index (at-codes (c .before)) .before) .before in
     count-endless (passed .before .refusal .ensures) (passed .if1 .left) (c .before .is-endless .ensures) (c .if2 .taken)
 
+counts-of-requires : tie.Need-counts-of-requires
+counts-of-requires c κs = let codes = at-codes (asked c) in (ready (at-index codes), codes .before .before .final-codes .ensures)
+
 mul-all : tie.Need-mul-all
-mul-all c = omega (arith, head (at-header (at-index (at-codes (c .before)) .before)) .start-below)
+mul-all c = omega (arith, head (at-header (at-index (at-codes (asked (c .before))) .before)) .start-below)
 
 array-copy-out-all : tie.Need-array-copy-out-all
-array-copy-out-all c = head (at-header (at-index (at-codes (c .before)) .before)) .start-below
+array-copy-out-all c = head (at-header (at-index (at-codes (asked (c .before))) .before)) .start-below
 
 returns-3 : tie.Need-returns-3
 unfolding at-state
 returns-3 c =
-    let tested = c .before .before in
+    let counted = c .before in
+    let tested = asked (counted .before) in
     let header = at-header (at-index (at-codes tested) .before) in
     let passed = header .before in
-    count-found {cs = tested .before .before .counts-of .result} {start = header .header .result .start} (size passed) (passed .before .refusal .ensures) (passed .if1 .left)
-    (tested .is-endless .ensures) (c .before .if2 .left) (tested .before .before .counts-of .ensures) (head header .start-is)
+    count-found {cs = counted .counts-of .result} {start = header .header .result .start} (size passed) (passed .before .refusal .ensures) (passed .if1 .left)
+    (tested .is-endless .ensures) (counted .before .before .before .if2 .left) (counted .counts-of .ensures) (head header .start-is)
 
 pub count-spec : {M : Type 1} → statement M
 count-spec =
@@ -116,9 +123,10 @@ count-spec =
     cast-first-arcs
     first-arcs-requires
     final-codes-requires
-    counts-of-requires
+    dead-states-requires
     is-endless-requires
     returns-2
+    counts-of-requires
     mul-all
     array-copy-out-all
     returns-3)

@@ -1,10 +1,11 @@
 -- The invariant: the marks are on their way (`Marking`). Each sweep that sets one leaves fewer states unmarked.
+use mathlib.Core.Bool.{true}
 use native.Mathlib.Omega.{arith}
 use Rattle.wire.specs.Bytes.{Bytes}
 use Rattle.transducer.specs.Format.{decode}
-use Rattle.paths.specs.Sweep.{marked, Marking, unmarked}
+use Rattle.paths.specs.Sweep.{marked, unlike}
 use Rattle.paths.proofs.Ready.{Sized, sized}
-use Rattle.paths.proofs.MarksInPlace.{marking-dead, marks-endless}
+use Rattle.paths.proofs.EndlessMarks.{Marking, marking-dead, marking-changed, marks-endless}
 use Rattle.paths.proofs.marks.is_endless.Statement.{statement}
 use Rattle.paths.proofs.marks.is_endless.Tie as tie
 
@@ -12,7 +13,7 @@ abbrev Inv-loop : tie.InvT-loop
 Inv-loop table first states start index marks₀ marks = Marking (decode table) marks
 
 abbrev μ-loop : tie.MeasureT-loop
-μ-loop table first states start index marks₀ marks = unmarked (decode table .states) marks
+μ-loop table first states start index marks₀ marks = unlike true (decode table .states) marks
 
 -- The entry, with what is known of the bytes.
 abbrev Entry : Type 0
@@ -24,35 +25,33 @@ size c =
     let bytes : Bytes bs = λ i. omega (arith, c .shared-slice-known .given i) in
     sized bs bytes (c .before .pre .0 .opened .accepted)
 
-dead-requires : tie.Need-dead-requires Inv-loop μ-loop
-dead-requires c κs = c .before .pre .2 .long
-
 loop-holds : tie.Need-loop-holds Inv-loop μ-loop
-loop-holds c =
-    let start = c .before .before in
-    marking-dead (decode (start .args .table .now)) (size (c .before)) (start .args .counts) (c .dead .result) (start .pre .2) (c .dead .ensures .0) (c .dead .ensures .1)
+loop-holds c = marking-dead (decode (c .before .args .table .now)) (c .before .args .dead) (c .before .pre .2)
 
 mark-requires : tie.Need-mark-requires Inv-loop μ-loop
-mark-requires c κs = (c .before .before .before .before .pre .0, c .before .loop .inv)
+mark-requires c κs = (c .before .before .before .pre .0, c .before .loop .inv .long)
 
 loop-less : tie.Need-loop-less Inv-loop μ-loop
 loop-less c = c .before .mark .ensures .fewer (c .if1 .taken)
 
 loop-again : tie.Need-loop-again Inv-loop μ-loop
-loop-again c = c .before .mark .ensures .marking
+loop-again c =
+    let entry = c .before .before .before .before in
+    marking-changed (decode (entry .before .args .table .now)) (size entry) (c .before .mark .ensures .changed) (c .before .before .before .loop .inv)
 
 array-read-result : tie.Need-array-read-result Inv-loop μ-loop
 array-read-result c =
-    let entry = c .before .before .before .before .before in
+    let entry = c .before .before .before .before in
     omega (arith, entry .before .pre .1, size entry .within .starts, size entry .states)
 
 returns : tie.Need-returns Inv-loop μ-loop
 unfolding marked
 returns c =
-    let entry = c .before .before .before .before .before in
+    let entry = c .before .before .before .before in
     let a = entry .before .args in
-    marks-endless (decode (a .table .now)) (size entry) (c .before .before .before .loop .marks) (c .before .mark .last .1 .1 .1 .1 .0) (c .before .mark .result) (a .start)
-    (c .before .mark .ensures) (c .if1 .left) (entry .before .pre .1)
+    let says = c .before .mark .ensures in
+    marks-endless (decode (a .table .now)) (size entry) (c .before .mark .last .1 .1 .1 .1 .0) (a .start)
+    (marking-changed (decode (a .table .now)) (size entry) (says .changed) (c .before .before .before .loop .inv)) (says .rest (c .if1 .left)) (entry .before .pre .1)
 
 pub is-endless-spec : {M : Type 1} → statement M
 is-endless-spec =
@@ -60,7 +59,6 @@ is-endless-spec =
     (tie.spec
     Inv-loop
     μ-loop
-    dead-requires
     loop-holds
     mark-requires
     loop-less

@@ -1,21 +1,20 @@
--- The invariant: the states from `s` on are swept (`MarkingOn`). A state stays unmarked where an arc leads on from it.
-use mathlib.Core.Path.{_≡_, sym, _∙_}
-use mathlib.Core.Bool.{Bool, true, false}
-use Prim.Native.Nat.{ℕ, _-_, _<_}
+-- The invariant: the states from `s` on are swept (`MarkingOn`). A state has the mark already, is left with the other one, or is given it.
+use mathlib.Core.Path.{sym, _∙_}
+use Prim.Native.Nat.{_-_, _<_}
 use native.Mathlib.Omega.{arith}
 use Rattle.wire.specs.Bytes.{Bytes}
 use Rattle.transducer.specs.Format.{decode}
-use Rattle.paths.specs.Sweep.{marked, leads-on}
+use Rattle.paths.specs.Sweep.{marked}
 use Rattle.paths.proofs.Ready.{Sized, sized}
-use Rattle.paths.proofs.MarksInPlace.{MarkingOn, marking-first, marking-kept, marking-set, marking-stop}
+use Rattle.paths.proofs.MarksInPlace.{beq-true, beq-false, MarkingOn, marking-first, marking-kept, marking-left, marking-set, marking-stop}
 use Rattle.paths.proofs.marks.mark.Statement.{statement}
 use Rattle.paths.proofs.marks.mark.Tie as tie
 
 abbrev Inv-loop : tie.InvT-loop
-Inv-loop table first states index marks₀ changed₀ s₀ marks changed s = MarkingOn (decode table) marks₀ s marks changed
+Inv-loop table first states index marks₀ value changed₀ left₀ s₀ marks changed left s = MarkingOn (decode table) value marks₀ s marks changed left
 
 abbrev μ-loop : tie.MeasureT-loop
-μ-loop table first states index marks₀ changed₀ s₀ marks changed s = s
+μ-loop table first states index marks₀ value changed₀ left₀ s₀ marks changed left s = s
 
 -- A turn of the loop.
 abbrev Turn : Type 0
@@ -36,13 +35,10 @@ is-state c = omega (arith, c .before .loop .inv .below, c .loop-test .taken)
 below : (c : Turn) → c .before .loop .s - 1 < 1024
 below c = omega (arith, is-state c, size c .states)
 
-never : (b : Bool) → b ≡ true → b ≡ false → {A : Type 0} → A
-never b p q = let z : _≡_ {A = ℕ} 0 1 = cc in absurd (omega arith)
-
 loop-holds : tie.Need-loop-holds Inv-loop μ-loop
 loop-holds c =
     let a = c .before .args in
-    marking-first (decode (a .table .now)) (a .marks .now) (a .states) (c .before .pre .0 .states-are) (c .before .pre .1)
+    marking-first (decode (a .table .now)) (a .value) (a .marks .now) (a .states) (c .before .pre .0 .states-are) (c .before .pre .1)
 
 sub-s : tie.Need-sub-s Inv-loop μ-loop
 sub-s c = omega (arith, c .loop-test .taken)
@@ -58,8 +54,8 @@ unfolding marked
 loop-again c =
     let t = c .before .before in
     let now' = t .before .loop in
-    marking-kept (decode (start t .args .table .now)) (size t) (start t .args .marks .now) (now' .s) (now' .marks) (now' .changed) (now' .inv) (t .loop-test .taken)
-    (λ q. never (marked (now' .marks) (now' .s - 1)) (c .if1 .taken) q)
+    marking-kept (decode (start t .args .table .now)) (size t) (start t .args .value) (start t .args .marks .now) (now' .s) (now' .marks) (now' .changed) (now' .left) (now' .inv) (t .loop-test .taken)
+    (beq-true (marked (now' .marks) (now' .s - 1)) (start t .args .value) (c .if1 .taken))
 
 leads-on-requires : tie.Need-leads-on-requires Inv-loop μ-loop
 leads-on-requires c κs =
@@ -73,8 +69,8 @@ loop-again-2 : tie.Need-loop-again-2 Inv-loop μ-loop
 loop-again-2 c =
     let t = c .before .before .before .before .before in
     let now' = t .before .loop in
-    marking-kept (decode (start t .args .table .now)) (size t) (start t .args .marks .now) (now' .s) (now' .marks) (now' .changed) (now' .inv) (t .loop-test .taken)
-    (λ _. sym (c .before .leads-on .ensures) ∙ c .if2 .taken)
+    marking-left (decode (start t .args .table .now)) (size t) (start t .args .value) (start t .args .marks .now) (now' .s) (now' .marks) (now' .changed) (now' .left) (now' .inv) (t .loop-test .taken)
+    (sym (c .before .leads-on .ensures) ∙ beq-true (c .before .leads-on .result) (start t .args .value) (c .if2 .taken))
 
 element-write-marks : tie.Need-element-write-marks Inv-loop μ-loop
 element-write-marks c = below (c .before .before .before .before .before)
@@ -87,13 +83,14 @@ unfolding marked
 loop-again-3 c =
     let t = c .before .before .before .before .before in
     let now' = t .before .loop in
-    marking-set (decode (start t .args .table .now)) (size t) (start t .args .marks .now) (now' .s) (now' .marks) (now' .changed) (now' .inv) (t .loop-test .taken)
-    (c .before .before .before .if1 .left) (sym (c .before .leads-on .ensures) ∙ c .if2 .left)
+    marking-set (decode (start t .args .table .now)) (size t) (start t .args .value) (start t .args .marks .now) (now' .s) (now' .marks) (now' .changed) (now' .left) (now' .inv) (t .loop-test .taken)
+    (beq-false (marked (now' .marks) (now' .s - 1)) (start t .args .value) (c .before .before .before .if1 .left))
+    (sym (c .before .leads-on .ensures) ∙ beq-false (c .before .leads-on .result) (start t .args .value) (c .if2 .left))
 
 returns : tie.Need-returns Inv-loop μ-loop
 returns c =
     let a = c .before .before .before .args in
-    marking-stop (decode (a .table .now)) (a .marks .now) (c .before .loop .s) (c .before .loop .marks) (c .before .loop .changed) (c .before .loop .inv) (c .loop-test .left)
+    marking-stop (decode (a .table .now)) (a .value) (a .marks .now) (c .before .loop .s) (c .before .loop .marks) (c .before .loop .changed) (c .before .loop .left) (c .before .loop .inv) (c .loop-test .left)
 
 pub mark-spec : {M : Type 1} → statement M
 mark-spec =

@@ -158,7 +158,7 @@ element-copy-out-code : tie.Need-element-copy-out-code Inv-loop μ-loop
 element-copy-out-code c = at-state' (c .before .before .before .before)
 
 sub-t27 : tie.Need-sub-t27 Inv-loop μ-loop
-sub-t27 c = told (stop c) .some
+sub-t27 c = omega (arith, told (stop c) .some)
 
 cast-t28 : tie.Need-cast-t28 Inv-loop μ-loop
 cast-t28 c = omega (arith, told (stop c) .code-low)

@@ -1,0 +1,7 @@
+pub mod Answers
+pub mod Chain
+pub mod ChainCounted
+pub mod Claimed
+pub mod Counting
+pub mod Pigeonhole
+pub mod ReadingsSays

@@ -1,0 +1,61 @@
+-- The arcs of what is built fit into their records, where at most 1,024 states are reached. Assumes nothing.
+use mathlib.Core.Path.{_≡_}
+use mathlib.Core.Bool.{Bool, true, _&&_}
+use mathlib.Core.List.{List}
+use Prim.Native.Nat.{ℕ, _≤_, _<_}
+use native.Mathlib.Omega.{arith}
+use lib.Dec.{ltb}
+use lib.ListN.{length, getD}
+use borrow.Author.Tests.{ltb-true, lt-ltb}
+use Rattle.wire.specs.Bytes.{every}
+use Rattle.wire.proofs.Places.{and-true, every-getD}
+use Rattle.transducer.specs.declared.Arc.{Arc}
+use Rattle.transducer.specs.Format.{Transducer, barred, labels-good, states-good, all-labels-good}
+use Rattle.explore.specs.Explore.{Step, Decides, Built, built}
+use Rattle.explore.proofs.Member.{Mem}
+use Rattle.explore.proofs.Parts.{built-states}
+use Rattle.explore.proofs.Built.{Labelled, every-arc, built-labels, built-states-good}
+
+-- Numbers that two bytes hold, and a weight that four hold.
+pub record Arc-fits (a : Arc) : Type 0 where
+  pub source : a .source < 65536
+  pub input : a .input < 65536
+  pub output : a .output < 65536
+  pub target : a .target < 65536
+  pub weight : a .weight < 4294967296
+
+-- Each step of a reached state has a weight below a bound.
+abbrev pub Weighing : {A O : Type 0} → (bound : ℕ) → (steps : A → List (Step A O)) → Type 0
+Weighing {A} {O} bound steps = (x : A) (s : Step A O) → Mem s (steps x) → s .weight < bound
+
+module _ {A O : Type 0} (same : A → A → Bool) (steps : A → List (Step A O)) (final : A → Bool) (weight : A → ℕ) (first : A) where
+  abbrev b : Built A O
+  b = built same steps final weight first
+
+  built-weights : (bound : ℕ) → Weighing bound steps → every (λ a. ltb (a .weight) bound) (b .result .arcs) ≡ true
+  unfolding built
+  built-weights bound light =
+      every-arc same (b .states) (λ a. ltb (a .weight) bound) steps 0 (b .states) (λ k x s h m. lt-ltb (s .weight) bound (light x s m))
+
+  pub built-fits : Decides same → length (b .states) ≤ 1024 → Labelled steps → Weighing 4294967296 steps → (k : ℕ) (d : Arc)
+      → k < length (b .result .arcs) → Arc-fits (getD (b .result .arcs) k d)
+  unfolding states-good all-labels-good labels-good
+  built-fits right few labelled light k d l =
+      let z : Transducer = b .result in
+      let a : Arc = getD (z .arcs) k d in
+      let n : z .states ≡ length (b .states) = built-states same steps final weight first in
+      let good : states-good z ≡ true = built-states-good same steps final weight first right few in
+      let arcs = and-true (every (λ f. ltb (f .state) (z .states)) (z .finals))
+      (every (λ a. ltb (a .source) (z .states) && ltb (a .target) (z .states)) (z .arcs)) good .1 in
+      let ends = and-true (ltb (a .source) (z .states)) (ltb (a .target) (z .states))
+      (every-getD (λ a. ltb (a .source) (z .states) && ltb (a .target) (z .states)) (z .arcs) k d arcs l) in
+      let all : all-labels-good z ≡ true = built-labels same steps final weight first labelled in
+      let labels = and-true (ltb (a .input) barred) (ltb (a .output) barred)
+      (every-getD (λ a. ltb (a .input) barred && ltb (a .output) barred) (z .arcs) k d all l) in
+      record {
+        source = omega (arith, ltb-true (a .source) (z .states) (ends .0));
+        input = omega (arith, ltb-true (a .input) barred (labels .0));
+        output = omega (arith, ltb-true (a .output) barred (labels .1));
+        target = omega (arith, ltb-true (a .target) (z .states) (ends .1));
+        weight = ltb-true (a .weight) 4294967296 (every-getD (λ a. ltb (a .weight) 4294967296) (z .arcs) k d (built-weights 4294967296 light) l);
+      }

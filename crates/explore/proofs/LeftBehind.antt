@@ -1,0 +1,83 @@
+-- Which of 11, 12 and 13 is given, and laws of `left-behind`. Assumes nothing.
+use mathlib.Core.Path.{_≡_, refl, ap}
+use mathlib.Core.Bool.{Bool, true, false, _&&_, not, cond}
+use mathlib.Core.List.{List, []}
+use Prim.Native.Nat.{ℕ, _≤_, _<_}
+use native.Mathlib.Omega.{arith}
+use lib.Dec.{ltb, leb, eqb}
+use lib.ListN.{length}
+use borrow.Author.Tests.{lt-ltb, le-ltb, le-leb, lt-leb, ne-eqb, leb-true, not-true, not-false}
+use Rattle.wire.specs.Bytes.{every, filled}
+use Rattle.transducer.specs.Format.{Transducer, weight-good, weights-good}
+use Rattle.explore.specs.Explore.{built-refusal, left-behind}
+use Rattle.explore.proofs.Cases.{by-test, clash}
+
+and-false : (a : Bool) → a && false ≡ false
+and-false true = refl
+and-false false = refl
+
+module _ (t : Transducer) where
+  abbrev arcs-light : Bool
+  arcs-light = every (λ a. weight-good (a .weight)) (t .arcs)
+
+  abbrev finals-light : Bool
+  finals-light = every (λ f. weight-good (f .weight)) (t .finals)
+
+  pub dear-arcs : not arcs-light ≡ true → weights-good t ≡ false
+  unfolding weights-good
+  dear-arcs h = rw (not-true arcs-light h) (and-false finals-light)
+
+  pub dear-finals : not finals-light ≡ true → weights-good t ≡ false
+  unfolding weights-good
+  dear-finals h = rw (not-true finals-light h)
+
+  pub none-dear : not arcs-light ≡ false → not finals-light ≡ false → weights-good t ≡ true
+  unfolding weights-good
+  none-dear p q = rw (not-false arcs-light p, not-false finals-light q)
+
+  module _ (few : t .states ≤ 1024) where
+    pub built-12 : 3072 < length (t .arcs) → built-refusal t ≡ 12
+    unfolding built-refusal
+    built-12 h = rw (le-ltb 1024 (t .states) few, lt-ltb 3072 (length (t .arcs)) h)
+
+    pub built-13 : length (t .arcs) ≤ 3072 → weights-good t ≡ false → built-refusal t ≡ 13
+    unfolding built-refusal
+    built-13 h w = rw (le-ltb 1024 (t .states) few, le-ltb 3072 (length (t .arcs)) h, w)
+
+    pub built-0 : length (t .arcs) ≤ 3072 → weights-good t ≡ true → built-refusal t ≡ 0
+    unfolding built-refusal
+    built-0 h w = rw (le-ltb 1024 (t .states) few, le-ltb 3072 (length (t .arcs)) h, w)
+
+late-chain : (a b c : Bool) → leb (cond a 11 (cond b 12 (cond c 0 13))) 10 ≡ true → _≡_ {A = ℕ} (cond a 11 (cond b 12 (cond c 0 13))) 0
+late-chain true b c h = absurd (omega (arith, leb-true 11 10 h))
+late-chain false true c h = absurd (omega (arith, leb-true 12 10 h))
+late-chain false false true h = refl
+late-chain false false false h = absurd (omega (arith, leb-true 13 10 h))
+
+-- A refusal of what is built is none of 1 to 10.
+pub built-late : (t : Transducer) → leb (built-refusal t) 10 ≡ true → built-refusal t ≡ 0
+unfolding built-refusal
+built-late t h = late-chain (ltb 1024 (t .states)) (ltb 3072 (length (t .arcs))) (weights-good t) h
+
+-- left-behind
+
+module _ (before written : List ℕ) where
+  pub behind-early : (number : ℕ) → (number ≡ 0 → ⊥) → number ≤ 10 → left-behind number before written ≡ before
+  unfolding left-behind
+  behind-early number bad small = rw (ne-eqb number 0 bad, le-leb number 10 small)
+
+  pub behind-zeroed : (number : ℕ) → 10 < number → left-behind number before written ≡ filled (length before) []
+  unfolding left-behind
+  behind-zeroed number high = rw (ne-eqb number 0 (omega arith), lt-leb number 10 high)
+
+  pub behind-written : (number : ℕ) → number ≡ 0 → left-behind number before written ≡ filled (length before) written
+  unfolding left-behind
+  behind-written number is = rw is
+
+  -- Only the length of a lent buffer counts where the number is not one of 1 to 10.
+  pub behind-same : (number : ℕ) (before' : List ℕ) → (leb number 10 ≡ true → number ≡ 0) → length before ≡ length before'
+      → left-behind number before written ≡ left-behind number before' written
+  unfolding left-behind
+  behind-same number before' late long =
+      by-test (eqb number 0) (λ e. rw (e, long))
+      (λ e. by-test (leb number 10) (λ l. clash (ap (λ (n : ℕ). eqb n 0) (late l)) e) (λ l. rw (e, l, long)))

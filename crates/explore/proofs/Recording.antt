@@ -1,0 +1,123 @@
+-- What the parts of a walk leave in the buffers, over plain lists: a key stored, an arc written, its origins written. Assumes nothing.
+use mathlib.Core.Path.{_≡_, sym, ap, _∙_}
+use mathlib.Core.Bool.{Bool, true, false, _||_, not}
+use mathlib.Core.List.{List, [], _∷_, _++_}
+use Prim.Native.Nat.{ℕ, suc, _+_, _*_, _≤_, _<_, min}
+use native.Mathlib.Nat.{mul-suc, mul-le-mul-left}
+use native.Mathlib.Omega.{arith}
+use lib.Dec.{ltb, eqb}
+use lib.ListN.{length, length-append}
+use lib.Seq.{sets, length-sets, take-append-le}
+use borrow.Author.Tests.{ltb-true, ltb-false}
+use Rattle.transducer.specs.declared.Arc.{Arc}
+use Rattle.transducer.specs.Format.{weight-good}
+use Rattle.transducer.specs.Encode.{arc-record}
+use Rattle.explore.specs.declared.Walk.{Walk}
+use Rattle.explore.specs.Explore.{there, place}
+use Rattle.explore.specs.Chain.{Chained}
+use Rattle.explore.specs.Walk.{with-key, Arcs-held, Origins-held, Recorded, traced-by, Records}
+use Rattle.explore.proofs.Cases.{by-test}
+use Rattle.explore.proofs.Search.{place-new, place-old}
+use Rattle.explore.proofs.Writing.{written-next, written-full, front-next}
+
+-- A key stored
+
+module _ (xs : List ℕ) (key count number : ℕ) (long : length xs ≡ count) (is : number ≡ place eqb key xs) where
+  pub found-new : number ≡ count → there eqb key xs ≡ false
+  found-new e = place-new key xs (sym is ∙ e ∙ sym long)
+
+  pub found-old : (number ≡ count → ⊥) → there eqb key xs ≡ true
+  found-old ne = place-old key xs (λ e. ne (is ∙ e ∙ long))
+
+  module _ (states heads links : List ℕ) where
+    pub stored-new : number ≡ count → Chained (xs ++ (key ∷ [])) states heads links
+        → Chained (with-key key xs) states heads links × (count + 1 ≡ length (with-key key xs))
+    unfolding with-key
+    stored-new e chained =
+        let size : count + 1 ≡ length (xs ++ (key ∷ [])) = omega (arith, length-append xs (key ∷ [])) in
+        rw (found-new e) (chained, size)
+
+    pub stored-old : (number ≡ count → ⊥) → Chained xs states heads links
+        → Chained (with-key key xs) states heads links × (count ≡ length (with-key key xs))
+    unfolding with-key
+    stored-old ne chained = rw (found-old ne) (chained, sym long)
+
+-- An arc written
+
+module _ (as' : List Arc) (dear : Bool) (w w' : Walk) (table : List ℕ) (a : Arc) (held : Arcs-held as' dear w table) where
+  more-dear : w' .dear ≡ w .dear || not (weight-good (a .weight)) → w' .dear ≡ dear || not (weight-good (a .weight))
+  more-dear e = e ∙ ap (λ (d : Bool). d || not (weight-good (a .weight))) (held .dear-is)
+
+  pub arcs-held-next : (table' : List ℕ) → w .arcs < 3072 → w' .arcs ≡ w .arcs + 1 → w' .dear ≡ w .dear || not (weight-good (a .weight))
+      → table' ≡ sets table (10252 + 16 * w .arcs) (arc-record a)
+      → Arcs-held (as' ++ (a ∷ [])) (dear || not (weight-good (a .weight))) w' table'
+  arcs-held-next table' less counts dears t =
+      let long : length as' ≡ w .arcs = omega (arith, held .arcs-are) in
+      record {
+        arcs-are = omega (arith, length-append as' (a ∷ []));
+        dear-is = more-dear dears;
+        table-long = rw (t, length-sets table (10252 + 16 * w .arcs) (arc-record a)) (held .table-long);
+        written = rw t (written-next 10252 (w .arcs) as' a table long less (held .table-long) (held .written));
+      }
+
+  pub arcs-held-full : 3072 ≤ w .arcs → w' .arcs ≡ 3073 → w' .dear ≡ w .dear || not (weight-good (a .weight))
+      → Arcs-held (as' ++ (a ∷ [])) (dear || not (weight-good (a .weight))) w' table
+  arcs-held-full full counts dears =
+      let long : 3072 ≤ length as' = omega (arith, held .arcs-are) in
+      record {
+        arcs-are = omega (arith, length-append as' (a ∷ []));
+        dear-is = more-dear dears;
+        table-long = held .table-long;
+        written = written-full 10252 as' a table long (held .written);
+      }
+
+-- Its origins written
+
+module _ (width count : ℕ) (os vs origins : List ℕ) (held : Origins-held width count os origins) (wide : length vs ≡ width) where
+  paired-next : length (os ++ vs) ≡ width * suc count
+  paired-next = length-append os vs ∙ (rw (held .paired, wide, mul-suc width count))
+
+  pub origins-held-next : count < 3072 → Origins-held width (suc count) (os ++ vs) (sets origins (width * count) vs)
+  origins-held-next less =
+      let n : min count 3072 ≡ count = omega arith in
+      let n' : min (suc count) 3072 ≡ suc count = omega arith in
+      let e : width * suc count ≡ width * count + length vs = mul-suc width count ∙ ap (λ (k : ℕ). width * count + k) (sym wide) in
+      let inside : width * suc count ≤ width * 3072 = mul-le-mul-left width less in
+      let room : width * count + length vs ≤ length origins = omega (arith, held .origins-long) in
+      record {
+        origins-long = rw (length-sets origins (width * count) vs) (held .origins-long);
+        paired = paired-next;
+        traced = rw (n', e) (front-next os origins (width * count) vs (held .paired) room (rw n at (held .traced)));
+      }
+
+  pub origins-held-full : 3072 ≤ count → Origins-held width (suc count) (os ++ vs) origins
+  origins-held-full full =
+      let n : min count 3072 ≡ 3072 = omega arith in
+      let n' : min (suc count) 3072 ≡ 3072 = omega arith in
+      let inside : width * 3072 ≤ width * count = mul-le-mul-left width full in
+      let short : width * 3072 ≤ length os = omega (arith, held .paired) in
+      record {
+        origins-long = held .origins-long;
+        paired = paired-next;
+        traced = rw (n', take-append-le (width * 3072) os vs short) (rw n at (held .traced));
+      }
+
+-- An arc and its origins recorded, the origins where there is room for the arc.
+pub recorded-more : (width : ℕ) (as' : List Arc) (os vs : List ℕ) (dear : Bool) (w w' : Walk) (table table' origins origins' : List ℕ) (a : Arc)
+    → Recorded width as' os dear w table origins → Records a w w' table table' → length vs ≡ width → origins' ≡ traced-by width (w .arcs) vs origins
+    → Recorded width (as' ++ (a ∷ [])) (os ++ vs) (dear || not (weight-good (a .weight))) w' table' origins'
+unfolding traced-by
+recorded-more width as' os vs dear w w' table table' origins origins' a held records wide o =
+    record { arcs-held = records .one-more as' dear (held .arcs-held); origins-held = rw (o, one) both }
+  where
+    one : length (as' ++ (a ∷ [])) ≡ suc (length as')
+    one = length-append as' (a ∷ []) ∙ omega arith
+
+    both : Origins-held width (suc (length as')) (os ++ vs) (traced-by width (w .arcs) vs origins)
+    both =
+        by-test (ltb (w .arcs) 3072)
+        (λ e. let l : w .arcs < 3072 = ltb-true (w .arcs) 3072 e in
+        let same : w .arcs ≡ length as' = omega (arith, held .arcs-held .arcs-are) in
+        rw (e, same) (origins-held-next width (length as') os vs origins (held .origins-held) wide (omega arith)))
+        (λ e. let l : 3072 ≤ w .arcs = ltb-false (w .arcs) 3072 e in
+        rw e (origins-held-full width (length as') os vs origins (held .origins-held) wide (omega (arith, held .arcs-held .arcs-are))))

@@ -1,0 +1,67 @@
+-- `arcs-held-next` says what `put_arc` leaves, and `arcs-held-full` that what is written stays where there is no room for more.
+use borrow.Author.Needs.{needs}
+use mathlib.Core.Path.{refl, ap}
+use mathlib.Core.Bool.{Bool, _||_, not}
+use Prim.Native.Nat.{_+_}
+use Rattle.explore.proofs.Recording.{arcs-held-next, arcs-held-full}
+use Rattle.explore.proofs.record_arc.Statement.{statement}
+use Rattle.explore.proofs.record_arc.Tie as tie
+
+weight-ok-requires : tie.Need-weight-ok-requires
+weight-ok-requires c κs = search needs
+
+mul-put-arc : tie.Need-mul-put-arc
+mul-put-arc c = search needs
+
+add-put-arc : tie.Need-add-put-arc
+add-put-arc c = search needs
+
+put-arc-requires : tie.Need-put-arc-requires
+put-arc-requires c κs = search needs
+
+add-t11 : tie.Need-add-t11
+add-t11 c = search needs
+
+same-length : tie.Need-same-length
+same-length c = search needs
+
+returns : tie.Need-returns
+returns c =
+    let a = c .before .before .before .before .before .before .before .before .args in
+    let ok = c .before .before .before .before .before .before .weight-ok in
+    record {
+      states-stay = refl;
+      full-stays = refl;
+      one-more = λ as' dear held.
+          arcs-held-next as' dear (a .w) (record { states = a .w .states; arcs = a .w .arcs + 1; dear = a .w .dear || not (ok .result); full = a .w .full })
+          (a .table .now) (a .arc) held _ (c .before .before .before .before .if1 .taken) refl (ap (λ (g : Bool). a .w .dear || not g) (ok .ensures)) (c .before .before .put-arc .ensures);
+    }
+
+add-t13 : tie.Need-add-t13
+add-t13 c = search needs
+
+returns-2 : tie.Need-returns-2
+returns-2 c =
+    let a = c .before .before .before .before .args in
+    let ok = c .before .before .weight-ok in
+    record {
+      states-stay = refl;
+      full-stays = refl;
+      one-more = λ as' dear held.
+          arcs-held-full as' dear (a .w) (record { states = a .w .states; arcs = 3073; dear = a .w .dear || not (ok .result); full = a .w .full })
+          (a .table .now) (a .arc) held (c .if1 .left) refl (ap (λ (g : Bool). a .w .dear || not g) (ok .ensures));
+    }
+
+pub record-arc-spec : {M : Type 1} → statement M
+record-arc-spec =
+    tie.close
+    (tie.spec
+    weight-ok-requires
+    mul-put-arc
+    add-put-arc
+    put-arc-requires
+    add-t11
+    same-length
+    returns
+    add-t13
+    returns-2)

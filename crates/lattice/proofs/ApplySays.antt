@@ -1,0 +1,146 @@
+-- The answers of applying: which refusal it is, and what is said and left behind; one law for each answer, in the order of the tests.
+-- Assumes nothing.
+use mathlib.Core.Path.{_≡_, refl, sym, ap, _∙_}
+use mathlib.Core.Bool.{Bool, true, false, _&&_, not, cond}
+use mathlib.Core.List.{List, []}
+use Prim.Native.Nat.{ℕ, _≤_, _<_}
+use native.Mathlib.Omega.{arith}
+use lib.Dec.{eqb}
+use lib.ListN.{length}
+use borrow.Author.Tests.{lt-ltb, le-ltb, ne-eqb}
+use Rattle.wire.specs.Bytes.{filled}
+use Rattle.transducer.specs.declared.Written.{Written}
+use Rattle.transducer.specs.Format.{Transducer, refusal, content-refusal, first-of, decode, framed, kinds-good, records, head-good}
+use Rattle.transducer.specs.Format.{head-states, head-arcs, head-finals, head-start, states-good, order-good, all-labels-good, weights-good}
+use Rattle.transducer.specs.Encode.{encode}
+use Rattle.transducer.specs.Entry.{or-else, unless}
+use Rattle.explore.specs.Explore.{built-refusal}
+use Rattle.explore.proofs.LeftBehind.{behind-early, behind-zeroed, behind-written}
+use Rattle.lattice.specs.Apply.{string-good, applied}
+use Rattle.lattice.specs.ApplyEntry.{apply-room, apply-refusal, Apply-says}
+use Rattle.lattice.specs.Applying.{Ready, Refused-with}
+use Rattle.lattice.specs.Lattice.{lattice, lattice-origins}
+
+-- Refusals 1 to 8 are small.
+
+first-of-most : (a b c d : Bool) → first-of a b c d ≤ 8
+unfolding first-of
+first-of-most true true true true = omega arith
+first-of-most true true true false = omega arith
+first-of-most true true false d = omega arith
+first-of-most true false c d = omega arith
+first-of-most false b c d = omega arith
+
+chain-most : (a b c d : Bool) (r : ℕ) → r ≤ 8 → cond (not a) 1 (cond (not b) 2 (cond (not c) 3 (cond (not d) 4 r))) ≤ 8
+chain-most true true true true r h = h
+chain-most true true true false r h = omega arith
+chain-most true true false d r h = omega arith
+chain-most true false c d r h = omega arith
+chain-most false b c d r h = omega arith
+
+refusal-most : (bs : List ℕ) → refusal bs ≤ 8
+unfolding refusal content-refusal
+refusal-most bs =
+    let t : Transducer = decode bs in
+    chain-most (framed bs) (kinds-good (records bs)) (head-good (head-states bs) (head-arcs bs) (head-finals bs) (head-start bs))
+    (eqb (length (t .finals)) (head-finals bs) && eqb (length (t .arcs)) (head-arcs bs)) (content-refusal t)
+    (first-of-most (states-good t) (order-good t) (all-labels-good t) (weights-good t))
+
+-- Apply-says, by how the buffers are left
+
+module _ (cs bs : List ℕ) (number : ℕ) where
+  abbrev bytes-left : List ℕ
+  bytes-left = encode (lattice cs (decode bs))
+
+  abbrev origins-left : List ℕ
+  origins-left = lattice-origins cs (decode bs)
+
+  says-early : (k : ℕ) (a b c : List ℕ) → number ≡ k → (k ≡ 0 → ⊥) → k ≤ 10 → Apply-says cs bs number (record { refusal = k; len = 0 }) a a b b c c
+  unfolding unless
+  says-early k a b c is bad small =
+      rw is
+      (record {
+        refusal-is = refl;
+        len-is = rw (ne-eqb k 0 bad);
+        table = sym (behind-early a bytes-left k bad small);
+        origins = sym (behind-early b origins-left k bad small);
+        pairs = sym (behind-early c [] k bad small);
+      })
+
+  -- Of the buffer of pairs, written to before, only the length counts.
+  pub says-zeroed : (k : ℕ) (r : Written) (a a' b b' c c₀ c' : List ℕ) → number ≡ k → 10 < k → length c ≡ length c₀
+      → Refused-with k r a a' b b' c c' → Apply-says cs bs number r a a' b b' c₀ c'
+  unfolding unless
+  says-zeroed k r a a' b b' c c₀ c' is high long z =
+      let no : eqb k 0 ≡ false = ne-eqb k 0 (omega arith) in
+      rw is
+      (record {
+        refusal-is = ap (λ (r : Written). r .refusal) (z .answer);
+        len-is = ap (λ (r : Written). r .len) (z .answer) ∙ (rw no);
+        table = z .table ∙ sym (behind-zeroed a bytes-left k high);
+        origins = z .origins ∙ sym (behind-zeroed b origins-left k high);
+        pairs = z .pairs ∙ (rw long (sym (behind-zeroed c₀ [] k high)));
+      })
+
+  pub says-written : (len : ℕ) (a a' b b' c c₀ c' : List ℕ) → number ≡ 0 → length c ≡ length c₀ → len ≡ length bytes-left
+      → a' ≡ filled (length a) bytes-left → b' ≡ filled (length b) origins-left → c' ≡ filled (length c) []
+      → Apply-says cs bs number (record { refusal = 0; len = len }) a a' b b' c₀ c'
+  unfolding unless
+  says-written len a a' b b' c c₀ c' is long l x y z =
+      record {
+        refusal-is = sym is;
+        len-is = rw is l;
+        table = x ∙ sym (behind-written a bytes-left number is);
+        origins = y ∙ sym (behind-written b origins-left number is);
+        pairs = z ∙ (rw long (sym (behind-written c₀ [] number is)));
+      }
+
+-- The answers before anything is written
+
+module _ (cs bs a b c : List ℕ) where
+  abbrev number : ℕ
+  number = apply-refusal cs bs (length a) (length b) (length c)
+
+  abbrev pub Refused : (k : ℕ) → Type 0
+  Refused k = Apply-says cs bs number (record { refusal = k; len = 0 }) a a b b c c
+
+  pub says-bytes : (k : ℕ) → k ≡ refusal bs → (k ≡ 0 → ⊥) → Refused k
+  unfolding apply-refusal or-else
+  says-bytes k is bad = says-early cs bs number k a b c (rw (← is, ne-eqb k 0 bad)) bad (omega (arith, refusal-most bs))
+
+  module _ (k : ℕ) (is : k ≡ refusal bs) (ok : k ≡ 0) where
+    accepted : refusal bs ≡ 0
+    accepted = sym is ∙ ok
+
+    pub says-string : false ≡ string-good cs → Refused 9
+    unfolding apply-refusal or-else
+    says-string bad = says-early cs bs number 9 a b c (rw (accepted, ← bad)) (omega arith) (omega arith)
+
+    module _ (string : true ≡ string-good cs) where
+      short : apply-room (length a) (length b) (length c) ≡ 10 → Refused 10
+      unfolding apply-refusal or-else
+      short h = says-early cs bs number 10 a b c (rw (accepted, ← string, h)) (omega arith) (omega arith)
+
+      pub says-table : length a < 59404 → Refused 10
+      unfolding apply-room
+      says-table h = short (rw (lt-ltb (length a) 59404 h))
+
+      pub says-origins : 59404 ≤ length a → length b < 3072 → Refused 10
+      unfolding apply-room
+      says-origins p h = short (rw (le-ltb (length a) 59404 p, lt-ltb (length b) 3072 h))
+
+      pub says-pairs : 59404 ≤ length a → 3072 ≤ length b → length c < 1024 → Refused 10
+      unfolding apply-room
+      says-pairs p q h = short (rw (le-ltb (length a) 59404 p, le-ltb (length b) 3072 q, lt-ltb (length c) 1024 h))
+
+      module _ (p : 59404 ≤ length a) (q : 3072 ≤ length b) (s : 1024 ≤ length c) where
+        pub ready : Ready cs bs (length a) (length b) (length c)
+        ready = record { good = sym string; accepted = accepted; lattice-long = p; origins-long = q; pairs-long = s }
+
+        into : number ≡ built-refusal (applied cs (decode bs) .result)
+        unfolding apply-refusal or-else apply-room
+        into = rw (accepted, ← string, le-ltb (length a) 59404 p, le-ltb (length b) 3072 q, le-ltb (length c) 1024 s)
+
+        pub says-into : (r : Written) (a' b' c' : List ℕ)
+            → Apply-says cs bs (built-refusal (applied cs (decode bs) .result)) r a a' b b' c c' → Apply-says cs bs number r a a' b b' c c'
+        says-into r a' b' c' h = rw into h

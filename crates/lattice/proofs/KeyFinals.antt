@@ -1,0 +1,173 @@
+-- The finals of keys: the code of a key, its finals counted and written one key after the other, and that those of the keys met are the
+-- lattice's. Assumes nothing.
+use mathlib.Core.Path.{_≡_, refl, sym, ap, _∙_}
+use mathlib.Core.Bool.{Bool, true, false, _&&_, not, cond}
+use mathlib.Core.List.{List, [], _∷_, _++_, append-nil}
+use Prim.Native.Nat.{ℕ, _+_, _*_, _-_, _/_, _%_, _≤_, _<_}
+use native.Mathlib.Numerals.{add-one}
+use native.Mathlib.Omega.{arith}
+use lib.Dec.{eqb}
+use lib.ListN.{length, getD, take, drop, length-append, take-append-drop}
+use lib.Seq.{sets, take-suc, length-take-le, take-take}
+use borrow.Author.Tests.{eq-eqb, ne-eqb}
+use Rattle.wire.proofs.Places.{and-true}
+use Rattle.transducer.specs.declared.Final.{Final}
+use Rattle.transducer.specs.Format.{Transducer, Good, weight-good}
+use Rattle.transducer.specs.Encode.{final-record, final-records}
+use Rattle.transducer.specs.Leaf.{Finals-by-state, final-code}
+use Rattle.transducer.specs.Path.{is-final, final-weight}
+use Rattle.explore.specs.Explore.{finals-from}
+use Rattle.explore.proofs.Finals.{finals-from-append}
+use Rattle.explore.proofs.PutFinals.{Finishing, finishing-first, finishing-none, finishing-more, finishing-stop}
+use Rattle.lattice.specs.Apply.{State, final-state}
+use Rattle.lattice.specs.Applying.{pack, unpacked, key-code, key-finals}
+use Rattle.lattice.proofs.KeyParts.{unpacked-pack, State-in, state-small}
+
+-- The code of a key
+
+pub code-at-last : (codes : List ℕ) (last k : ℕ) → k / 1024 ≡ last → key-code codes last k ≡ getD codes (k % 1024) 0
+unfolding key-code
+code-at-last codes last k e = rw (eq-eqb (k / 1024) last e)
+
+pub code-elsewhere : (codes : List ℕ) (last k : ℕ) → (k / 1024 ≡ last → ⊥) → key-code codes last k ≡ 0
+unfolding key-code
+code-elsewhere codes last k h = rw (ne-eqb (k / 1024) last h)
+
+-- Whether the state of a key is final, and its weight, by its code.
+abbrev pub key-final : (codes : List ℕ) → (last k : ℕ) → Bool
+key-final codes last k = not (eqb (key-code codes last k) 0)
+
+abbrev pub key-weight : (codes : List ℕ) → (last k : ℕ) → ℕ
+key-weight codes last k = key-code codes last k - 1
+
+not-final : (codes : List ℕ) (last k code : ℕ) → code ≡ key-code codes last k → code ≡ 0 → key-final codes last k ≡ false
+not-final codes last k code is z = rw (eq-eqb (key-code codes last k) 0 (sym is ∙ z))
+
+is-key-final : (codes : List ℕ) (last k code : ℕ) → code ≡ key-code codes last k → (code ≡ 0 → ⊥) → key-final codes last k ≡ true
+is-key-final codes last k code is z = rw (ne-eqb (key-code codes last k) 0 (λ e. z (is ∙ e)))
+
+-- The finals of the first s keys are counted.
+pub record Counting (codes : List ℕ) (last : ℕ) (states : List ℕ) (count finals s : ℕ) : Type 0 where
+  pub within : s ≤ count
+  pub few : finals ≤ s
+  pub count-is : finals ≡ length (key-finals codes last (take s states))
+
+-- They are written too.
+abbrev pub Putting : (codes : List ℕ) → (last : ℕ) → (states : List ℕ) → (count : ℕ) → (table₀ table : List ℕ) → (finals s : ℕ) → Type 0
+Putting codes last states count table₀ table finals s =
+    (dear : Bool) × Finishing (key-final codes last) (key-weight codes last) states count table₀ table finals dear s
+
+-- One key more
+
+module _ (codes : List ℕ) (last : ℕ) (states : List ℕ) where
+  one-more : (s : ℕ) → s < length states
+      → key-finals codes last (take (s + 1) states)
+      ≡ key-finals codes last (take s states) ++ finals-from (key-final codes last) (key-weight codes last) s (getD states s 0 ∷ [])
+  unfolding key-finals
+  one-more s l =
+      let n : 0 + length (take s states) ≡ s = omega (arith, length-take-le s states (omega arith)) in
+      let fs : List ℕ → List Final = λ ks. finals-from (key-final codes last) (key-weight codes last) 0 ks in
+      ap (λ (m : ℕ). fs (take m states)) (add-one s)
+      ∙ ap fs (take-suc states s 0 l)
+      ∙ finals-from-append (key-final codes last) (key-weight codes last) 0 (take s states) (getD states s 0 ∷ [])
+      ∙ ap (λ (i : ℕ). fs (take s states) ++ finals-from (key-final codes last) (key-weight codes last) i (getD states s 0 ∷ [])) n
+
+  longer : (s code : ℕ) → s < length states → code ≡ key-code codes last (getD states s 0) → (code ≡ 0 → ⊥)
+      → length (key-finals codes last (take (s + 1) states)) ≡ length (key-finals codes last (take s states)) + 1
+  unfolding finals-from
+  longer s code l is z =
+      ap length (one-more s l)
+      ∙ (rw (is-key-final codes last (getD states s 0) code is z)
+      (length-append (key-finals codes last (take s states)) (record { state = s; weight = key-weight codes last (getD states s 0) } ∷ [])))
+
+  -- There are no more finals of the first keys than of all.
+  front-finals : (n count : ℕ) → n ≤ count
+      → length (key-finals codes last (take n states)) ≤ length (key-finals codes last (take count states))
+  unfolding key-finals
+  front-finals n count l =
+      let ks : List ℕ = take count states in
+      let fs : List ℕ → List Final = λ ks. finals-from (key-final codes last) (key-weight codes last) 0 ks in
+      let rest : List Final = finals-from (key-final codes last) (key-weight codes last) (0 + length (take n ks)) (drop n ks) in
+      let front : fs (take n ks) ≡ fs (take n states) = ap fs (take-take n count states l) in
+      let whole : fs ks ≡ fs (take n ks) ++ rest =
+      ap fs (sym (take-append-drop n ks)) ∙ finals-from-append (key-final codes last) (key-weight codes last) 0 (take n ks) (drop n ks) in
+      omega (arith, ap length whole, length-append (fs (take n ks)) rest, ap length front)
+
+  pub counting-first : (count : ℕ) → Counting codes last states count 0 0
+  unfolding key-finals finals-from
+  counting-first count = record { within = omega arith; few = omega arith; count-is = refl }
+
+  pub counting-stop : (count finals s : ℕ) → count ≤ s → Counting codes last states count finals s
+      → (finals ≡ length (key-finals codes last (take count states))) × (finals ≤ count)
+  counting-stop count finals s stop inv =
+      let all : s ≡ count = omega (arith, inv .within) in (rw all at (inv .count-is), omega (arith, inv .few))
+
+  pub putting-first : (count : ℕ) (table : List ℕ) → Putting codes last states count table table 0 0
+  putting-first count table = (false, finishing-first (key-final codes last) (key-weight codes last) states count table)
+
+  pub putting-stop : (count finals s : ℕ) (table₀ table : List ℕ) → count ≤ s → Putting codes last states count table₀ table finals s
+      → table ≡ sets table₀ 12 (final-records (key-finals codes last (take count states)))
+  unfolding key-finals
+  putting-stop count finals s table₀ table stop inv =
+      finishing-stop (key-final codes last) (key-weight codes last) states (inv .1) stop .stored
+
+  module _ (count finals s code : ℕ) (less : s < count) (room : count ≤ length states) (is : code ≡ key-code codes last (getD states s 0)) where
+    pub counting-none : Counting codes last states count finals s → code ≡ 0 → Counting codes last states count finals (s + 1)
+    unfolding finals-from
+    counting-none inv z =
+        let same : key-finals codes last (take (s + 1) states) ≡ key-finals codes last (take s states) =
+        one-more s (omega arith)
+        ∙ (rw (not-final codes last (getD states s 0) code is z) (append-nil (key-finals codes last (take s states)))) in
+        record { within = omega arith; few = omega (arith, inv .few); count-is = rw same (inv .count-is) }
+
+    pub counting-more : Counting codes last states count finals s → (code ≡ 0 → ⊥) → Counting codes last states count (finals + 1) (s + 1)
+    counting-more inv z =
+        record { within = omega arith; few = omega (arith, inv .few); count-is = omega (arith, inv .count-is, longer s code (omega arith) is z) }
+
+    module _ (table₀ table : List ℕ) (inv : Putting codes last states count table₀ table finals s) where
+      -- There is room for the final of this key.
+      pub putting-room : (code ≡ 0 → ⊥) → 12 + 10 * length (key-finals codes last (take count states)) ≤ length table₀
+          → 12 + 10 * finals + 10 ≤ length table
+      unfolding key-finals
+      putting-room z fits =
+          omega (arith, inv .1 .count-is, inv .1 .kept, longer s code (omega arith) is z, front-finals (s + 1) count (omega arith))
+
+      pub putting-none : code ≡ 0 → Putting codes last states count table₀ table finals (s + 1)
+      putting-none z =
+          (inv .0, finishing-none (key-final codes last) (key-weight codes last) states (inv .1) less room (not-final codes last (getD states s 0) code is z))
+
+      pub putting-more : (table' : List ℕ) → (code ≡ 0 → ⊥)
+          → table' ≡ sets table (12 + 10 * finals) (final-record (record { state = s; weight = code - 1 })) → length table' ≡ length table
+          → Putting codes last states count table₀ table' (finals + 1) (s + 1)
+      putting-more table' z put long = (
+        _,
+        finishing-more (key-final codes last) (key-weight codes last) states (inv .1) less room table' (code - 1) (weight-good (code - 1))
+            (is-key-final codes last (getD states s 0) code is z) (ap (λ (n : ℕ). n - 1) is) put long refl,
+      )
+
+-- The finals of the states met
+
+module _ (cs : List ℕ) (t : Transducer) (good : Good t) (codes : List ℕ) (by-state : Finals-by-state t codes) where
+  code-pack : (x : State) → State-in cs t x
+      → key-code codes (length cs) (pack x) ≡ cond (eqb (x .position) (length cs)) (final-code (t .finals) (x .state)) 0
+  unfolding key-code unpacked
+  code-pack x w =
+      let small : x .state < 1024 = state-small cs t good x w in
+      let e : unpacked (pack x) ≡ x = unpacked-pack x small in
+      rw (ap (λ (y : State). y .position) e, ap (λ (y : State). y .state) e, by-state .at-state (x .state) small)
+
+  pub pack-final : (x : State) → State-in cs t x → key-final codes (length cs) (pack x) ≡ final-state cs t x
+  unfolding final-state final-code
+  pack-final x w = rw (code-pack x w) (on (eqb (x .position) (length cs)) (is-final (t .finals) (x .state)))
+    where
+      on : (a b : Bool) → not (eqb (cond a (cond b (final-weight (t .finals) (x .state) + 1) 0) 0) 0) ≡ a && b
+      on true true = rw (ne-eqb (final-weight (t .finals) (x .state) + 1) 0 (omega arith))
+      on true false = refl
+      on false b = refl
+
+  pub pack-weight : (x : State) → State-in cs t x → final-state cs t x ≡ true
+      → key-weight codes (length cs) (pack x) ≡ final-weight (t .finals) (x .state)
+  unfolding final-state final-code
+  pack-weight x w f =
+      let two = and-true (eqb (x .position) (length cs)) (is-final (t .finals) (x .state)) f in
+      rw (code-pack x w, two .0, two .1) (omega arith)

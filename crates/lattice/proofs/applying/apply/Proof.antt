@@ -1,0 +1,96 @@
+-- One test after the other, each with its law in `ApplySays`.
+use borrow.Author.Needs.{needs}
+use borrow.Author.Tests.{not-true, not-false}
+use mathlib.Core.Path.{_≡_, sym, _∙_}
+use mathlib.Core.Bool.{true}
+use Rattle.lattice.specs.Apply.{string-good}
+use Rattle.lattice.proofs.ApplySays.{says-bytes, says-string, says-table, says-origins, says-pairs, ready, says-into}
+use Rattle.lattice.proofs.applying.apply.Statement.{statement}
+use Rattle.lattice.proofs.applying.apply.Tie as tie
+
+-- The way back from a place to an earlier one.
+abbrev read : tie.Else2 → tie.After-refusal
+read c = c .before .before .before
+
+abbrev entry : tie.After-refusal → tie.Start
+entry c = c .before .before .before .before .before .before
+
+-- The string is good where its test is passed.
+fine : (c : tie.Else2) → true ≡ string-good (entry (read c) .args .string .now)
+fine c = let s = c .before .string-ok in sym (not-false (s .result) (c .if2 .left)) ∙ s .ensures
+
+refusal-requires : tie.Need-refusal-requires
+refusal-requires c κs = search needs
+
+returns : tie.Need-returns
+returns c = let n = c .before .refusal in says-bytes _ _ _ _ _ (n .result) (n .ensures) (c .if1 .taken)
+
+string-ok-requires : tie.Need-string-ok-requires
+string-ok-requires c κs = search needs
+
+returns-2 : tie.Need-returns-2
+returns-2 c =
+    let s = c .before .string-ok in
+    let n = c .before .before .before .refusal in
+    says-string _ _ _ _ _ (n .result) (n .ensures) (c .before .before .if1 .left) (sym (not-true (s .result) (c .if2 .taken)) ∙ s .ensures)
+
+returns-3 : tie.Need-returns-3
+returns-3 c =
+    let else2 = c .before in
+    let n = read else2 .refusal in
+    says-table _ _ _ _ _ (n .result) (n .ensures) (else2 .before .before .if1 .left) (fine else2) (c .if3 .taken)
+
+returns-4 : tie.Need-returns-4
+returns-4 c =
+    let else2 = c .before .before in
+    let n = read else2 .refusal in
+    says-origins _ _ _ _ _ (n .result) (n .ensures) (else2 .before .before .if1 .left) (fine else2) (c .before .if3 .left) (c .if4 .taken)
+
+returns-5 : tie.Need-returns-5
+returns-5 c =
+    let else2 = c .before .before .before in
+    let n = read else2 .refusal in
+    says-pairs _ _ _ _ _ (n .result) (n .ensures) (else2 .before .before .if1 .left) (fine else2) (c .before .before .if3 .left) (c .before .if4 .left) (c .if5 .taken)
+
+apply-into-requires : tie.Need-apply-into-requires
+apply-into-requires c κs =
+    let else5 = c .before .before .before in
+    let else2 = else5 .before .before .before in
+    let n = read else2 .refusal in
+    let x = entry (read else2) .args in
+    ready (x .string .now) (x .table .now) (x .lattice .now) (x .origins .now) (x .pairs .now) (n .result) (n .ensures)
+    (else2 .before .before .if1 .left) (fine else2) (else5 .before .before .if3 .left) (else5 .before .if4 .left) (else5 .if5 .left)
+
+same-length : tie.Need-same-length
+same-length c = search needs
+
+same-length-2 : tie.Need-same-length-2
+same-length-2 c = search needs
+
+same-length-3 : tie.Need-same-length-3
+same-length-3 c = search needs
+
+returns-6 : tie.Need-returns-6
+returns-6 c =
+    let else5 = c .before .before .before .before .before .before .before .before .before .before in
+    let else2 = else5 .before .before .before in
+    let n = read else2 .refusal in
+    says-into _ _ _ _ _ (n .result) (n .ensures) (else2 .before .before .if1 .left) (fine else2) (else5 .before .before .if3 .left) (else5 .before .if4 .left)
+    (else5 .if5 .left) _ _ _ _ (c .before .before .before .before .before .before .apply-into .ensures)
+
+pub apply-spec : {M : Type 1} → statement M
+apply-spec =
+    tie.close
+    (tie.spec
+    refusal-requires
+    returns
+    string-ok-requires
+    returns-2
+    returns-3
+    returns-4
+    returns-5
+    apply-into-requires
+    same-length
+    same-length-2
+    same-length-3
+    returns-6)

@@ -1,0 +1,305 @@
+-- The head, the walk, 11 and 12, the lattice before trimming, what trimming leaves and its origins, each with its law in `AppliedWritten`.
+use borrow.Author.Needs.{needs}
+use mathlib.Core.Path.{refl, sym, _∙_}
+use Prim.Native.Nat.{ℕ, _≤_}
+use native.Mathlib.Omega.{arith}
+use lib.ListN.{length, replicate, length-replicate}
+use Rattle.wire.specs.Bytes.{Bytes}
+use Rattle.transducer.proofs.Accept.{bounds}
+use Rattle.lattice.proofs.AppliedWritten.{says-11, says-12, ends-inside, bytes-accepted, len-small, out-long, traceable, says-lattice}
+use Rattle.lattice.proofs.KeyParts.{string-short}
+use Rattle.lattice.proofs.TrimSays.{Opening, opening}
+use Rattle.lattice.proofs.applying.apply_into.Statement.{statement}
+use Rattle.lattice.proofs.applying.apply_into.Tie as tie
+
+-- The way back from a place to an earlier one.
+abbrev entry : tie.After-shared-slice-known2 → tie.Start
+entry c = c .before .before
+
+abbrev lent : tie.After-header → tie.After-shared-slice-known2
+lent c = c .before .before .before .before
+
+abbrev opened : tie.After-walk-all → tie.After-header
+opened c = c .before .before .before .before .before .before .before .before .before
+
+abbrev walked : tie.Else2 → tie.After-walk-all
+walked c = c .before .before .before .before .before .before
+
+abbrev coded : tie.After-close → tie.After-final-codes
+coded c = c .before .before .before .before
+
+abbrev closing : tie.After-trim-into → tie.After-close
+closing c = c .before .before .before .before .before .before
+
+abbrev trimming : tie.After-u16-at → tie.After-trim-into
+trimming c = c .before .before .before .before .before .before
+
+abbrev counted : tie.After-trace → tie.After-u16-at
+counted c = c .before .before .before
+
+-- The local buffer of bytes is long enough.
+table-long : 59404 ≤ length (replicate {A = ℕ} 59404 0)
+table-long = omega (arith, length-replicate {A = ℕ} 59404 0)
+
+is-bytes : (c : tie.After-shared-slice-known2) → Bytes (entry c .args .bytes .now)
+is-bytes c = λ i. omega (arith, c .shared-slice-known2 .given i)
+
+head-is : (c : tie.After-header) → Opening (entry (lent c) .args .bytes .now) (c .header .result)
+head-is c =
+    let k = lent c in
+    opening (entry k .args .bytes .now) (is-bytes k) (entry k .pre .accepted) (c .header .result) (c .header .ensures)
+
+header-requires : tie.Need-header-requires
+header-requires c κs = let k = c .before .before .before in omega (arith, bounds (is-bytes k) (entry k .pre .accepted) .long)
+
+cast-f : tie.Need-cast-f
+cast-f c = search needs
+
+mul-first : tie.Need-mul-first
+mul-first c = search needs
+
+add-first : tie.Need-add-first
+add-first c = search needs
+
+cast-first-arcs : tie.Need-cast-first-arcs
+cast-first-arcs c = search needs
+
+cast-first-arcs-2 : tie.Need-cast-first-arcs-2
+cast-first-arcs-2 c = search needs
+
+first-arcs-requires : tie.Need-first-arcs-requires
+first-arcs-requires c κs =
+    let o = c .before .before .before in
+    let h = head-is o in
+    (record { accepted = entry (lent o) .pre .accepted; first-is = omega (arith, h .head-finals-are) }, h .states-are, h .arcs-are)
+
+slice-aggregate-walk-all : tie.Need-slice-aggregate-walk-all
+slice-aggregate-walk-all c = sym (length-replicate {A = ℕ} 59404 0)
+
+slice-aggregate-walk-all-2 : tie.Need-slice-aggregate-walk-all-2
+slice-aggregate-walk-all-2 c = refl
+
+walk-all-requires : tie.Need-walk-all-requires
+walk-all-requires c κs =
+    let o = c .before .before .before .before .before .before .before .before in
+    let h = head-is o in
+    let pre = entry (lent o) .pre in (
+      (
+        record {
+          good = pre .good;
+          opened = record { accepted = pre .accepted; first-is = omega (arith, h .head-finals-are) };
+          indexed = c .before .before .before .before .first-arcs .ensures;
+        },
+        h .start-is,
+      ),
+      (table-long, omega arith, pre .pairs-long),
+    )
+
+refuse-requires : tie.Need-refuse-requires
+refuse-requires c κs = search needs
+
+same-length : tie.Need-same-length
+same-length c = search needs
+
+same-length-2 : tie.Need-same-length-2
+same-length-2 c = search needs
+
+same-length-3 : tie.Need-same-length-3
+same-length-3 c = search needs
+
+returns : tie.Need-returns
+returns c =
+    let w = c .before .before .before .before .before .before .before .before .before .before .before .before .before .before .before in
+    let k = lent (opened w) in
+    let said = w .walk-all .ensures in
+    says-11 _ _ (is-bytes k) (entry k .pre .accepted) (entry k .pre .good)
+    (said .full (c .before .before .before .before .before .before .before .before .before .before .if1 .taken)) (said .states-kept) (c .before .before .before .before .before .before .refuse .ensures)
+
+refuse-requires-2 : tie.Need-refuse-requires-2
+refuse-requires-2 c κs = search needs
+
+same-length-4 : tie.Need-same-length-4
+same-length-4 c = search needs
+
+same-length-5 : tie.Need-same-length-5
+same-length-5 c = search needs
+
+same-length-6 : tie.Need-same-length-6
+same-length-6 c = search needs
+
+returns-2 : tie.Need-returns-2
+returns-2 c =
+    let then2 = c .before .before .before .before .before .before .before .before .before .before in
+    let w = c .before .before .before .before .before .before .before .before .before .before .before .before .before .before .before .before in
+    let k = lent (opened w) in
+    let said = w .walk-all .ensures in
+    says-12 _ _ (is-bytes k) (entry k .pre .accepted) (entry k .pre .good) (said .done (then2 .before .if1 .left)) (then2 .if2 .taken)
+    (said .states-kept) (c .before .before .before .before .before .before .refuse2 .ensures)
+
+final-codes-requires : tie.Need-final-codes-requires
+final-codes-requires c κs = let o = opened (walked c) in (entry (lent o) .pre .accepted, head-is o .head-finals-are)
+
+cast-close : tie.Need-cast-close
+cast-close c = let start = entry (lent (opened (walked (c .before .before)))) in omega (arith, string-short (start .args .string .now) (start .pre .good))
+
+slice-aggregate-close : tie.Need-slice-aggregate-close
+slice-aggregate-close c = sym (walked (c .before .before .before .before) .walk-all .ensures .table-kept ∙ length-replicate {A = ℕ} 59404 0)
+
+close-requires : tie.Need-close-requires
+close-requires c κs = let else2 = c .before .before .before .before in ((_, _, walked else2 .walk-all .ensures .done (else2 .before .if1 .left)), else2 .if2 .left)
+
+mul-end : tie.Need-mul-end
+mul-end c = omega (arith, c .before .before .before .before .before .before .if2 .left)
+
+add-end : tie.Need-add-end
+add-end c = omega (arith, c .before .before .before .before .before .before .if2 .left)
+
+sub-trim-into : tie.Need-sub-trim-into
+sub-trim-into c =
+    let made = c .before in
+    let else2 = coded made .before in
+    let k = lent (opened (walked else2)) in
+    let pre = entry k .pre in
+    let told = walked else2 .walk-all .ensures .done (else2 .before .if1 .left) in
+    omega (arith, ends-inside _ _ (is-bytes k) (pre .accepted) (pre .good) told (else2 .if2 .left) (coded made .final-codes .ensures) (made .close .ensures _ _ told) .0)
+
+part-trim-into-start : tie.Need-part-trim-into-start
+part-trim-into-start c =
+    let made = c .before .before in
+    let else2 = coded made .before in
+    let k = lent (opened (walked else2)) in
+    let pre = entry k .pre in
+    let told = walked else2 .walk-all .ensures .done (else2 .before .if1 .left) in
+    ends-inside _ _ (is-bytes k) (pre .accepted) (pre .good) told (else2 .if2 .left) (coded made .final-codes .ensures) (made .close .ensures _ _ told) .0
+
+part-trim-into-end : tie.Need-part-trim-into-end
+part-trim-into-end c =
+    let made = c .before .before in
+    let else2 = coded made .before in
+    let k = lent (opened (walked else2)) in
+    let pre = entry k .pre in
+    let told = walked else2 .walk-all .ensures .done (else2 .before .if1 .left) in
+    ends-inside _ _ (is-bytes k) (pre .accepted) (pre .good) told (else2 .if2 .left) (coded made .final-codes .ensures) (made .close .ensures _ _ told) .1
+
+trim-into-requires : tie.Need-trim-into-requires
+trim-into-requires c κs =
+    let made = c .before .before .before .before .before in
+    let else2 = coded made .before in
+    let k = lent (opened (walked else2)) in
+    let pre = entry k .pre in
+    let told = walked else2 .walk-all .ensures .done (else2 .before .if1 .left) in
+    (bytes-accepted _ _ (is-bytes k) (pre .accepted) (pre .good) told (else2 .if2 .left) (coded made .final-codes .ensures) (made .close .ensures _ _ told), pre .lattice-long, pre .origins-long)
+
+u16-at-requires : tie.Need-u16-at-requires
+u16-at-requires c κs =
+    let trim = c .before .before .before .before .before in
+    let made = closing trim in
+    let else2 = coded made .before in
+    let k = lent (opened (walked else2)) in
+    let pre = entry k .pre in
+    let told = walked else2 .walk-all .ensures .done (else2 .before .if1 .left) in
+    omega (
+      arith,
+      pre .lattice-long,
+      out-long _ _ (is-bytes k) (pre .accepted) (pre .good) told (else2 .if2 .left) (coded made .final-codes .ensures) (made .close .ensures _ _ told)
+          (pre .lattice-long) (pre .origins-long) (trim .trim-into .ensures),
+    )
+
+cast-kept : tie.Need-cast-kept
+cast-kept c = search needs
+
+trace-requires : tie.Need-trace-requires
+trace-requires c κs =
+    let count = c .before .before in
+    let trim = trimming count in
+    let made = closing trim in
+    let else2 = coded made .before in
+    let k = lent (opened (walked else2)) in
+    let pre = entry k .pre in
+    let told = walked else2 .walk-all .ensures .done (else2 .before .if1 .left) in
+    traceable _ _ (is-bytes k) (pre .accepted) (pre .good) told (else2 .if2 .left) (coded made .final-codes .ensures) (made .close .ensures _ _ told)
+    (pre .lattice-long) (pre .origins-long) (trim .trim-into .ensures) (count .u16-at .ensures)
+
+clear32-requires : tie.Need-clear32-requires
+clear32-requires c κs = search needs
+
+cast-t44 : tie.Need-cast-t44
+cast-t44 c =
+    let trim = trimming (counted (c .before .before .before .before .before .before)) in
+    let made = closing trim in
+    let else2 = coded made .before in
+    let k = lent (opened (walked else2)) in
+    let pre = entry k .pre in
+    let told = walked else2 .walk-all .ensures .done (else2 .before .if1 .left) in
+    omega (
+      arith,
+      len-small _ _ (is-bytes k) (pre .accepted) (pre .good) told (else2 .if2 .left) (coded made .final-codes .ensures) (made .close .ensures _ _ told)
+          (pre .lattice-long) (pre .origins-long) (trim .trim-into .ensures),
+    )
+
+same-length-7 : tie.Need-same-length-7
+same-length-7 c = search needs
+
+same-length-8 : tie.Need-same-length-8
+same-length-8 c = search needs
+
+same-length-9 : tie.Need-same-length-9
+same-length-9 c = search needs
+
+returns-3 : tie.Need-returns-3
+returns-3 c =
+    let traced = c .before .before .before .before .before .before in
+    let count = counted traced in
+    let trim = trimming count in
+    let made = closing trim in
+    let else2 = coded made .before in
+    let k = lent (opened (walked else2)) in
+    let pre = entry k .pre in
+    let told = walked else2 .walk-all .ensures .done (else2 .before .if1 .left) in
+    says-lattice _ _ (is-bytes k) (pre .accepted) (pre .good) told (else2 .if2 .left) (coded made .final-codes .ensures) (made .close .ensures _ _ told)
+    (pre .lattice-long) (pre .origins-long) (trim .trim-into .ensures) (count .u16-at .ensures) (walked else2 .walk-all .ensures .states-kept)
+    (traced .trace .ensures) (c .before .before .clear32 .ensures)
+
+pub apply-into-spec : {M : Type 1} → statement M
+apply-into-spec =
+    tie.close
+    (tie.spec
+    header-requires
+    cast-f
+    mul-first
+    add-first
+    cast-first-arcs
+    cast-first-arcs-2
+    first-arcs-requires
+    slice-aggregate-walk-all
+    slice-aggregate-walk-all-2
+    walk-all-requires
+    refuse-requires
+    same-length
+    same-length-2
+    same-length-3
+    returns
+    refuse-requires-2
+    same-length-4
+    same-length-5
+    same-length-6
+    returns-2
+    final-codes-requires
+    cast-close
+    slice-aggregate-close
+    close-requires
+    mul-end
+    add-end
+    sub-trim-into
+    part-trim-into-start
+    part-trim-into-end
+    trim-into-requires
+    u16-at-requires
+    cast-kept
+    trace-requires
+    clear32-requires
+    cast-t44
+    same-length-7
+    same-length-8
+    same-length-9
+    returns-3)

@@ -1,0 +1,94 @@
+-- What is counted and written goes to the law `closes`.
+use borrow.Author.Needs.{needs}
+use mathlib.Core.Path.{refl}
+use Prim.Native.Nat.{_≤_}
+use native.Mathlib.Omega.{arith}
+use Rattle.lattice.proofs.Closing.{told-room, part-room, closes}
+use Rattle.lattice.proofs.applying.close.Statement.{statement}
+use Rattle.lattice.proofs.applying.close.Tie as tie
+
+-- The way back from a place to an earlier one.
+abbrev entry : tie.After-final-count → tie.Start
+entry c = c .before .before .before
+
+abbrev counted : tie.After-slice-known2 → tie.After-final-count
+counted c = c .before .before .before .before .before
+
+-- At most 1,024 finals.
+few : (c : tie.After-final-count) → (c .final-count .result ≤ 1024) × (entry c .args .w .states ≤ 1024)
+few c =
+    let x = entry c .args in
+    let room = told-room (x .codes .now) (x .last) (entry c .pre .0 .2) in
+    (omega (arith, c .final-count .ensures .1, room .1), room .1)
+
+final-count-requires : tie.Need-final-count-requires
+final-count-requires c κs = let start = c .before .before in told-room (start .args .codes .now) (start .args .last) (start .pre .0 .2)
+
+sub-from : tie.Need-sub-from
+sub-from c = omega arith
+
+mul-from : tie.Need-mul-from
+mul-from c = omega (arith, few c)
+
+sub-from-2 : tie.Need-sub-from-2
+sub-from-2 c = omega (arith, few c)
+
+sub-part : tie.Need-sub-part
+sub-part c = search needs
+
+part-part-start : tie.Need-part-part-start
+part-part-start c = search needs
+
+part-part-end : tie.Need-part-part-end
+part-part-end c = search needs
+
+put-finals-requires : tie.Need-put-finals-requires
+put-finals-requires c κs =
+    let here = c .before .before in
+    let x = entry here .args in
+    let told = entry here .pre .0 .2 in
+    let room = told-room (x .codes .now) (x .last) told in
+    let count = here .final-count in
+    (room .0, room .1, part-room (x .codes .now) (x .last) told (count .result) (count .ensures .0) (count .ensures .1))
+
+cast-put-head : tie.Need-cast-put-head
+cast-put-head c = omega (arith, few (counted c) .1)
+
+cast-put-head-2 : tie.Need-cast-put-head-2
+cast-put-head-2 c = omega (arith, entry (counted c) .pre .1)
+
+cast-put-head-3 : tie.Need-cast-put-head-3
+cast-put-head-3 c = omega (arith, few (counted c) .0)
+
+put-head-requires : tie.Need-put-head-requires
+put-head-requires c κs = search needs
+
+same-length : tie.Need-same-length
+same-length c = search needs
+
+returns : tie.Need-returns
+returns c =
+    let here = counted (c .before .before .before) in
+    let x = entry here .args in
+    let count = here .final-count in
+    λ b origins told. closes (x .codes .now) (x .last) told (entry here .pre .1) (count .result) _ _ _ _ _ (count .ensures .0) (count .ensures .1) refl refl
+    (c .before .before .before .before .before .put-finals .ensures) (c .before .before .put-head .ensures) refl
+
+pub close-spec : {M : Type 1} → statement M
+close-spec =
+    tie.close
+    (tie.spec
+    final-count-requires
+    sub-from
+    mul-from
+    sub-from-2
+    sub-part
+    part-part-start
+    part-part-end
+    put-finals-requires
+    cast-put-head
+    cast-put-head-2
+    cast-put-head-3
+    put-head-requires
+    same-length
+    returns)

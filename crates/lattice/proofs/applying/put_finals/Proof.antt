@@ -1,0 +1,121 @@
+-- A store loop over the keys, a record for each that is final. The invariant, `Putting`: the finals of the first `s` keys are written and counted.
+use borrow.Author.Needs.{needs}
+use Prim.Native.Nat.{_-_}
+use native.Mathlib.Omega.{arith}
+use Rattle.lattice.proofs.KeyFinals.{Putting, putting-first, putting-room, putting-none, putting-more, putting-stop}
+use Rattle.lattice.proofs.applying.put_finals.Statement.{statement}
+use Rattle.lattice.proofs.applying.put_finals.Tie as tie
+
+abbrev Inv-loop : tie.InvT-loop
+Inv-loop codes last states count table₀ finals₀ s₀ table finals s = Putting codes last states count table₀ table finals s
+
+abbrev μ-loop : tie.MeasureT-loop
+μ-loop codes last states count table₀ finals₀ s₀ table finals s = count - s
+
+-- The way back from a place to an earlier one.
+abbrev turn : tie.After-code-of Inv-loop μ-loop → tie.In-loop Inv-loop μ-loop
+turn c = c .before .before
+
+abbrev start : tie.In-loop Inv-loop μ-loop → tie.Start Inv-loop μ-loop
+start c = c .before .before .before .before
+
+loop-holds : tie.Need-loop-holds Inv-loop μ-loop
+loop-holds c =
+    let x = c .before .before .args in
+    putting-first (x .codes .now) (x .last) (x .states .now) (x .count) (x .table .now)
+
+mul-code-of : tie.Need-mul-code-of Inv-loop μ-loop
+mul-code-of c = omega arith
+
+shared-slice-read-code-of : tie.Need-shared-slice-read-code-of Inv-loop μ-loop
+shared-slice-read-code-of c = omega arith
+
+code-of-requires : tie.Need-code-of-requires Inv-loop μ-loop
+code-of-requires c κs = search needs
+
+cast-state : tie.Need-cast-state Inv-loop μ-loop
+cast-state c = omega arith
+
+add-s : tie.Need-add-s Inv-loop μ-loop
+add-s c = omega arith
+
+sub-t15 : tie.Need-sub-t15 Inv-loop μ-loop
+sub-t15 c = omega (arith, c .if1 .taken)
+
+mul-put-final : tie.Need-mul-put-final Inv-loop μ-loop
+mul-put-final c = let t = turn (c .before .before) in omega (arith, t .before .loop .inv .1 .few, t .loop-test .taken, start t .pre .1)
+
+add-put-final : tie.Need-add-put-final Inv-loop μ-loop
+add-put-final c = let t = turn (c .before .before) in omega (arith, t .before .loop .inv .1 .few, t .loop-test .taken, start t .pre .1)
+
+put-final-requires : tie.Need-put-final-requires Inv-loop μ-loop
+put-final-requires c κs =
+    let here = c .before .before in
+    let t = turn here in
+    let h = t .before .loop in
+    let x = start t .args in
+    let code = here .code-of in
+    putting-room (x .codes .now) (x .last) (x .states .now) (x .count) (h .finals) (h .s) (code .result) (t .loop-test .taken) (start t .pre .0) (code .ensures)
+    (x .table .now) (h .table) (h .inv) (c .before .if1 .taken) (start t .pre .2)
+
+add-finals : tie.Need-add-finals Inv-loop μ-loop
+add-finals c = let t = turn (c .before .before .before .before .before) in omega (arith, t .before .loop .inv .1 .few, t .loop-test .taken, start t .pre .1)
+
+loop-less : tie.Need-loop-less Inv-loop μ-loop
+loop-less c = omega (arith, turn (c .before .before .before .before .before) .loop-test .taken)
+
+loop-again : tie.Need-loop-again Inv-loop μ-loop
+loop-again c =
+    let here = c .before .before .before .before .before in
+    let t = turn here in
+    let h = t .before .loop in
+    let x = start t .args in
+    let code = here .code-of in
+    putting-more (x .codes .now) (x .last) (x .states .now) (x .count) (h .finals) (h .s) (code .result) (t .loop-test .taken) (start t .pre .0) (code .ensures)
+    (x .table .now) (h .table) (h .inv) _ (c .before .before .before .before .if1 .taken) (c .before .before .put-final .ensures) (c .before .before .put-final .kept .0)
+
+loop-less-2 : tie.Need-loop-less-2 Inv-loop μ-loop
+loop-less-2 c = omega (arith, turn (c .before) .loop-test .taken)
+
+loop-again-2 : tie.Need-loop-again-2 Inv-loop μ-loop
+loop-again-2 c =
+    let here = c .before in
+    let t = turn here in
+    let h = t .before .loop in
+    let x = start t .args in
+    let code = here .code-of in
+    putting-none (x .codes .now) (x .last) (x .states .now) (x .count) (h .finals) (h .s) (code .result) (t .loop-test .taken) (start t .pre .0) (code .ensures)
+    (x .table .now) (h .table) (h .inv) (c .if1 .left)
+
+same-length : tie.Need-same-length Inv-loop μ-loop
+same-length c = c .before .loop .inv .1 .kept
+
+returns : tie.Need-returns Inv-loop μ-loop
+returns c =
+    let h = c .before .loop in
+    let x = c .before .before .before .before .args in
+    putting-stop (x .codes .now) (x .last) (x .states .now) (x .count) (h .finals) (h .s) (x .table .now) (h .table) (c .loop-test .left) (h .inv)
+
+pub put-finals-spec : {M : Type 1} → statement M
+put-finals-spec =
+    tie.close
+    (tie.spec
+    Inv-loop
+    μ-loop
+    loop-holds
+    mul-code-of
+    shared-slice-read-code-of
+    code-of-requires
+    cast-state
+    add-s
+    sub-t15
+    mul-put-final
+    add-put-final
+    put-final-requires
+    add-finals
+    loop-less
+    loop-again
+    loop-less-2
+    loop-again-2
+    same-length
+    returns)

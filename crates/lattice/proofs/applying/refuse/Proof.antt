@@ -1,0 +1,47 @@
+-- Three buffers cleared from the front.
+use borrow.Author.Needs.{needs}
+use mathlib.Core.Path.{refl}
+use mathlib.Core.List.{[]}
+use Rattle.explore.proofs.EncodeStored.{filled-front}
+use Rattle.lattice.proofs.applying.refuse.Statement.{statement}
+use Rattle.lattice.proofs.applying.refuse.Tie as tie
+
+clear8-requires : tie.Need-clear8-requires
+clear8-requires c κs = search needs
+
+clear16-requires : tie.Need-clear16-requires
+clear16-requires c κs = search needs
+
+clear32-requires : tie.Need-clear32-requires
+clear32-requires c κs = search needs
+
+same-length : tie.Need-same-length
+same-length c = search needs
+
+same-length-2 : tie.Need-same-length-2
+same-length-2 c = search needs
+
+same-length-3 : tie.Need-same-length-3
+same-length-3 c = search needs
+
+returns : tie.Need-returns
+returns c =
+    let x = c .before .before .before .before .before .before .before .before .before .before .before .before .before .before .before .args in
+    record {
+      answer = refl;
+      table = filled-front [] (x .lattice .now) _ 0 refl refl (c .before .before .before .before .before .before .before .before .before .before .clear8 .ensures);
+      origins = filled-front [] (x .origins .now) _ 0 refl refl (c .before .before .before .before .before .before .clear16 .ensures);
+      pairs = filled-front [] (x .pairs .now) _ 0 refl refl (c .before .before .clear32 .ensures);
+    }
+
+pub refuse-spec : {M : Type 1} → statement M
+refuse-spec =
+    tie.close
+    (tie.spec
+    clear8-requires
+    clear16-requires
+    clear32-requires
+    same-length
+    same-length-2
+    same-length-3
+    returns)

@@ -1,0 +1,381 @@
+// Applying an input string: states numbered as first reached, their arcs written in turn, and the whole trimmed.
+ghost use mathlib.Core.Path.{_≡_};
+ghost use mathlib.Core.Bool.{cond};
+ghost use mathlib.Core.List.{List, map};
+ghost use Prim.Native.Nat.{ℕ, _+_, _*_, _≤_, _<_};
+ghost use lib.Dec.{ltb};
+ghost use lib.ListN.{length, getD, take};
+ghost use lib.Seq.{sets};
+ghost use Rattle.transducer.specs.Format.{decode};
+ghost use Rattle.transducer.specs.Encode.{final-records};
+ghost use Rattle.explore.specs.Explore.{built-refusal};
+ghost use Rattle.explore.specs.Walk.{Sofar, taken, state-served, Walked, Went, Walk-says, Told};
+ghost use Rattle.lattice.specs.Apply.{string-good, applied};
+ghost use Rattle.lattice.specs.ApplyEntry.{Apply-says, apply-refusal};
+ghost use Rattle.lattice.specs.Applying.{next, arc-keyed, found, Applicable, Key-in, key-code, key-finals, closed, Closes, Ready, Refused-with};
+use crate::trimming;
+use explore::Walk;
+use transducer::Arc;
+use transducer::Final;
+use transducer::Written;
+
+const MAX_STATES: usize = 1024;
+
+const MAX_ARCS: usize = 3072;
+
+// Where the arcs are written: behind room for the head and 1,024 finals.
+const ARCS_AT: usize = 10252;
+
+// Whether a string has at most 64 symbols, none of them empty or barred.
+fn string_ok(string: &[u16]) -> bool
+    ensures { λ r. ⌜ r ≡ string-good (now (string .entry)) ⌝ }
+{
+    let n = string.len();
+    if 64 < n {
+        return false;
+    }
+    let mut good = true;
+    let mut i = 0;
+    while i < n {
+        let c = string[i];
+        good = good & (1 <= c) & (c < 65535);
+        i += 1;
+    }
+    good
+}
+
+// The symbol at a position, 0 behind the last one: no arc with an input fits that.
+fn symbol_at(string: &[u16], position: usize) -> u16
+    ensures { λ r. ⌜ r ≡ cond (ltb position (length (now (string .entry)))) (getD (now (string .entry)) position 0) 0 ⌝ }
+{
+    if position < string.len() {
+        return string[position];
+    }
+    0
+}
+
+// Takes the step of an arc to the state of a key.
+fn take_step(
+    a: Arc,
+    i: usize,
+    key: u32,
+    w: Walk,
+    table: &mut [u8],
+    origins: &mut [u16],
+    states: &mut [u32],
+    heads: &mut [u16; 1024],
+    links: &mut [u16; 1024],
+) -> Walk
+    requires { ⌜ i < 65536 ⌝ }
+    requires { ⌜ ((b : Sofar) × Walked 1 b w (now table) (now origins) (now states) (now heads) (now links)) ⌝ }
+    ensures { λ z. ⌜ ((b : Sofar) → Walked 1 b w (now (table .entry)) (now (origins .entry)) (now (states .entry)) (now (heads .entry)) (now (links .entry)) →
+        Went 1 (taken (a .source) (arc-keyed a i key) b) z (now (table .exit)) (now (origins .exit)) (now (states .exit)) (now (heads .exit)) (now (links .exit))) ⌝ }
+{
+    let count = w.states;
+    let number = explore::find(states, heads, links, count, key);
+    let mut walk = w;
+    if number == MAX_STATES {
+        walk.full = true;
+        return walk;
+    }
+    walk.states = explore::store_new(states, heads, links, count, key, number);
+    let arcs = w.arcs;
+    if arcs < MAX_ARCS {
+        origins[arcs] = i as u16;
+    }
+    let made = Arc {
+        source: a.source,
+        input: a.input,
+        output: a.output,
+        target: number as u16,
+        weight: a.weight,
+    };
+    explore::record_arc(table, walk, made)
+}
+
+// Serves the state of number `source`: takes the step of each of its arcs that reads nothing or the symbol at its position.
+fn serve(
+    string: &[u16],
+    bytes: &[u8],
+    first: usize,
+    index: &[u16; 1025],
+    source: usize,
+    w: Walk,
+    table: &mut [u8],
+    origins: &mut [u16],
+    states: &mut [u32],
+    heads: &mut [u16; 1024],
+    links: &mut [u16; 1024],
+) -> Walk
+    requires { ⌜ Applicable (now string) (now bytes) first (now index) × (source < w .states) × Key-in (now string) (decode (now bytes)) (getD (now states) source 0) ⌝ }
+    requires { ⌜ ((b : Sofar) × Walked 1 b w (now table) (now origins) (now states) (now heads) (now links)) ⌝ }
+    ensures { λ z. ⌜ ((b : Sofar) → Walked 1 b w (now (table .entry)) (now (origins .entry)) (now (states .entry)) (now (heads .entry)) (now (links .entry)) →
+        Went 1 (state-served (next (now (string .entry)) (decode (now (bytes .entry)))) source b) z
+        (now (table .exit)) (now (origins .exit)) (now (states .exit)) (now (heads .exit)) (now (links .exit))) ⌝ }
+{
+    let key = states[source];
+    let q = (key % 1024) as usize;
+    let position = key / 1024;
+    let symbol = symbol_at(string, position as usize);
+    let end = index[q + 1] as usize;
+    let mut i = index[q] as usize;
+    let mut walk = w;
+    while i < end {
+        let a = transducer::arc_of(bytes, first, i);
+        let at = i;
+        i += 1;
+        let input = a.input;
+        let mut moved: u32 = 0;
+        if input != 0 {
+            if input != symbol {
+                continue;
+            }
+            moved = 1;
+        }
+        let step = Arc {
+            source: source as u16,
+            input: input,
+            output: a.output,
+            target: a.target,
+            weight: a.weight,
+        };
+        let to = (position + moved) * 1024 + (a.target as u32);
+        walk = take_step(step, at, to, walk, table, origins, states, heads, links);
+        if walk.full {
+            return walk;
+        }
+    }
+    walk
+}
+
+// Walks from the first state, until each state that was met is served or there are too many.
+fn walk_all(
+    string: &[u16],
+    bytes: &[u8],
+    first: usize,
+    index: &[u16; 1025],
+    start: u32,
+    table: &mut [u8],
+    origins: &mut [u16],
+    states: &mut [u32],
+) -> Walk
+    requires { ⌜ Applicable (now string) (now bytes) first (now index) × (start ≡ decode (now bytes) .start) ⌝ }
+    requires { ⌜ (59404 ≤ length (now table)) × (3072 ≤ length (now origins)) × (1024 ≤ length (now states)) ⌝ }
+    ensures { λ r. ⌜ Walk-says 1 (found (now (string .entry)) (decode (now (bytes .entry)))) r (now (table .entry)) (now (table .exit))
+        (now (origins .entry)) (now (origins .exit)) (now (states .entry)) (now (states .exit)) ⌝ }
+{
+    let mut heads = [0u16; 1024];
+    let mut links = [0u16; 1024];
+    explore::insert(states, &mut heads, &mut links, 0, start);
+    let mut walk = Walk {
+        states: 1,
+        arcs: 0,
+        dear: false,
+        full: false,
+    };
+    let mut s = 0;
+    while s < walk.states {
+        walk = serve(
+            string,
+            bytes,
+            first,
+            index,
+            s,
+            walk,
+            table,
+            origins,
+            states,
+            &mut heads,
+            &mut links,
+        );
+        if walk.full {
+            return walk;
+        }
+        s += 1;
+    }
+    walk
+}
+
+// The final code of the state of a key: that of its state where its position is the last, else 0.
+fn code_of(codes: &[u32; 1024], last: u32, key: u32) -> u32
+    ensures { λ r. ⌜ r ≡ key-code (now (codes .entry)) last key ⌝ }
+{
+    if key / 1024 == last {
+        let q = (key % 1024) as usize;
+        return codes[q];
+    }
+    0
+}
+
+// How many of the first `count` states are final.
+fn final_count(codes: &[u32; 1024], last: u32, states: &[u32], count: usize) -> usize
+    requires { ⌜ (count ≤ length (now states)) × (count ≤ 1024) ⌝ }
+    ensures { λ r. ⌜ (r ≡ length (key-finals (now (codes .entry)) last (take count (now (states .entry))))) × (r ≤ count) ⌝ }
+{
+    let mut finals = 0;
+    let mut s = 0;
+    while s < count {
+        let code = code_of(codes, last, states[s]);
+        s += 1;
+        if code != 0 {
+            finals += 1;
+        }
+    }
+    finals
+}
+
+// Writes the finals of the first `count` states, in order, from 12 on.
+fn put_finals(codes: &[u32; 1024], last: u32, states: &[u32], count: usize, table: &mut [u8])
+    requires { ⌜ (count ≤ length (now states)) × (count ≤ 1024)
+        × (12 + 10 * length (key-finals (now codes) last (take count (now states))) ≤ length (now table)) ⌝ }
+    ensures { λ _. ⌜ now (table .exit) ≡ sets (now (table .entry)) 12 (final-records (key-finals (now (codes .entry)) last (take count (now (states .entry))))) ⌝ }
+{
+    let mut finals = 0;
+    let mut s = 0;
+    while s < count {
+        let code = code_of(codes, last, states[s]);
+        let state = s as u16;
+        s += 1;
+        if code != 0 {
+            let f = Final {
+                state: state,
+                weight: code - 1,
+            };
+            transducer::put_final(table, 12 + 10 * finals, f);
+            finals += 1;
+        }
+    }
+}
+
+// Writes head and finals in front of the arcs. Answers where the head begins.
+fn close(codes: &[u32; 1024], last: u32, states: &[u32], w: Walk, table: &mut [u8]) -> usize
+    requires { ⌜ ((b : Sofar) × (origins : List ℕ) × Told 1 b w (now table) origins (now states)) × (w .arcs ≤ 3072) ⌝ }
+    ensures { λ r. ⌜ ((b : Sofar) (origins : List ℕ) → Told 1 b w (now (table .entry)) origins (now (states .entry)) →
+        Closes (closed (now (codes .entry)) last b) r (now (table .entry)) (now (table .exit))) ⌝ }
+{
+    let count = w.states;
+    let arcs = w.arcs;
+    let finals = final_count(codes, last, states, count);
+    let from = ARCS_AT - 12 - 10 * finals;
+    let part = &mut table[from..];
+    put_finals(codes, last, states, count, part);
+    transducer::put_head(part, count as u16, arcs as u16, finals as u16, 0);
+    from
+}
+
+// Each of the first `count` origins, an arc of the lattice before trimming, becomes the arc that this one came from.
+fn trace(origins: &mut [u16], count: usize, arcs: &[u16; 3072])
+    requires { ⌜ (count ≤ length (now origins)) × ((i : ℕ) → i < count → getD (now origins) i 0 < 3072) ⌝ }
+    ensures { λ _. ⌜ now (origins .exit) ≡ sets (now (origins .entry)) 0 (map (λ i. getD (now (arcs .entry)) i 0) (take count (now (origins .entry)))) ⌝ }
+{
+    let mut i = 0;
+    while i < count {
+        let j = origins[i] as usize;
+        origins[i] = arcs[j];
+        i += 1;
+    }
+}
+
+// Refuses with 11 or 12: every buffer is all zeros.
+fn refuse(lattice: &mut [u8], origins: &mut [u16], pairs: &mut [u32], number: u32) -> Written
+    ensures { λ r. ⌜ Refused-with number r (now (lattice .entry)) (now (lattice .exit)) (now (origins .entry)) (now (origins .exit)) (now (pairs .entry)) (now (pairs .exit)) ⌝ }
+{
+    wire::clear8(lattice, 0);
+    wire::clear16(origins, 0);
+    wire::clear32(pairs, 0);
+    Written {
+        refusal: number,
+        len: 0,
+    }
+}
+
+// Applies a good string to an accepted transducer, into buffers that are long enough.
+fn apply_into(
+    string: &[u16],
+    bytes: &[u8],
+    lattice: &mut [u8],
+    origins: &mut [u16],
+    pairs: &mut [u32],
+) -> Written
+    requires { ⌜ Ready (now string) (now bytes) (length (now lattice)) (length (now origins)) (length (now pairs)) ⌝ }
+    ensures { λ r. ⌜ Apply-says (now (string .entry)) (now (bytes .entry)) (built-refusal (applied (now (string .entry)) (decode (now (bytes .entry))) .result))
+        r (now (lattice .entry)) (now (lattice .exit)) (now (origins .entry)) (now (origins .exit)) (now (pairs .entry)) (now (pairs .exit)) ⌝ }
+{
+    let head = transducer::head_of(bytes);
+    let f = head.finals as usize;
+    let first = 12 + 10 * f;
+    let index = transducer::first_arcs(bytes, first, head.states as usize, head.arcs as usize);
+    let mut table = [0u8; 59404];
+    let mut arcs = [0u16; 3072];
+    let w = walk_all(
+        string,
+        bytes,
+        first,
+        &index,
+        head.start,
+        &mut table,
+        &mut arcs,
+        pairs,
+    );
+    if w.full {
+        return refuse(lattice, origins, pairs, 11);
+    }
+    let m = w.arcs;
+    if MAX_ARCS < m {
+        return refuse(lattice, origins, pairs, 12);
+    }
+    let codes = transducer::final_codes(bytes, f);
+    let from = close(&codes, string.len() as u32, pairs, w, &mut table);
+    let end = ARCS_AT + 16 * m;
+    let len = trimming::trim_into(&table[from..end], lattice, origins);
+    let kept = wire::u16_at(lattice, 6) as usize;
+    trace(origins, kept, &arcs);
+    wire::clear32(pairs, 0);
+    Written {
+        refusal: 0,
+        len: len as u32,
+    }
+}
+
+// Applies a string to a transducer: the lattice's bytes, trimmed, and for each of its arcs the arc that it came from.
+pub fn apply(
+    string: &[u16],
+    table: &[u8],
+    lattice: &mut [u8],
+    origins: &mut [u16],
+    pairs: &mut [u32],
+) -> Written
+    ensures { λ r. ⌜ Apply-says (now (string .entry)) (now (table .entry))
+        (apply-refusal (now (string .entry)) (now (table .entry)) (length (now (lattice .entry))) (length (now (origins .entry))) (length (now (pairs .entry))))
+        r (now (lattice .entry)) (now (lattice .exit)) (now (origins .entry)) (now (origins .exit)) (now (pairs .entry)) (now (pairs .exit)) ⌝ }
+{
+    let number = transducer::refusal(table);
+    if number != 0 {
+        return Written {
+            refusal: number,
+            len: 0,
+        };
+    }
+    if !string_ok(string) {
+        return Written { refusal: 9, len: 0 };
+    }
+    if lattice.len() < 59404 {
+        return Written {
+            refusal: 10,
+            len: 0,
+        };
+    }
+    if origins.len() < 3072 {
+        return Written {
+            refusal: 10,
+            len: 0,
+        };
+    }
+    if pairs.len() < 1024 {
+        return Written {
+            refusal: 10,
+            len: 0,
+        };
+    }
+    apply_into(string, table, lattice, origins, pairs)
+}

@@ -1,0 +1,6 @@
+pub mod Decimal
+pub mod Wrote
+pub mod Short
+pub mod NthLine
+pub mod Loading
+pub mod Steps

@@ -1,0 +1,154 @@
+-- How long the parts of a listing are at most. Assumes nothing.
+use mathlib.Core.Path.{_≡_}
+use mathlib.Core.Bool.{Bool, true, false, cond}
+use mathlib.Core.List.{List, [], _∷_, _++_, append-assoc, append-nil}
+use Prim.Native.Nat.{ℕ, zero, suc, _+_, _*_, _≤_, _<_}
+use native.Mathlib.Numerals.{add-one}
+use native.Mathlib.Omega.{arith}
+use lib.Dec.{eqb}
+use lib.ListN.{length, getD, take, length-append}
+use lib.Seq.{take-suc, length-take-le}
+use Rattle.transducer.specs.Format.{Transducer}
+use Rattle.transducer.specs.Path.{arc, no-arc, non-empty, ends, final-weight, written-by, arcs-cost, path-cost}
+use Rattle.transducer.proofs.Good.{arc-weight-most, arc-labels-below, final-weight-most}
+use Rattle.transducer.proofs.Runs.{Accepting, AcceptingBy, accepts-accepting, accepting-cons}
+use Rattle.paths.specs.Count.{endless, path-count, nth-path}
+use Rattle.paths.proofs.Ready.{Sized}
+use Rattle.paths.proofs.Telling.{final-weight-low}
+use Rattle.paths.proofs.NthPath.{nth-path-accepts, nth-path-short, path-count-listed}
+use Rattle.listing.specs.Text.{Wrote, decimal, labels-text, line, line-of, lines, refused-word, refused-text}
+use Rattle.listing.proofs.Wrote.{wrote-none, wrote-then}
+use Rattle.listing.proofs.Decimal.{two-digits, five-digits, ten-digits}
+
+-- Labels
+
+pub labels-text-snoc : (xs : List ℕ) (x : ℕ) → labels-text (xs ++ (x ∷ [])) ≡ labels-text xs ++ (32 ∷ decimal x)
+unfolding labels-text
+labels-text-snoc [] x = rw (append-nil (decimal x))
+labels-text-snoc (y ∷ xs) x = rw (labels-text-snoc xs x, append-assoc)
+
+-- One label more is written: a blank, and its digits.
+
+pub labels-none : (out : List ℕ) (at : ℕ) → Wrote out out at at (labels-text [])
+unfolding labels-text
+labels-none out at = wrote-none out at
+
+pub labels-next : {a b c d : List ℕ} {at end mid next : ℕ} (xs : List ℕ) (i : ℕ) → i < length xs → Wrote a b at end (labels-text (take i xs))
+    → Wrote b c end mid (32 ∷ []) → Wrote c d mid next (decimal (getD xs i 0)) → Wrote a d at next (labels-text (take (i + 1) xs))
+labels-next xs i h p q r =
+    rw (add-one, take-suc xs i 0 h, labels-text-snoc (take i xs) (getD xs i 0)) (wrote-then p (wrote-then q r))
+
+pub labels-text-short : (xs : List ℕ) → ((i : ℕ) → getD xs i 0 < 65536) → length (labels-text xs) ≤ 6 * length xs
+unfolding labels-text
+labels-text-short [] h = omega arith
+labels-text-short (x ∷ xs) h =
+    let here : length (decimal x) ≤ 5 = five-digits x (omega (arith, h 0)) in
+    let rest : length (labels-text xs) ≤ 6 * length xs = labels-text-short xs (λ i. h (suc i)) in
+    rw (length-append (decimal x) (labels-text xs)) (omega arith)
+
+take-below : (m n : ℕ) (xs : List ℕ) → 0 < m → ((i : ℕ) → getD xs i 0 < m) → (i : ℕ) → getD (take n xs) i 0 < m
+take-below m zero xs p h i = p
+take-below m (suc n) [] p h i = p
+take-below m (suc n) (x ∷ xs) p h zero = h 0
+take-below m (suc n) (x ∷ xs) p h (suc i) = take-below m n xs p (λ j. h (suc j)) i
+
+-- The first labels of a buffer.
+pub taken-text-short : (n : ℕ) (xs : List ℕ) → n ≤ length xs → ((i : ℕ) → getD xs i 0 < 65536) → length (labels-text (take n xs)) ≤ 6 * n
+taken-text-short n xs l h =
+    let few : length (take n xs) ≡ n = length-take-le n xs l in
+    omega (arith, labels-text-short (take n xs) (take-below 65536 n xs (omega arith) h))
+
+pub line-short : (k cost : ℕ) (labels : List ℕ) → k < 100 → cost < 10000000000 → length labels ≤ 1023 → ((i : ℕ) → getD labels i 0 < 65536)
+    → length (line k cost labels) ≤ 6152
+unfolding line
+line-short k cost labels a b few h =
+    let number : length (decimal k) ≤ 2 = two-digits k a in
+    let paid : length (decimal cost) ≤ 10 = ten-digits cost b in
+    let told : length (labels-text labels) ≤ 6 * length labels = labels-text-short labels h in
+    simp length-append (omega arith)
+
+-- Paths
+
+pub written-by-short : (t : Transducer) (p : List ℕ) → length (written-by t p) ≤ length p
+unfolding written-by non-empty
+written-by-short t [] = omega arith
+written-by-short t (i ∷ p) = on (eqb (arc t i .output) 0) (written-by-short t p)
+  where
+    on : (b : Bool) → length (written-by t p) ≤ length p → length (cond b (written-by t p) (arc t i .output ∷ written-by t p)) ≤ suc (length p)
+    on true h = omega arith
+    on false h = omega arith
+
+arcs-cost-low : (t : Transducer) → Sized t → (s : ℕ) (p : List ℕ) → Accepting t s p → arcs-cost t p ≤ 1000000 * length p
+unfolding arcs-cost arc
+arcs-cost-low t z s [] a = omega arith
+arcs-cost-low t z s (i ∷ p) a =
+    let by : AcceptingBy t s i p = accepting-cons t s i p a in
+    let here : getD (t .arcs) i no-arc .weight ≤ 1000000 = arc-weight-most t (z .content) i no-arc (by .below) in
+    let rest : arcs-cost t p ≤ 1000000 * length p = arcs-cost-low t z (arc t i .target) p (by .rest) in
+    omega arith
+
+labels-low : (t : Transducer) → Sized t → (s : ℕ) (p : List ℕ) → Accepting t s p → (k : ℕ) → getD (written-by t p) k 0 < 65536
+unfolding written-by non-empty arc
+labels-low t z s [] a k = omega arith
+labels-low t z s (i ∷ p) a k =
+    let by : AcceptingBy t s i p = accepting-cons t s i p a in
+    let here : getD (t .arcs) i no-arc .output < 65535 = arc-labels-below t (z .content) i no-arc (by .below) .1 in
+    on (eqb (getD (t .arcs) i no-arc .output) 0) here k (λ j. labels-low t z (arc t i .target) p (by .rest) j)
+  where
+    on : (b : Bool) → getD (t .arcs) i no-arc .output < 65535 → (k : ℕ) → ((j : ℕ) → getD (written-by t p) j 0 < 65536)
+        → getD (cond b (written-by t p) (getD (t .arcs) i no-arc .output ∷ written-by t p)) k 0 < 65536
+    on true here k rest = rest k
+    on false here zero rest = omega arith
+    on false here (suc k) rest = rest k
+
+-- A path that is handed out has fewer arcs than there are states, so its cost has at most ten digits.
+pub record Listable (t : Transducer) (k : ℕ) : Type 0 where
+  pub number : k < 99
+  pub cost : path-cost t (nth-path t k) < 10000000000
+  pub few : length (written-by t (nth-path t k)) ≤ 1023
+  pub labels : (i : ℕ) → getD (written-by t (nth-path t k)) i 0 < 65536
+
+pub listable : (t : Transducer) → Sized t → endless t ≡ false → (k : ℕ) → k < path-count t → Listable t k
+unfolding path-cost
+listable t z finite k there =
+    let p : List ℕ = nth-path t k in
+    let listed = path-count-listed t k there in
+    let a : Accepting t (t .start) p = accepts-accepting t p (nth-path-accepts t k (listed .0)) in
+    let short : length p < t .states = nth-path-short t (z .within) finite k there in
+    let last : final-weight (t .finals) (ends t (t .start) p) ≤ 1000000 =
+    final-weight-low (t .finals) (ends t (t .start) p) (record { state = 0; weight = 0 }) (λ i b. final-weight-most t (z .content) i (record { state = 0; weight = 0 }) b) in
+    record {
+      number = listed .1;
+      cost = omega (arith, arcs-cost-low t z (t .start) p a, short, last, z .states);
+      few = omega (arith, written-by-short t p, short, z .states);
+      labels = labels-low t z (t .start) p a;
+    }
+
+-- Lines
+
+pub line-of-short : (t : Transducer) (k : ℕ) → Listable t k → length (line-of t k) ≤ 6152
+unfolding line-of
+line-of-short t k l = line-short k (path-cost t (nth-path t k)) (written-by t (nth-path t k)) (omega (arith, l .number)) (l .cost) (l .few) (l .labels)
+
+pub lines-none : (t : Transducer) (out : List ℕ) (at : ℕ) → Wrote out out at at (lines t 0)
+unfolding lines
+lines-none t out at = wrote-none out at
+
+pub lines-next : {a b c : List ℕ} {at mid end : ℕ} (t : Transducer) (k : ℕ) → Wrote a b at mid (lines t k) → Wrote b c mid end (line-of t k)
+    → Wrote a c at end (lines t (k + 1))
+unfolding lines
+lines-next t k p q = rw add-one (wrote-then p q)
+
+pub lines-short : (t : Transducer) (n : ℕ) → ((k : ℕ) → k < n → Listable t k) → length (lines t n) ≤ 6152 * n
+unfolding lines
+lines-short t zero h = omega arith
+lines-short t (suc n) h =
+    let rest : length (lines t n) ≤ 6152 * n = lines-short t n (λ k l. h k (omega arith)) in
+    let here : length (line-of t n) ≤ 6152 = line-of-short t n (h n (omega arith)) in
+    rw (length-append (lines t n) (line-of t n)) (omega arith)
+
+pub refused-short : (number : ℕ) → number < 10000000000 → length (refused-text number) ≤ 19
+unfolding refused-text refused-word
+refused-short number h =
+    let digits : length (decimal number) ≤ 10 = ten-digits number h in
+    rw (length-append (decimal number) (10 ∷ [])) (omega arith)

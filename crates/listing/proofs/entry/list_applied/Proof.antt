@@ -1,0 +1,136 @@
+-- `odd-refused` and `apply-refused` have the text of a refusal, and `lattice-..` what is listed.
+use mathlib.Core.Path.{_≡_, sym}
+use Prim.Native.Nat.{ℕ, _%_, _≤_}
+use native.Mathlib.Omega.{arith}
+use borrow.Author.Needs.{needs}
+use lib.ListN.{length, length-replicate}
+use lib.Seq.{length-take-le}
+use Rattle.wire.specs.Bytes.{Bytes}
+use Rattle.transducer.specs.Format.{decode}
+use Rattle.listing.proofs.Steps.{odd-refused, apply-refused, lattice-front, lattice-accepted, lattice-listed}
+use Rattle.listing.proofs.entry.list_applied.Statement.{statement}
+use Rattle.listing.proofs.entry.list_applied.Tie as tie
+
+abbrev loaded : tie.After-apply → tie.After-load-labels
+loaded c = c .before .before .before .before .before
+
+abbrev start : tie.After-apply → tie.Start
+start c = loaded c .before .before .before .before .before .before
+
+is-bytes : (c : tie.After-apply) → Bytes (start c .args .table .now)
+is-bytes c = λ i. omega (arith, loaded c .before .before .before .before .before .shared-slice-known .given i)
+
+even : (c : tie.After-apply) → length (start c .args .bytes .now) % 2 ≡ 0
+even c = loaded c .before .before .if1 .left
+
+abbrev called : tie.After-struct-known → tie.After-apply
+called c = c .before .before .before .before .before
+
+refuse-into-requires : tie.Need-refuse-into-requires
+refuse-into-requires c κs = c .before .before .before .before .before .pre .1
+
+same-length : tie.Need-same-length
+same-length c = c .before .before .refuse-into .kept .1 .0
+
+returns : tie.Need-returns
+returns c =
+    let odd = c .before .before .before .before in
+    let x = odd .before .before .before .before .args in
+    odd-refused (decode (x .table .now)) (x .bytes .now) (odd .if1 .taken) (c .before .before .refuse-into .ensures)
+
+load-labels-requires : tie.Need-load-labels-requires
+load-labels-requires c κs = length-replicate {A = ℕ} 65 0
+
+prefix : (c : tie.After-load-labels) → c .load-labels .result ≤ length (c .load-labels .last .1 .0)
+prefix c = omega (arith, c .load-labels .ensures .long, c .load-labels .ensures .many)
+
+array-share-prefix-string : tie.Need-array-share-prefix-string
+array-share-prefix-string c = prefix c
+
+slice-aggregate-apply : tie.Need-slice-aggregate-apply
+slice-aggregate-apply c = sym (length-take-le (c .before .load-labels .result) (c .before .load-labels .last .1 .0) (prefix (c .before)))
+
+slice-aggregate-apply-2 : tie.Need-slice-aggregate-apply-2
+slice-aggregate-apply-2 c = search needs
+
+slice-aggregate-apply-3 : tie.Need-slice-aggregate-apply-3
+slice-aggregate-apply-3 c = search needs
+
+slice-aggregate-apply-4 : tie.Need-slice-aggregate-apply-4
+slice-aggregate-apply-4 c = search needs
+
+apply-requires : tie.Need-apply-requires
+apply-requires c κs = tt
+
+refuse-into-requires-2 : tie.Need-refuse-into-requires-2
+refuse-into-requires-2 c κs = start (c .before .before .before .before .before) .pre .1
+
+same-length-2 : tie.Need-same-length-2
+same-length-2 c = c .before .before .refuse-into2 .kept .1 .0
+
+returns-2 : tie.Need-returns-2
+returns-2 c =
+    let asked = c .before .before .before .before .before .before .before .before in
+    apply-refused (start asked .args .bytes .now) (is-bytes asked) (start asked .pre .0) (even asked) (loaded asked .load-labels .ensures .labels)
+    (omega (arith, length-replicate {A = ℕ} 59404 0)) (omega (arith, length-replicate {A = ℕ} 3072 0)) (omega (arith, length-replicate {A = ℕ} 1024 0)) (asked .apply .ensures)
+    (c .before .before .before .before .if2 .taken) (c .before .before .refuse-into2 .ensures)
+
+cast-len : tie.Need-cast-len
+cast-len c = search needs
+
+inside : (c : tie.After-struct-known) → called c .apply .result .len ≤ length (called c .apply .last .1 .1 .0)
+inside c =
+    let asked = called c in
+    lattice-front (start asked .args .bytes .now) (is-bytes asked) (start asked .pre .0) (even asked) (loaded asked .load-labels .ensures .labels)
+    (omega (arith, length-replicate {A = ℕ} 59404 0)) (omega (arith, length-replicate {A = ℕ} 3072 0)) (omega (arith, length-replicate {A = ℕ} 1024 0)) (asked .apply .ensures)
+    (c .before .if2 .left) .1
+
+array-share-prefix-lattice : tie.Need-array-share-prefix-lattice
+array-share-prefix-lattice c = inside c
+
+slice-aggregate-list-into : tie.Need-slice-aggregate-list-into
+slice-aggregate-list-into c = sym (length-take-le (called (c .before) .apply .result .len) (called (c .before) .apply .last .1 .1 .0) (inside (c .before)))
+
+list-into-requires : tie.Need-list-into-requires
+list-into-requires c κs =
+    let asked = called (c .before .before) in (
+      lattice-accepted (start asked .args .bytes .now) (is-bytes asked) (start asked .pre .0) (even asked) (loaded asked .load-labels .ensures .labels)
+          (omega (arith, length-replicate {A = ℕ} 59404 0)) (omega (arith, length-replicate {A = ℕ} 3072 0)) (omega (arith, length-replicate {A = ℕ} 1024 0)) (asked .apply .ensures)
+          (c .before .before .before .if2 .left),
+      start asked .pre .1,
+    )
+
+same-length-3 : tie.Need-same-length-3
+same-length-3 c = c .before .before .list-into .kept .1 .0
+
+returns-3 : tie.Need-returns-3
+returns-3 c =
+    let known = c .before .before .before .before .before in
+    let asked = called known in
+    lattice-listed (start asked .args .bytes .now) (is-bytes asked) (start asked .pre .0) (even asked) (loaded asked .load-labels .ensures .labels)
+    (omega (arith, length-replicate {A = ℕ} 59404 0)) (omega (arith, length-replicate {A = ℕ} 3072 0)) (omega (arith, length-replicate {A = ℕ} 1024 0)) (asked .apply .ensures)
+    (known .before .if2 .left) (c .before .before .list-into .ensures)
+
+pub list-applied-spec : {M : Type 1} → statement M
+list-applied-spec =
+    tie.close
+    (tie.spec
+    refuse-into-requires
+    same-length
+    returns
+    load-labels-requires
+    array-share-prefix-string
+    slice-aggregate-apply
+    slice-aggregate-apply-2
+    slice-aggregate-apply-3
+    slice-aggregate-apply-4
+    apply-requires
+    refuse-into-requires-2
+    same-length-2
+    returns-2
+    cast-len
+    array-share-prefix-lattice
+    slice-aggregate-list-into
+    list-into-requires
+    same-length-3
+    returns-3)

@@ -1,0 +1,24 @@
+-- `says-short` and `says-whole` have the two answers.
+use Rattle.listing.proofs.Steps.{says-short, says-whole}
+use Rattle.listing.proofs.entry.listing.Statement.{statement}
+use Rattle.listing.proofs.entry.listing.Tie as tie
+
+returns : tie.Need-returns
+returns c =
+    let x = c .before .before .before .before .before .args in
+    says-short (x .left .now) (x .right .now) (x .bytes .now) (x .out .now) (c .if1 .taken)
+
+list-composed-requires : tie.Need-list-composed-requires
+list-composed-requires c κs = c .before .if1 .left
+
+same-length : tie.Need-same-length
+same-length c = c .before .before .list-composed .kept .1 .1 .1 .0
+
+returns-2 : tie.Need-returns-2
+returns-2 c =
+    let put = c .before .before in
+    let passed = put .before .before in
+    says-whole (passed .if1 .left) (put .list-composed .ensures)
+
+pub listing-spec : {M : Type 1} → statement M
+listing-spec = tie.close (tie.spec returns list-composed-requires same-length returns-2)

@@ -1,0 +1,51 @@
+-- The text of the whole listing, from the bytes of two transducers and of a code, and what the call answers. Assumes nothing: these are definitions.
+use mathlib.Core.Path.{_≡_}
+use mathlib.Core.Bool.{_&&_, cond}
+use mathlib.Core.List.{List}
+use Prim.Native.Nat.{ℕ, _%_}
+use lib.Dec.{eqb, ltb}
+use lib.ListN.{length}
+use Rattle.transducer.specs.declared.Written.{Written}
+use Rattle.transducer.specs.Format.{Transducer, decode}
+use Rattle.transducer.specs.Entry.{or-else, unless, left-in}
+use Rattle.explore.specs.Explore.{built-refusal}
+use Rattle.compose.specs.Compose.{composed}
+use Rattle.compose.specs.Entry.{compose-refusal}
+use Rattle.lattice.specs.Apply.{string-good, applied}
+use Rattle.lattice.specs.Lattice.{lattice}
+use Rattle.listing.specs.Code.{labels-in}
+use Rattle.listing.specs.Text.{listing-text, refused-text, least-room}
+
+-- 9: an odd last byte, or a string that is not good
+unfoldable pub code-refusal : (code : List ℕ) → ℕ
+code-refusal cs = cond (eqb (length cs % 2) 0 && string-good (labels-in cs)) 0 9
+
+-- The code's refusal, then 11 and 12 of what applying it makes.
+unfoldable pub applied-refusal : Transducer → (code : List ℕ) → ℕ
+applied-refusal t cs = or-else (code-refusal cs) (built-refusal (applied (labels-in cs) t .result))
+
+-- A text, or the one line of a refusal.
+unfoldable pub text-unless : (number : ℕ) → List ℕ → List ℕ
+text-unless number text = cond (eqb number 0) text (refused-text number)
+
+-- The text for a code and the transducer that it is applied to.
+unfoldable pub applied-text : Transducer → (code : List ℕ) → List ℕ
+applied-text t cs = text-unless (applied-refusal t cs) (listing-text (lattice (labels-in cs) t))
+
+-- The refusal for two transducers and a code: the composition's comes before the code's.
+unfoldable pub listing-refusal : (left right code : List ℕ) → ℕ
+listing-refusal xs ys cs = or-else (compose-refusal xs ys 59404 6144 1024) (applied-refusal (composed (decode xs) (decode ys) .result) cs)
+
+-- The text for two transducers and a code.
+unfoldable pub text-of : (left right code : List ℕ) → List ℕ
+text-of xs ys cs = text-unless (listing-refusal xs ys cs) (listing-text (lattice (labels-in cs) (composed (decode xs) (decode ys) .result)))
+
+-- 10: the buffer lent for the text is too short
+unfoldable pub text-room : (room : ℕ) → ℕ
+text-room room = cond (ltb room least-room) 10 0
+
+-- Only a short buffer keeps its contents: any other refusal is answered, and is a text too.
+pub record Listing-says (left right code : List ℕ) (short : ℕ) (r : Written) (out out' : List ℕ) : Type 0 where
+  pub refusal-is : r .refusal ≡ or-else short (listing-refusal left right code)
+  pub len-is : r .len ≡ unless short (length (text-of left right code))
+  pub text : out' ≡ left-in short out (text-of left right code)

@@ -1,0 +1,73 @@
+// The whole listing, from the bytes of two transducers and of a code.
+ghost use mathlib.Core.Path.{_≡_};
+ghost use Prim.Native.Nat.{_≤_};
+ghost use lib.ListN.{length};
+ghost use Rattle.transducer.specs.Format.{refusal, decode};
+ghost use Rattle.listing.specs.Text.{Whole};
+ghost use Rattle.listing.specs.Entry.{applied-refusal, applied-text, listing-refusal, text-of, text-room, Listing-says};
+use crate::code;
+use crate::listed;
+use transducer::Written;
+
+const LEAST_ROOM: usize = 602908;
+
+// Applies a code to an accepted transducer and lists what comes of it.
+fn list_applied(table: &[u8], bytes: &[u8], out: &mut [u8]) -> Written
+    requires { ⌜ (refusal (now table) ≡ 0) × (602908 ≤ length (now out)) ⌝ }
+    ensures { λ r. ⌜ Whole (now (out .entry)) (now (out .exit)) r (applied-refusal (decode (now (table .entry))) (now (bytes .entry)))
+        (applied-text (decode (now (table .entry))) (now (bytes .entry))) ⌝ }
+{
+    if bytes.len() % 2 != 0 {
+        return listed::refuse_into(9, out);
+    }
+    let mut string = [0u16; 65];
+    let count = code::load_labels(bytes, &mut string);
+    let mut lattice = [0u8; 59404];
+    let mut origins = [0u16; 3072];
+    let mut pairs = [0u32; 1024];
+    let applied = lattice::apply(
+        &string[..count],
+        table,
+        &mut lattice,
+        &mut origins,
+        &mut pairs,
+    );
+    let number = applied.refusal;
+    if number != 0 {
+        return listed::refuse_into(number, out);
+    }
+    let len = applied.len as usize;
+    listed::list_into(&lattice[..len], out)
+}
+
+// Composes two transducers, applies a code and lists what comes of it.
+fn list_composed(left: &[u8], right: &[u8], bytes: &[u8], out: &mut [u8]) -> Written
+    requires { ⌜ 602908 ≤ length (now out) ⌝ }
+    ensures { λ r. ⌜ Whole (now (out .entry)) (now (out .exit)) r (listing-refusal (now (left .entry)) (now (right .entry)) (now (bytes .entry)))
+        (text-of (now (left .entry)) (now (right .entry)) (now (bytes .entry))) ⌝ }
+{
+    let mut table = [0u8; 59404];
+    let mut origins = [0u16; 6144];
+    let mut states = [0u32; 1024];
+    let composed = compose::compose(left, right, &mut table, &mut origins, &mut states);
+    let number = composed.refusal;
+    if number != 0 {
+        return listed::refuse_into(number, out);
+    }
+    let len = composed.len as usize;
+    list_applied(&table[..len], bytes, out)
+}
+
+// The listing of two transducers and a code: the text from the front of `out`, zeros behind, and its length. A refusal of theirs is
+// answered and is a text too; where `out` is too short for some text, 10 is answered and nothing written.
+pub fn listing(left: &[u8], right: &[u8], bytes: &[u8], out: &mut [u8]) -> Written
+    ensures { λ r. ⌜ Listing-says (now (left .entry)) (now (right .entry)) (now (bytes .entry)) (text-room (length (now (out .entry)))) r (now (out .entry)) (now (out .exit)) ⌝ }
+{
+    if out.len() < LEAST_ROOM {
+        return Written {
+            refusal: 10,
+            len: 0,
+        };
+    }
+    list_composed(left, right, bytes, out)
+}

@@ -1,0 +1,138 @@
+-- What `shortest_path` answers, case by case: a refusal of 1 to 8, a buffer that is too short, 16, and success. Assumes nothing.
+use mathlib.Core.Path.{_≡_, refl, sym, ap, _∙_}
+use mathlib.Core.Bool.{true, false, _||_, cond}
+use mathlib.Core.List.{List}
+use Prim.Native.Nat.{ℕ, _-_, _≤_, _<_}
+use native.Mathlib.Omega.{arith}
+use borrow.Author.Tests.{ne-eqb, lt-ltb, le-ltb}
+use lib.Dec.{eqb, ltb}
+use lib.ListN.{length, take, replicate}
+use lib.Seq.{take-at}
+use Rattle.wire.specs.Bytes.{filled}
+use Rattle.wire.proofs.Places.{length-filled}
+use Rattle.transducer.specs.Format.{Transducer, decode, refusal}
+use Rattle.transducer.specs.Path.{accepts, runs}
+use Rattle.transducer.specs.Entry.{or-else, unless, left-in}
+use Rattle.transducer.proofs.Runs.{accepting-accepts}
+use Rattle.paths.specs.declared.Told.{Told}
+use Rattle.paths.specs.Count.{can-accept}
+use Rattle.paths.specs.Entry.{Tells}
+use Rattle.paths.proofs.Ready.{Sized}
+use Rattle.shortest.specs.Shortest.{shortest, no-path}
+use Rattle.shortest.specs.Nearest.{by-state, Settled, Settled-says, follow}
+use Rattle.shortest.specs.Entry.{shortest-refusal, Shortest-says}
+use Rattle.shortest.proofs.Settled.{Followed, followed, follow-shortest, few-arcs, reached-accepting, no-path-none}
+
+abbrev pub refused-told : ℕ → Told
+refused-told n = record { refusal = n; cost = 0; arcs = 0; labels = 0 }
+
+says-refused : (bs : List ℕ) (number n : ℕ) (r : Told) (a b : List ℕ) → number ≡ n → (n ≡ 0 → ⊥) → r ≡ refused-told n → Shortest-says bs number r a a b b
+unfolding unless left-in
+says-refused bs number n r a b e nonzero h =
+    let test : eqb n 0 ≡ false = ne-eqb n 0 nonzero in
+    rw (e, h) (record {
+      refusal-is = refl;
+      cost-is = rw test;
+      arcs-is = rw test;
+      labels-is = rw test;
+      arcs = rw test;
+      labels = rw test;
+    })
+
+-- The shortest path along the first arcs.
+pub record Found (t : Transducer) (v : ℕ → ℕ) (start len : ℕ) : Type 0 where
+  pub some : can-accept (t .states) t (t .start) ≡ true
+  pub goes : runs t start (follow len t v start) ≡ true
+  pub few : len ≤ 1023
+  pub many : length (follow len t v start) ≡ len
+  pub is : follow len t v start ≡ shortest t
+  pub accepted : accepts t (follow len t v start) ≡ true
+
+pub found : (t : Transducer) → Sized t → (cs ls vs : List ℕ) (start len : ℕ) → Settled-says t cs ls vs → start ≡ t .start → (by-state cs start ≡ no-path → ⊥)
+    → len ≡ by-state ls start → Found t (by-state vs) start len
+found t z cs ls vs start len says e there l =
+    let c : ℕ → ℕ = by-state cs in
+    let m : ℕ → ℕ = by-state ls in
+    let v : ℕ → ℕ = by-state vs in
+    let k : Settled t c m v = says .settled in
+    let s : ℕ = t .start in
+    let below : s < t .states = z .within .starts in
+    let apart : by-state cs s ≡ no-path → ⊥ = rw e at there in
+    let some : c s < no-path = omega (arith, apart, k .nearing .high s below) in
+    let few : m s < t .states = few-arcs t z c m v k s below some in
+    let f : Followed t z c m v k s (m s) = followed t z c m v k (m s) s below some refl in
+    let most : t .states ≤ 1024 = z .states in
+    rw (l, e) (record {
+      some = reached-accepting t z c m v k s below some;
+      goes = f .accepting .goes;
+      few = omega arith;
+      many = f .arcs;
+      is = follow-shortest t z c m v k some;
+      accepted = accepting-accepts t (follow (m s) t v s) (f .accepting);
+    })
+
+-- The path in its buffer, as it is told.
+pub record Stored (t : Transducer) (len : ℕ) (a' : List ℕ) : Type 0 where
+  pub taken : take len a' ≡ shortest t
+  pub inside : len ≤ length a'
+  pub accepted : accepts t (take len a') ≡ true
+
+pub stored : (t : Transducer) (v : ℕ → ℕ) (start len : ℕ) (a a' : List ℕ) → Found t v start len → 1023 ≤ length a → a' ≡ filled (length a) (follow len t v start) → Stored t len a'
+unfolding filled
+stored t v start len a a' f room put =
+    let p : List ℕ = follow len t v start in
+    let many : length p ≡ len = f .many in
+    let few : len ≤ 1023 = f .few in
+    let whole : length a' ≡ length a = ap length put ∙ length-filled (length a) p (omega arith) in
+    let taken : take len a' ≡ p = ap (λ (x : List ℕ). take len x) put ∙ take-at p (replicate (length a - length p) 0) len many in
+    record { taken = taken ∙ f .is; inside = omega arith; accepted = rw taken (f .accepted) }
+
+module _ {bs a b : List ℕ} {n : ℕ} {r : Told} where
+  -- 1 to 8
+  pub shortest-bad : n ≡ refusal bs → (n ≡ 0 → ⊥) → r ≡ refused-told n → Shortest-says bs (shortest-refusal bs (length a) (length b)) r a a b b
+  unfolding shortest-refusal or-else
+  shortest-bad e nonzero h =
+      let rest : ℕ = cond (ltb (length a) 1023 || ltb (length b) 1023) 10 (cond (can-accept (decode bs .states) (decode bs) (decode bs .start)) 0 16) in
+      let number : cond (eqb (refusal bs) 0) rest (refusal bs) ≡ n = rw (← e, ne-eqb n 0 nonzero) in
+      says-refused bs (shortest-refusal bs (length a) (length b)) n r a b number nonzero h
+
+  -- 10
+  pub shortest-short-arcs : n ≡ refusal bs → n ≡ 0 → length a < 1023 → r ≡ refused-told 10 → Shortest-says bs (shortest-refusal bs (length a) (length b)) r a a b b
+  unfolding shortest-refusal or-else
+  shortest-short-arcs e z l h =
+      let ok : refusal bs ≡ 0 = sym e ∙ z in
+      says-refused bs (shortest-refusal bs (length a) (length b)) 10 r a b (rw (ok, lt-ltb (length a) 1023 l)) (λ q. omega arith) h
+
+  pub shortest-short-labels : n ≡ refusal bs → n ≡ 0 → 1023 ≤ length a → length b < 1023 → r ≡ refused-told 10
+      → Shortest-says bs (shortest-refusal bs (length a) (length b)) r a a b b
+  unfolding shortest-refusal or-else
+  shortest-short-labels e z la l h =
+      let ok : refusal bs ≡ 0 = sym e ∙ z in
+      says-refused bs (shortest-refusal bs (length a) (length b)) 10 r a b (rw (ok, le-ltb (length a) 1023 la, lt-ltb (length b) 1023 l)) (λ q. omega arith) h
+
+  module _ (e : n ≡ refusal bs) (z : n ≡ 0) (la : 1023 ≤ length a) (lb : 1023 ≤ length b) where
+    -- 16
+    pub shortest-none : {cs ls vs : List ℕ} {start : ℕ} → Sized (decode bs) → Settled-says (decode bs) cs ls vs → start ≡ decode bs .start → by-state cs start ≡ no-path
+        → r ≡ refused-told 16 → Shortest-says bs (shortest-refusal bs (length a) (length b)) r a a b b
+    unfolding shortest-refusal or-else
+    shortest-none {cs} {ls} {vs} size says s q h =
+        let ok : refusal bs ≡ 0 = sym e ∙ z in
+        let none : can-accept (decode bs .states) (decode bs) (decode bs .start) ≡ false =
+        no-path-none (decode bs) size (by-state cs) (by-state ls) (by-state vs) (says .settled) (decode bs .start) (size .within .starts) (rw s at q) in
+        says-refused bs (shortest-refusal bs (length a) (length b)) 16 r a b (rw (ok, le-ltb (length a) 1023 la, le-ltb (length b) 1023 lb, none)) (λ q'. omega arith) h
+
+    pub shortest-told : {v : ℕ → ℕ} {start len : ℕ} {a' b' : List ℕ} → Found (decode bs) v start len → a' ≡ filled (length a) (follow len (decode bs) v start)
+        → Tells (decode bs) (take len a') r b b' → Shortest-says bs (shortest-refusal bs (length a) (length b)) r a a' b b'
+    unfolding shortest-refusal or-else unless left-in
+    shortest-told {v} {start} {len} {a'} {b'} f put told' =
+        let st : Stored (decode bs) len a' = stored (decode bs) v start len a a' f la put in
+        let told : Tells (decode bs) (shortest (decode bs)) r b b' = rw (st .taken) at told' in
+        let ok : refusal bs ≡ 0 = sym e ∙ z in
+        rw (ok, le-ltb (length a) 1023 la, le-ltb (length b) 1023 lb, f .some) (record {
+          refusal-is = told .refusal-is;
+          cost-is = told .cost-is;
+          arcs-is = told .arcs-is;
+          labels-is = told .labels-is;
+          arcs = put ∙ ap (filled (length a)) (f .is);
+          labels = told .labels;
+        })

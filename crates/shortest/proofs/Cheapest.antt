@@ -1,0 +1,90 @@
+-- The shortest path: it accepts where anything does, no accepting path is better, however long, and it has fewer arcs than there are states. Assumes nothing.
+use mathlib.Core.Path.{_≡_, refl}
+use mathlib.Core.Bool.{Bool, true, false}
+use mathlib.Core.Logic.{_↔_}
+use mathlib.Core.List.{List}
+use mathlib.Core.List.{List·Memᴰ as Mem}
+use Prim.Native.Nat.{ℕ, _≤_, _<_}
+use native.Mathlib.Omega.{arith}
+use lib.Dec.{leb}
+use lib.ListN.{length}
+use borrow.Author.Tests.{leb-true, leb-false}
+use Rattle.transducer.specs.Format.{Transducer}
+use Rattle.transducer.specs.Path.{accepts, path-cost}
+use Rattle.transducer.proofs.Runs.{accepts-accepting, accepting-accepts, Within}
+use Rattle.paths.specs.Count.{paths-from, can-accept}
+use Rattle.paths.proofs.Listed.{in-paths-from, paths-from-has}
+use Rattle.paths.proofs.GoesOn.{can-accept-path, can-accept-some}
+use Rattle.shortest.specs.Shortest.{better, shortest}
+use Rattle.shortest.proofs.Best.{Not-better, better-false, not-better, neither-better-same, best-in, best-least, clash}
+use Rattle.shortest.proofs.Cheaper.{cost-start, Shorter, cheap-and-short}
+
+module _ (t : Transducer) (w : Within t) (p : List ℕ) (a : accepts t p ≡ true) where
+  -- An accepting path that is listed, no dearer and no longer.
+  listed : Shorter t (t .start) p
+  listed = cheap-and-short t w (t .start) p (w .starts) (accepts-accepting t p a)
+
+  listed-in : Mem (listed .path) (paths-from (t .states) t (t .start))
+  listed-in = paths-from-has (t .states) t (t .start) (listed .path) (listed .accepting) (omega (arith, listed .few))
+
+  listed-costs : path-cost t (listed .path) ≤ path-cost t p
+  listed-costs = omega (arith, listed .costs, cost-start t (listed .path), cost-start t p)
+
+  shortest-in : Mem (shortest t) (paths-from (t .states) t (t .start))
+  unfolding shortest
+  shortest-in = best-in t (paths-from (t .states) t (t .start)) (listed .path) listed-in
+
+  pub shortest-accepts : accepts t (shortest t) ≡ true
+  shortest-accepts = accepting-accepts t (shortest t) (in-paths-from (t .states) t (t .start) (shortest t) shortest-in .0)
+
+  least-listed : (q : List ℕ) → Mem q (paths-from (t .states) t (t .start)) → better t q (shortest t) ≡ false
+  unfolding shortest
+  least-listed q m = best-least t (paths-from (t .states) t (t .start)) q m
+
+  pub nothing-better : better t p (shortest t) ≡ false
+  nothing-better = on (leb (length p) (t .states)) refl
+    where
+      n : Not-better t (listed .path) (shortest t)
+      n = better-false t (listed .path) (shortest t) (least-listed (listed .path) listed-in)
+
+      on : (b : Bool) → leb (length p) (t .states) ≡ b → better t p (shortest t) ≡ false
+      on true e =
+          least-listed p (paths-from-has (t .states) t (t .start) p (accepts-accepting t p a) (leb-true (length p) (t .states) e))
+      on false e =
+          let long : t .states < length p = leb-false (length p) (t .states) e in
+          let arcs : path-cost t p ≤ path-cost t (shortest t) → length (shortest t) ≤ length (listed .path) =
+          λ u. n .near .arcs (omega (arith, listed-costs)) in
+          not-better t p (shortest t) (record {
+            near = record { cost = omega (arith, n .near .cost, listed-costs); arcs = λ u. omega (arith, arcs u, listed .arcs) };
+            order = λ u f. absurd (omega (arith, arcs (omega arith), listed .few));
+          })
+
+-- The shortest path again, of which no more is asked than that something accepts.
+pub shortest-short : (t : Transducer) → Within t → (p : List ℕ) → accepts t p ≡ true → length (shortest t) < t .states
+shortest-short t w p a =
+    let m : List ℕ = shortest t in
+    let b : accepts t m ≡ true = shortest-accepts t w p a in
+    let q : Shorter t (t .start) m = listed t w m b in
+    let n : Not-better t (q .path) m = better-false t (q .path) m (nothing-better t w (q .path) (accepting-accepts t (q .path) (q .accepting))) in
+    let less : length m ≤ length (q .path) = n .near .arcs (listed-costs t w m b) in
+    omega (arith, q .few)
+
+-- An accepting path that none is better than is the shortest one.
+pub shortest-is : (t : Transducer) → Within t → (p : List ℕ) → accepts t p ≡ true → ((q : List ℕ) → accepts t q ≡ true → better t q p ≡ false) → p ≡ shortest t
+shortest-is t w p a h =
+    neither-better-same t p (shortest t) (nothing-better t w p a) (h (shortest t) (shortest-accepts t w p a))
+
+-- Refusal 16: no path accepts.
+pub nothing-accepts : (t : Transducer) → Within t → (can-accept (t .states) t (t .start) ≡ false) ↔ ((p : List ℕ) → accepts t p ≡ false)
+nothing-accepts t w = (λ h p. there h p (accepts t p) refl, λ h. back h (can-accept (t .states) t (t .start)) refl)
+  where
+    there : can-accept (t .states) t (t .start) ≡ false → (p : List ℕ) → (b : Bool) → accepts t p ≡ b → accepts t p ≡ false
+    there h p false e = e
+    there h p true e =
+        clash (can-accept (t .states) t (t .start)) (can-accept-some t w (t .start) (w .starts) .1 (p, accepts-accepting t p e)) h
+
+    back : ((p : List ℕ) → accepts t p ≡ false) → (b : Bool) → can-accept (t .states) t (t .start) ≡ b → can-accept (t .states) t (t .start) ≡ false
+    back h false e = e
+    back h true e =
+        let found = can-accept-path (t .states) t (t .start) e in
+        clash (accepts t (found .0)) (accepting-accepts t (found .0) (found .1)) (h (found .0))

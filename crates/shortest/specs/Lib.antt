@@ -1,0 +1,3 @@
+pub mod Shortest
+pub mod Nearest
+pub mod Entry

@@ -1,0 +1,108 @@
+-- By state, the least cost to come, the fewest arcs at that cost and the first arc of such a path: on their way, and settled.
+-- Assumes nothing: these are definitions.
+use mathlib.Core.Path.{_≡_}
+use mathlib.Core.Bool.{Bool, true, false, cond}
+use mathlib.Core.List.{List, [], _∷_}
+use Prim.Native.Nat.{ℕ, zero, suc, _+_, _-_, _*_, _≤_, _<_, min}
+use lib.Dec.{eqb}
+use lib.ListN.{length, getD}
+use Rattle.transducer.specs.Format.{Transducer}
+use Rattle.transducer.specs.Path.{arc, is-final, final-weight, runs, ends}
+use Rattle.transducer.specs.Weight.{plus}
+use Rattle.paths.specs.Sweep.{total}
+use Rattle.shortest.specs.Shortest.{no-path, cost-from, least-to-come}
+
+-- A state's number in an array.
+abbrev pub by-state : List ℕ → (s : ℕ) → ℕ
+by-state xs s = getD xs s 0
+
+-- No dearer, and where it costs the same, no more arcs.
+pub record No-worse (x l y k : ℕ) : Type 0 where
+  pub cost : x ≤ y
+  pub arcs : y ≤ x → l ≤ k
+
+-- The same, with fewer arcs where it costs the same.
+pub record Nearer (x l y k : ℕ) : Type 0 where
+  pub cost : x ≤ y
+  pub arcs : y ≤ x → l < k
+
+-- More arcs than this are counted as this.
+abbrev pub most-arcs : ℕ
+most-arcs = 65535
+
+-- Cost and number of arcs from an arc's source by way of the arc, by those from its target.
+unfoldable pub cost-by : Transducer → (costs : ℕ → ℕ) → (i : ℕ) → ℕ
+cost-by t c i = min no-path (plus (arc t i .weight) (c (arc t i .target)))
+
+unfoldable pub arcs-by : Transducer → (lens : ℕ → ℕ) → (i : ℕ) → ℕ
+arcs-by t l i = min most-arcs (l (arc t i .target) + 1)
+
+-- The cost of the empty path from a state, and the same by its final code.
+unfoldable pub own-cost : Transducer → (s : ℕ) → ℕ
+own-cost t s = cond (is-final (t .finals) s) (final-weight (t .finals) s) no-path
+
+unfoldable pub code-cost : (code : ℕ) → ℕ
+code-cost code = cond (eqb code 0) no-path (code - 1)
+
+-- Some accepting path from a state has this cost and so many arcs.
+pub record Reached (t : Transducer) (s x l : ℕ) : Type 0 where
+  pub path : List ℕ
+  pub goes : runs t s path ≡ true
+  pub final : is-final (t .finals) (ends t s path) ≡ true
+  pub costs : cost-from t s path ≡ x
+  pub arcs : l ≡ min most-arcs (length path)
+
+-- Costs and numbers of arcs on their way: each is that of some accepting path, and none is worse than the empty path.
+pub record Nearing (t : Transducer) (c l : ℕ → ℕ) : Type 0 where
+  pub high : (s : ℕ) → s < t .states → c s ≤ no-path
+  pub reached : (s : ℕ) → s < t .states → c s < no-path → Reached t s (c s) (l s)
+  pub empty : (s : ℕ) → s < t .states → No-worse (c s) (l s) (own-cost t s) 0
+
+-- An arc that begins a path of the least cost and the fewest arcs from its source.
+pub record Tight (t : Transducer) (c l : ℕ → ℕ) (i : ℕ) : Type 0 where
+  pub below : i < length (t .arcs)
+  pub costs : cost-by t c i ≡ c (arc t i .source)
+  pub arcs : arcs-by t l i ≡ l (arc t i .source)
+
+-- A state's first tight arc, where one is at hand.
+pub record First (t : Transducer) (c l : ℕ → ℕ) (v i : ℕ) : Type 0 where
+  pub leaves : arc t v .source ≡ arc t i .source
+  pub tight : Tight t c l v
+  pub first : v ≤ i
+
+-- Arcs from one on that make nothing better, of which the first tight ones are known.
+pub record Settled-from (t : Transducer) (c l v : ℕ → ℕ) (from : ℕ) : Type 0 where
+  pub by-arc : (i : ℕ) → from ≤ i → i < length (t .arcs) → No-worse (c (arc t i .source)) (l (arc t i .source)) (cost-by t c i) (arcs-by t l i)
+  pub first : (i : ℕ) → from ≤ i → Tight t c l i → First t c l (v (arc t i .source)) i
+
+-- Costs, numbers of arcs and first arcs that no sweep changes any more.
+pub record Settled (t : Transducer) (c l v : ℕ → ℕ) : Type 0 where
+  pub nearing : Nearing t c l
+  pub all : Settled-from t c l v 0
+
+-- Cost and number of arcs as one number, which falls where they get better.
+unfoldable pub height : (c l : ℕ → ℕ) → (s : ℕ) → ℕ
+height c l s = 65536 * c s + l s
+
+-- Arrays with a number for each state.
+pub record Long (cs ls vs : List ℕ) : Type 0 where
+  pub costs : length cs ≡ 1024
+  pub lens : length ls ≡ 1024
+  pub firsts : length vs ≡ 1024
+
+-- What a sweep over the arcs leaves: where it changed nothing all is settled, where it changed something the sum has fallen.
+pub record Swept-says (t : Transducer) (cs ls cs' ls' vs' : List ℕ) (changed : Bool) : Type 0 where
+  pub long : Long cs' ls' vs'
+  pub nearing : Nearing t (by-state cs') (by-state ls')
+  pub settled : changed ≡ false → Settled t (by-state cs') (by-state ls') (by-state vs')
+  pub fallen : changed ≡ true → total (t .states) (height (by-state cs') (by-state ls')) < total (t .states) (height (by-state cs) (by-state ls))
+
+-- What all sweeps leave: the least cost to come from each state, with the fewest arcs and the first arcs by which it comes.
+pub record Settled-says (t : Transducer) (cs ls vs : List ℕ) : Type 0 where
+  pub settled : Settled t (by-state cs) (by-state ls) (by-state vs)
+  pub least : (s : ℕ) → s < t .states → getD cs s 0 ≡ least-to-come t s
+
+-- The path of so many arcs from a state along the first arcs.
+unfoldable pub follow : (arcs : ℕ) → Transducer → (first-arcs : ℕ → ℕ) → (s : ℕ) → List ℕ
+follow zero t v s = []
+follow (suc n) t v s = v s ∷ follow n t v (arc t (v s) .target)

@@ -1,0 +1,58 @@
+// The shortest path of a transducer.
+ghost use mathlib.Core.Path.{_≡_};
+ghost use lib.ListN.{length};
+ghost use Rattle.shortest.specs.Entry.{Shortest-says, shortest-refusal};
+use crate::near;
+use paths::Told;
+
+fn refused(number: u32) -> Told
+    ensures { λ r. ⌜ r ≡ record { refusal = number; cost = 0; arcs = 0; labels = 0 } ⌝ }
+{
+    Told {
+        refusal: number,
+        cost: 0,
+        arcs: 0,
+        labels: 0,
+    }
+}
+
+// The shortest path: its arc numbers and the labels that it writes go into two lent buffers.
+pub fn shortest_path(table: &[u8], arcs: &mut [u16], labels: &mut [u16]) -> Told
+    ensures { λ r. ⌜ Shortest-says (now (table .entry))
+        (shortest-refusal (now (table .entry)) (length (now (arcs .entry))) (length (now (labels .entry))))
+        r (now (arcs .entry)) (now (arcs .exit)) (now (labels .entry)) (now (labels .exit)) ⌝ }
+{
+    let number = transducer::refusal(table);
+    if number != 0 {
+        return refused(number);
+    }
+    if arcs.len() < 1023 {
+        return refused(10);
+    }
+    if labels.len() < 1023 {
+        return refused(10);
+    }
+    let head = transducer::head_of(table);
+    let n = head.states as usize;
+    let f = head.finals as usize;
+    let start = head.start as usize;
+    let first = 12 + 10 * f;
+    let codes = transducer::final_codes(table, f);
+    let mut costs = near::own_costs(n, &codes);
+    let mut lens = [0u16; 1024];
+    let mut firsts = [0u16; 1024];
+    near::settle(
+        table,
+        first,
+        head.arcs as usize,
+        &mut costs,
+        &mut lens,
+        &mut firsts,
+    );
+    if costs[start] == near::NO_PATH {
+        return refused(16);
+    }
+    let len = lens[start] as usize;
+    near::walk(table, first, start, len, &firsts, arcs);
+    paths::tell(table, first, start, &codes, arcs, len, labels)
+}

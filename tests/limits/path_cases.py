@@ -1,0 +1,127 @@
+"""The limit cases of the path count, the k-th path and the shortest path, with the answer of each written out by hand."""
+import struct
+import sys
+
+from compose_cases import line, loops, one_state
+from lattice_cases import LAST_LATTICE
+from model import STATES
+from path_model import TELL_LEAST, count, count_conditions, nth, nth_conditions, shortest_conditions, shortest_path
+from rows import EXACT, NONE, SMALLEST, agree, case, lend, sound, total
+
+COUNT, NTH, SHORTEST = 7, 8, 9
+ARCS_SHORT, LABELS_SHORT = TELL_LEAST
+
+
+def count_row(want, name, data, paths=0, also=()):
+    name = f"count, {name}:"
+    agree(name, want, count_conditions(data), also)
+    if count(data) != (want, paths):
+        sys.exit(f"{name}: the row says {want} {paths}, the model {count(data)}")
+    return case(COUNT, NONE, name, data), f"{name} refusal {want} count {paths}"
+
+
+def told_words(name, want, told, answer, buffers, whole, cut):
+    refusal, numbers, after = answer
+    if told is not None and numbers != told:
+        sys.exit(f"{name}: the row says {told}, the model {numbers}")
+    sums = [total(after[k] + whole[k][cut[k] :]) for k in TELL_LEAST]
+    return "{} refusal {} cost {} arcs {} labels {} sums {} {}".format(name, refusal, *numbers, *sums)
+
+
+def nth_row(want, name, k, data, told=None, room=NONE, also=()):
+    """`told` has cost, arcs and labels by hand."""
+    name = f"path, {name}:"
+    whole, cut = lend(TELL_LEAST, room)
+    agree(name, want, nth_conditions(data, k, cut), also)
+    answer = nth(data, k, {x: whole[x][: cut[x]] for x in TELL_LEAST})
+    return case(NTH, room, name, struct.pack("<I", k) + data), told_words(name, want, told, answer, TELL_LEAST, whole, cut)
+
+
+def shortest_row(want, name, data, told=None, room=NONE, also=()):
+    name = f"shortest path, {name}:"
+    whole, cut = lend(TELL_LEAST, room)
+    agree(name, want, shortest_conditions(data, cut), also)
+    answer = shortest_path(data, {x: whole[x][: cut[x]] for x in TELL_LEAST})
+    return case(SHORTEST, room, name, data), told_words(name, want, told, answer, TELL_LEAST, whole, cut)
+
+
+def like(n):
+    """So many like arcs from start to final."""
+    return sound(n=2, start=0, finals=((1, 0),), arcs=((0, 1, 2, 1, 5),) * n)
+
+
+# A ring on the only accepting path, and one that nothing accepts behind.
+RING, FREE_RING = one_state((1, 0, 7, 2)), one_state((1, 0, 7, 0))
+ASIDE = sound(n=3, start=0, finals=((0, 4),), arcs=((0, 1, 2, 1, 3), (1, 0, 4, 2, 0), (2, 0, 5, 1, 0)))
+LATTICE = bytes.fromhex(LAST_LATTICE)
+LONG = line(STATES)
+
+
+def count_rows():
+    c = count_row
+    for n, paths in ((98, 98), (99, 99), (100, 99)):
+        yield c(0, f"{n} like arcs", like(n), paths)
+    yield c(14, "a ring of weight 2", RING)
+    yield c(14, "a ring of weight 0", FREE_RING)
+    yield c(0, "an arc twice", like(2), 2)
+    yield c(0, "a ring on no accepting path", ASIDE, 1)
+    yield c(0, "a ring that is not reached", sound(n=3, start=0, finals=((1, 0),), arcs=((0, 1, 2, 1, 0), (2, 0, 4, 2, 0), (2, 0, 4, 1, 0))), 1)
+    yield c(14, "a ring of two states on an accepting path", sound(n=3, start=0, finals=((2, 0),), arcs=((0, 1, 2, 1, 0), (1, 0, 4, 0, 0), (1, 0, 4, 2, 0))))
+    yield c(0, "nothing accepts", SMALLEST, 0)
+    yield c(0, "the empty path", one_state(), 1)
+    yield c(0, "paper 01's last case", LATTICE, 1)
+    yield c(0, "a line of 1024 states", LONG, 1)
+    backwards = sound(n=STATES, start=STATES - 1, finals=((0, 1),), arcs=[(s, 1, 2, s - 1, s) for s in range(1, STATES)])
+    yield c(0, "a line of 1024 states numbered backwards", backwards, 1)
+    double = sound(n=8, start=0, finals=((7, 0),), arcs=[(s, 1, 1, s + 1, 1) for s in range(7) for _ in (0, 1)])
+    yield c(0, "128 paths", double, 99)
+    yield c(2, "0 bytes", b"")
+    yield c(8, "8", sound(arcs=((0, 1, 2, 1, 1000001),)))
+
+
+def nth_rows():
+    p = nth_row
+    yield p(0, "paper 01's last case", 0, LATTICE, (11, 3, 2))
+    yield p(15, "k at the count", 1, LATTICE)
+    yield p(0, "an arc twice, k 0", 0, like(2), (5, 1, 1))
+    yield p(0, "an arc twice, k 1", 1, like(2), (5, 1, 1))
+    yield p(15, "an arc twice, k 2", 2, like(2))
+    yield p(0, "98 like arcs, k 97", 97, like(98), (5, 1, 1))
+    yield p(15, "98 like arcs, k 98", 98, like(98))
+    yield p(0, "100 like arcs, k 98", 98, like(100), (5, 1, 1))
+    yield p(15, "100 like arcs, k 99", 99, like(100))
+    yield p(15, "k 4294967295", 4294967295, like(2))
+    yield p(14, "a ring", 0, RING)
+    yield p(0, "the empty path", 0, one_state(weight=9), (9, 0, 0))
+    yield p(0, "a path before its extensions", 1, sound(n=2, start=0, finals=((0, 3), (1, 4)), arcs=((0, 1, 0, 1, 5), (0, 2, 6, 1, 1))), (9, 1, 0))
+    yield p(0, "1023 arcs", 0, LONG, (0, 1023, 0))
+    yield p(15, "nothing accepts", 0, SMALLEST)
+    yield p(1, "1 before 10", 0, SMALLEST[:-1], room=ARCS_SHORT, also=[10])
+    yield p(10, "arcs one short", 0, LATTICE, room=ARCS_SHORT)
+    yield p(10, "labels one short", 0, LATTICE, room=LABELS_SHORT)
+    yield p(10, "10 before 14", 0, RING, room=LABELS_SHORT, also=[14])
+    yield p(10, "10 before 15", 9, LATTICE, room=ARCS_SHORT, also=[15])
+    yield p(0, "each buffer at its least length", 0, LATTICE, room=EXACT)
+
+
+def shortest_rows():
+    s = shortest_row
+    yield s(0, "paper 01's last case", LATTICE, (11, 3, 2))
+    yield s(0, "a ring of weight 2", RING, (0, 0, 0))
+    yield s(0, "a ring of weight 0", FREE_RING, (0, 0, 0))
+    yield s(0, "the final weight counts", sound(n=2, start=0, finals=((0, 9), (1, 3)), arcs=((0, 1, 2, 1, 5),)), (8, 1, 1))
+    yield s(0, "fewest arcs before path order", sound(n=3, start=0, finals=((2, 0),), arcs=((0, 1, 1, 1, 2), (0, 2, 2, 2, 5), (1, 3, 3, 2, 3))), (5, 1, 1))
+    yield s(0, "path order last", sound(n=3, start=0, finals=((2, 0),), arcs=((0, 1, 1, 2, 6), (0, 2, 2, 2, 5), (0, 3, 3, 2, 5), (1, 3, 3, 2, 3))), (5, 1, 1))
+    yield s(0, "least cost before fewest arcs", sound(n=3, start=0, finals=((2, 0),), arcs=((0, 1, 1, 2, 6), (0, 2, 2, 1, 2), (1, 3, 3, 2, 3))), (5, 2, 2))
+    yield s(0, "stopping early at the same cost", sound(n=2, start=0, finals=((0, 4), (1, 0)), arcs=((0, 1, 2, 1, 4),)), (4, 0, 0))
+    yield s(0, "a ring of weight 0 on the way", sound(n=3, start=0, finals=((2, 0),), arcs=((0, 0, 7, 1, 0), (1, 0, 7, 0, 0), (1, 0, 8, 2, 3))), (3, 2, 2))
+    dear = sound(n=STATES, start=0, finals=((STATES - 1, 1000000),), arcs=[(i, 1, 2, i + 1, 1000000) for i in range(STATES - 1)])
+    yield s(0, "1023 arcs of 1000000", dear, (1024000000, 1023, 1023))
+    yield s(16, "nothing accepts", SMALLEST)
+    yield s(16, "a final state that is not reached", sound(n=2, start=0, finals=((1, 0),), arcs=()))
+    yield s(16, "a ring on no accepting path", sound(n=3, start=0, finals=((2, 0),), arcs=loops(0, [(1, 1, 1, 0)]) + [(0, 1, 1, 1, 0)]))
+    yield s(4, "4 before 10", sound(n=1, start=0, finals=(), arcs=()) + b"\x0c\0\3\0" + bytes(12), room=ARCS_SHORT, also=[10])
+    yield s(10, "arcs one short", LATTICE, room=ARCS_SHORT)
+    yield s(10, "labels one short", LATTICE, room=LABELS_SHORT)
+    yield s(10, "10 before 16", SMALLEST, room=LABELS_SHORT, also=[16])
+    yield s(0, "each buffer at its least length", LATTICE, room=EXACT)

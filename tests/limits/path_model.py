@@ -1,0 +1,118 @@
+"""Paper 01 in plain Python, for the limit cases: the path count, the k-th path (reading k there) and the shortest one (the cheapest)."""
+import sys
+
+from lattice_model import behind, closure, short, trimmed
+from model import byte_conditions, decode, split
+
+CELLS = 1023
+
+sys.setrecursionlimit(5000)  # paths_from goes as deep as a path is long
+
+# The buffers of a path that is told, by their number: the least length.
+TELL_LEAST = {15: CELLS, 16: CELLS}
+
+
+def endless(t):
+    """Infinitely many accepting paths: what lies on accepting paths has a ring, so that states that lead to no other cannot be taken away
+    until none is left."""
+    kept, _ = trimmed(t)
+    left, arcs = set(range(kept.n)), [(x.source, x.target) for x in kept.arcs]
+    while left:
+        arcs = [(x, y) for x, y in arcs if x in left and y in left]
+        fewer = {x for x, _ in arcs}
+        if fewer == left:
+            return True
+        left = fewer
+    return False
+
+
+def paths_from(finals, arcs, state, most):
+    """The accepting paths from a state in path order, as far as the first `most`. Paths are not infinitely many."""
+    found = [[]] if state in finals else []
+    for i, target in arcs.get(state, ()):
+        if len(found) < most:
+            found += [[i] + rest for rest in paths_from(finals, arcs, target, most - len(found))]
+    return found[:most]
+
+
+def paths(t, most):
+    kept, numbers = trimmed(t)
+    arcs = {}
+    for i, a in enumerate(kept.arcs):
+        arcs.setdefault(a.source, []).append((numbers[i], a.target))
+    return paths_from({x.state for x in kept.finals}, arcs, kept.start, most)
+
+
+def count_conditions(data):
+    held = sorted(byte_conditions(data))
+    if not held and endless(decode(split(data)[0])):
+        held.append(14)
+    return held
+
+
+def count(data):
+    """The refusal and the count."""
+    held = count_conditions(data)
+    return (held[0], 0) if held else (0, len(paths(decode(split(data)[0]), 99)))
+
+
+def cost(t, path):
+    end = t.arcs[path[-1]].target if path else t.start
+    return sum(t.arcs[i].weight for i in path) + dict(t.finals)[end]
+
+
+def told(t, path, buffers):
+    labels = [t.arcs[i].output for i in path if t.arcs[i].output]
+    return (cost(t, path), len(path), len(labels)), behind(buffers, {15: list(path), 16: labels})
+
+
+def nth_conditions(data, k, lengths):
+    held = sorted(byte_conditions(data)) + short(lengths, TELL_LEAST)
+    if not byte_conditions(data):
+        t = decode(split(data)[0])
+        if endless(t):
+            held.append(14)
+        elif k >= len(paths(t, 99)):
+            held.append(15)
+    return held
+
+
+def nth(data, k, buffers):
+    """The refusal, the three numbers and the buffers after the k-th path."""
+    held = nth_conditions(data, k, {x: len(cells) for x, cells in buffers.items()})
+    if held:
+        return held[0], (0, 0, 0), buffers
+    t = decode(split(data)[0])
+    return 0, *told(t, paths(t, 99)[k], buffers)
+
+
+def shortest(t):
+    """The accepting path of least cost, then fewest arcs, then first in path order; None where nothing accepts. From each state the best
+    one known, until no arc makes a better one."""
+    best = {s: (w, 0, []) for s, w in t.finals}
+    changed = True
+    while changed:
+        changed = False
+        for i, a in reversed(list(enumerate(t.arcs))):
+            if a.target in best:
+                c, n, path = best[a.target]
+                other = (c + a.weight, n + 1, [i] + path)
+                if a.source not in best or other < best[a.source]:
+                    best[a.source], changed = other, True
+    return best[t.start][2] if t.start in best else None
+
+
+def shortest_conditions(data, lengths):
+    held = sorted(byte_conditions(data)) + short(lengths, TELL_LEAST)
+    if not byte_conditions(data) and shortest(decode(split(data)[0])) is None:
+        held.append(16)
+    return held
+
+
+def shortest_path(data, buffers):
+    """The refusal, the three numbers and the buffers after the shortest path."""
+    held = shortest_conditions(data, {x: len(cells) for x, cells in buffers.items()})
+    if held:
+        return held[0], (0, 0, 0), buffers
+    t = decode(split(data)[0])
+    return 0, *told(t, shortest(t), buffers)

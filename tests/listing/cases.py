@@ -1,0 +1,145 @@
+"""The program `list` on paper 01's cases: it is run in folders made here, and its bytes are held to a text that the plain Python of
+tests/limits computes. Each case has the first line written out by hand.
+
+    python3 -B tests/listing/cases.py [PROGRAM]     (target/bin/list unless named)
+"""
+import struct
+import subprocess
+import sys
+import tempfile
+from pathlib import Path
+
+ROOT = Path(__file__).resolve().parents[2]
+sys.path.insert(0, str(ROOT / "tests/limits"))
+
+from compose_cases import LAST_LEFT, LAST_RIGHT, REST, line, one_state
+from lattice_model import applied, string_wrong, trimmed
+from model import WEIGHT, built_conditions, byte_conditions, composed, encode
+from path_model import cost, endless, paths
+from rows import sound
+
+MOST_READ = 65536
+
+
+def labels(*codes):
+    return struct.pack(f"<{len(codes)}H", *codes)
+
+
+def refusal(left, right, code):
+    """The composition's refusal, then the string's, then that of applying it; 0 where none holds."""
+    for data in (left, right):
+        if byte_conditions(data):
+            return min(byte_conditions(data))
+    joined = composed(left, right)[0]
+    if built_conditions(joined):
+        return min(built_conditions(joined))
+    string = struct.unpack(f"<{len(code) // 2}H", code[: len(code) // 2 * 2])
+    if len(code) % 2 or string_wrong(string):
+        return 9
+    return min(built_conditions(applied(string, encode(joined))[0]), default=0)
+
+
+def listing(left, right, code):
+    """The text for the bytes of three files."""
+    left, right, code = left[:MOST_READ], right[:MOST_READ], code[:MOST_READ]
+    number = refusal(left, right, code)
+    if number:
+        return f"refused {number}\n"
+    string = struct.unpack(f"<{len(code) // 2}H", code)
+    lattice = trimmed(applied(string, encode(composed(left, right)[0]))[0])[0]
+    if endless(lattice):
+        return "readings endless\n"
+    found = paths(lattice, 99)
+    if len(found) == 99:
+        return "readings 99+\n"
+    lines = [f"readings {len(found)}"]
+    for k, path in enumerate(found):
+        outputs = [lattice.arcs[i].output for i in path if lattice.arcs[i].output]
+        lines.append(" ".join(map(str, [k, cost(lattice, path), *outputs])))
+    return "\n".join(lines) + "\n"
+
+
+def like_arcs(count, weight=5):
+    """Arcs 1:2 from a start to a final state."""
+    return sound(n=2, start=0, finals=((1, 0),), arcs=[(0, 1, 2, 1, weight)] * count)
+
+
+def ladder(n):
+    """A line of n states, the last one final, that hands 2 on in each and writes 7 from each to the next."""
+    arcs = [x for s in range(n) for x in ((s, 2, 2, s, 0), (s, 0, 7, s + 1, 0))][:-1]
+    return sound(n=n, start=0, finals=((n - 1, 0),), arcs=arcs)
+
+
+TURN = one_state((1, 1, 2, 0))  # turns 1 into 2
+COPY = one_state((1, 2, 2, 0))  # hands 2 on
+ONE = labels(1)
+EMPTY_RECORDS = bytes(MOST_READ)  # of kind 0, 4 bytes each
+UP_TO_A_RECORD = (COPY + b"\2\0\0\0\0\0" + EMPTY_RECORDS)[:MOST_READ]
+
+
+def cases():
+    """What is tried, the first line, and the files; None is a file that is missing."""
+    yield "paper 01's last case", "readings 1", LAST_LEFT, LAST_RIGHT, labels(1, 3)
+    yield "no reading", "readings 0", LAST_LEFT, LAST_RIGHT, labels(1)
+    yield "two like readings", "readings 2", like_arcs(2), COPY, ONE
+    yield "98 readings", "readings 98", like_arcs(98), COPY, ONE
+    yield "99 readings", "readings 99+", like_arcs(99), COPY, ONE
+    yield "100 readings", "readings 99+", like_arcs(100), COPY, ONE
+    yield "the largest weights", "readings 1", like_arcs(1, WEIGHT), COPY, ONE
+    yield "an empty code", "readings 1", COPY, COPY, b""
+    yield "a missing code", "readings 1", COPY, COPY, None
+    yield "an empty code where a symbol is wanted", "readings 0", like_arcs(1), COPY, b""
+    yield "a loop that reads nothing", "readings endless", COPY, REST, b""
+    yield "64 labels", "readings 1", TURN, COPY, ONE * 64
+    yield "968 pairs in the lattice", "readings 99+", TURN, ladder(8), ONE * 64
+    yield "the largest labels", "readings 1", one_state((1, 65534, 65534, 0)), one_state((1, 65534, 65534, 0)), labels(65534)
+    # Refusals: the left table, the right one, the composition, the string.
+    yield "left missing", "refused 2", None, COPY, ONE
+    yield "right missing", "refused 2", COPY, None, ONE
+    yield "all missing", "refused 2", None, None, None
+    yield "3 bytes", "refused 1", COPY[:3], COPY, ONE
+    yield "left before right", "refused 8", like_arcs(1, WEIGHT + 1), COPY[:3], ONE
+    yield "right before the code", "refused 1", COPY, COPY[:3], ONE[:1]
+    yield "513 states in a line", "refused 11", line(513), REST, ONE
+    yield "11 before the code", "refused 11", line(513), REST, ONE[:1]
+    yield "56 loops against 55", "refused 12", one_state((56, 1, 2, 0)), one_state((55, 2, 3, 0)), ONE
+    yield "13 before the code", "refused 13", like_arcs(1, 600000), one_state((1, 2, 2, 400001)), labels(0)
+    yield "an odd last byte", "refused 9", COPY, COPY, ONE + b"\1"
+    yield "one byte", "refused 9", COPY, COPY, b"\1"
+    yield "65 labels", "refused 9", TURN, COPY, ONE * 65
+    yield "label 0", "refused 9", COPY, COPY, labels(1, 0)
+    yield "label 65,535", "refused 9", COPY, COPY, labels(65535)
+    yield "1,097 pairs in the lattice", "refused 11", TURN, ladder(9), ONE * 64
+    # Only the first 65,536 bytes of a file count.
+    yield "a table cut within a record, which is whole behind it", "refused 1", COPY + EMPTY_RECORDS, COPY, ONE
+    yield "a table cut between records, with a byte behind it", "refused 2", UP_TO_A_RECORD + b"\0", COPY, ONE
+    yield "a right table of too many bytes", "refused 1", COPY, COPY + EMPTY_RECORDS, ONE
+    yield "a code of 65,537 bytes", "refused 9", COPY, COPY, ONE * (MOST_READ // 2) + b"\0"
+
+
+def run(program, files):
+    with tempfile.TemporaryDirectory() as folder:
+        for name, data in zip(("left.tab", "right.tab", "code.lab"), files):
+            if data is not None:
+                Path(folder, name).write_bytes(data)
+        return subprocess.run([program], cwd=folder, stdout=subprocess.PIPE, check=True, timeout=60).stdout
+
+
+def main():
+    program = Path(sys.argv[1] if len(sys.argv) > 1 else ROOT / "target/bin/list").resolve()
+    wrong = total = 0
+    for name, first, *files in cases():
+        want = listing(*(data or b"" for data in files))
+        if want.split("\n")[0] != first:
+            sys.exit(f"{name}: the case says {first}, the model {want!r}")
+        got = run(program, files)
+        total += 1
+        if got != want.encode():
+            print(f"{name}: expected {want.encode()[:80]}, printed {got[:80]}")
+            wrong += 1
+    if wrong:
+        sys.exit(1)
+    print(f"{total} listings as expected")
+
+
+main()

@@ -1,0 +1,828 @@
+// Generators of tables, damaged tables, strings and pairs.
+#![allow(dead_code)]
+
+use crate::rng::Rng;
+
+/// A table before it is written out. Records are kept apart from the head so
+/// that both can be damaged.
+#[derive(Clone, Debug)]
+pub struct Draft {
+    pub head: [u16; 4],
+    pub finals: Vec<(u16, u32)>,
+    pub arcs: Vec<([u16; 4], u32)>,
+}
+
+/// Length field, kind, body.
+pub type Record = (u16, u16, Vec<u8>);
+
+pub struct Case {
+    pub name: String,
+    pub left: Vec<u8>,
+    pub right: Vec<u8>,
+    pub code: Vec<u16>,
+    /// The refusal of the left table, where the generator knows it.
+    pub left_refusal: Option<u32>,
+    /// What composing the pair answers, where the generator knows it.
+    pub join_refusal: Option<u32>,
+}
+
+impl Draft {
+    /// Arcs are given as (source, input, output, target, weight), any order.
+    pub fn new(n: usize, start: usize, finals: &[(usize, u32)], arcs: &[Given]) -> Draft {
+        let mut arcs: Vec<_> = arcs
+            .iter()
+            .map(|a| ([a.0 as u16, a.1, a.2, a.3 as u16], a.4))
+            .collect();
+        arcs.sort_by_key(|a| a.0[0]);
+        let mut finals: Vec<_> = finals.iter().map(|x| (x.0 as u16, x.1)).collect();
+        finals.sort();
+        finals.dedup_by_key(|x| x.0);
+        let head = [n as u16, arcs.len() as u16, finals.len() as u16, start as u16];
+        Draft { head, finals, arcs }
+    }
+
+    pub fn records(&self) -> Vec<Record> {
+        let two = |xs: &[u16]| xs.iter().flat_map(|x| x.to_le_bytes()).collect::<Vec<u8>>();
+        let mut out = vec![(8, 1, two(&self.head))];
+        for (state, weight) in &self.finals {
+            out.push((6, 2, [two(&[*state]), weight.to_le_bytes().to_vec()].concat()));
+        }
+        for (fields, weight) in &self.arcs {
+            out.push((12, 3, [two(fields), weight.to_le_bytes().to_vec()].concat()));
+        }
+        out
+    }
+
+    pub fn bytes(&self) -> Vec<u8> {
+        join_records(&self.records())
+    }
+}
+
+pub type Given = (usize, u16, u16, usize, u32);
+
+pub fn join_records(records: &[Record]) -> Vec<u8> {
+    let mut out = Vec::new();
+    for (length, kind, body) in records {
+        out.extend(length.to_le_bytes());
+        out.extend(kind.to_le_bytes());
+        out.extend(body);
+    }
+    out
+}
+
+// -------------------------------------------------------- small tables
+
+fn weight(rng: &mut Rng) -> u32 {
+    match rng.below(40) {
+        0 => 1_000_000,
+        1 => 999_999,
+        2 => 500_000,
+        3 => 500_001,
+        4..=20 => rng.below(3) as u32,
+        _ => rng.below(8) as u32,
+    }
+}
+
+fn label(rng: &mut Rng, labels: usize, empty: usize) -> u16 {
+    match rng.below(100) {
+        x if x < empty => 0,
+        99 => rng.pick(&[255, 256, 65_533, 65_534]),
+        _ => 1 + rng.below(labels) as u16,
+    }
+}
+
+/// A random table of 1 to `most` states with many epsilons and few labels.
+pub fn small(rng: &mut Rng, most: usize, max_arcs: usize) -> Draft {
+    let n = rng.range(1, most);
+    let start = if rng.chance(2, 3) { 0 } else { rng.below(n) };
+    let labels = rng.range(1, 3);
+    let empty = rng.pick(&[10, 30, 50, 80]);
+    // Going up only makes a table without rings.
+    let upward = rng.chance(3, 5);
+    let plain = rng.chance(1, 3);
+    let mut arcs: Vec<Given> = Vec::new();
+    for _ in 0..rng.below(max_arcs + 1) {
+        if !arcs.is_empty() && rng.chance(1, 8) {
+            let like = rng.pick(&arcs);
+            arcs.push(like);
+            continue;
+        }
+        let (mut s, mut t) = (rng.below(n), rng.below(n));
+        if upward {
+            if n == 1 {
+                break;
+            }
+            if s == t {
+                t = (s + 1) % n;
+            }
+            if s > t {
+                std::mem::swap(&mut s, &mut t);
+            }
+        }
+        let w = if plain { 0 } else { weight(rng) };
+        arcs.push((s, label(rng, labels, empty), label(rng, labels, empty), t, w));
+    }
+    let some = rng.pick(&[1, 2, 2, 3, 6]);
+    let finals: Vec<_> = (0..n).filter(|_| rng.chance(1, some)).collect();
+    let finals: Vec<_> = finals.into_iter().map(|s| (s, weight(rng))).collect();
+    Draft::new(n, start, &finals, &arcs)
+}
+
+/// A ring of states with a few arcs beside it; it may lie off every
+/// accepting path.
+pub fn ring(rng: &mut Rng) -> Draft {
+    let n = rng.range(1, 6);
+    let size = rng.range(1, n);
+    let from = rng.below(n - size + 1);
+    let empty = rng.pick(&[30, 100]);
+    let mut arcs: Vec<Given> = Vec::new();
+    for i in 0..size {
+        let to = from + (i + 1) % size;
+        let w = rng.below(3) as u32;
+        arcs.push((from + i, label(rng, 2, empty), label(rng, 2, 50), to, w));
+    }
+    for _ in 0..rng.below(5) {
+        let w = weight(rng);
+        arcs.push((rng.below(n), label(rng, 2, 30), label(rng, 2, 30), rng.below(n), w));
+    }
+    // Arcs of one source come in any order.
+    for i in (1..arcs.len()).rev() {
+        let j = rng.below(i + 1);
+        arcs.swap(i, j);
+    }
+    let mut finals = Vec::new();
+    for s in 0..n {
+        if rng.chance(1, 3) {
+            finals.push((s, weight(rng)));
+        }
+    }
+    Draft::new(n, rng.below(n), &finals, &arcs)
+}
+
+/// A line that copies a string, with corrections beside it.
+fn corrections(rng: &mut Rng) -> (Draft, Draft, Vec<u16>) {
+    let length = rng.range(1, 5);
+    let code: Vec<u16> = (0..length).map(|_| rng.range(1, 3) as u16).collect();
+    let mut left: Vec<Given> = Vec::new();
+    for s in 0..2 {
+        for x in 1..=3 {
+            left.push((s, x, x, s, 0));
+        }
+        if s == 0 {
+            left.push((0, rng.range(1, 3) as u16, rng.range(0, 3) as u16, 1, 2));
+            left.push((0, 0, rng.range(1, 3) as u16, 1, 3));
+        }
+    }
+    let mut right: Vec<Given> = Vec::new();
+    let n = length + 2;
+    for s in 0..n - 1 {
+        for _ in 0..rng.range(1, 2) {
+            let x = if s < length { code[s] } else { rng.range(0, 3) as u16 };
+            right.push((s, x, rng.range(0, 4) as u16, s + 1, rng.below(3) as u32));
+        }
+    }
+    let left = Draft::new(2, 0, &[(0, 0), (1, 1)], &left);
+    let right = Draft::new(n, 0, &[(length, 0), (n - 1, 1)], &right);
+    (left, right, code)
+}
+
+/// A pair with at least one reading: a random path of the left table is
+/// made accepting, and the right table gets a path that reads its output.
+fn matched(rng: &mut Rng) -> (Draft, Draft, Vec<u16>) {
+    let most = rng.range(2, 5);
+    let mut left = small(rng, most, 9);
+    let (mut code, mut middle) = (Vec::new(), Vec::new());
+    let mut state = left.head[3];
+    for _ in 0..rng.below(7) {
+        let next: Vec<_> = left.arcs.iter().filter(|a| a.0[0] == state).collect();
+        if next.is_empty() {
+            break;
+        }
+        let fields = next[rng.below(next.len())].0;
+        code.extend(Some(fields[1]).filter(|&x| x != 0));
+        middle.extend(Some(fields[2]).filter(|&x| x != 0));
+        state = fields[3];
+    }
+    left.finals.retain(|x| x.0 != state);
+    left.finals.push((state, rng.below(4) as u32));
+    left.finals.sort();
+    left.head[2] = left.finals.len() as u16;
+
+    let mut arcs: Vec<Given> = Vec::new();
+    let n = rng.range(1, 5);
+    let mut state = rng.below(n);
+    let start = state;
+    let last = middle.len();
+    for i in 0..=last {
+        if rng.chance(1, 3) {
+            let to = if rng.chance(3, 4) { (state + 1) % n } else { rng.below(n) };
+            arcs.push((state, 0, label(rng, 3, 30), to, rng.below(3) as u32));
+            state = to;
+        }
+        if i < last {
+            let to = if rng.chance(3, 4) { (state + 1) % n } else { rng.below(n) };
+            for _ in 0..rng.pick(&[1, 1, 1, 2, 3]) {
+                arcs.push((state, middle[i], label(rng, 3, 30), to, rng.below(3) as u32));
+            }
+            state = to;
+        }
+    }
+    let mut finals = vec![(state, rng.below(3) as u32)];
+    if rng.chance(1, 3) {
+        finals.push((rng.below(n), 1));
+    }
+    (left, Draft::new(n, start, &finals, &arcs), code)
+}
+
+// ------------------------------------------------------ special tables
+
+pub fn line(n: usize, input: u16, output: u16, w: u32) -> Draft {
+    let arcs: Vec<Given> = (1..n).map(|s| (s - 1, input, output, s, w)).collect();
+    Draft::new(n, 0, &[(n - 1, 0)], &arcs)
+}
+
+/// The same line with its states numbered from the end.
+pub fn line_down(n: usize, input: u16, output: u16, w: u32) -> Draft {
+    let arcs: Vec<Given> = (1..n).map(|s| (s, input, output, s - 1, w)).collect();
+    Draft::new(n, n - 1, &[(0, 1)], &arcs)
+}
+
+pub fn loops(count: usize, input: u16, output: u16, w: u32) -> Draft {
+    let arcs = vec![(0, input, output, 0, w); count];
+    Draft::new(1, 0, &[(0, 0)], &arcs)
+}
+
+pub fn like_arcs(count: usize, input: u16, output: u16, w: u32) -> Draft {
+    let arcs = vec![(0, input, output, 1, w); count];
+    Draft::new(2, 0, &[(1, 0)], &arcs)
+}
+
+pub fn one_arc(input: u16, output: u16, w: u32, last: u32) -> Draft {
+    Draft::new(2, 0, &[(1, last)], &[(0, input, output, 1, w)])
+}
+
+/// Bundles of like arcs one after the other: counts multiply.
+pub fn bundles(sizes: &[usize], input: u16, output: u16) -> Draft {
+    let mut arcs: Vec<Given> = Vec::new();
+    for (s, &size) in sizes.iter().enumerate() {
+        for i in 0..size {
+            arcs.push((s, input, output, s + 1, i as u32 % 3));
+        }
+    }
+    Draft::new(sizes.len() + 1, 0, &[(sizes.len(), 7)], &arcs)
+}
+
+/// A large random table of n states and m arcs.
+pub fn large(rng: &mut Rng, n: usize, m: usize, labels: usize, empty: usize) -> Draft {
+    let upward = rng.chance(1, 2) && n > 1;
+    let mut arcs: Vec<Given> = Vec::new();
+    for i in 0..m {
+        // A line through all states first, so that they are reached.
+        let (s, t) = if i + 1 < n {
+            (i, i + 1)
+        } else if upward {
+            let s = rng.below(n - 1);
+            (s, s + 1 + rng.below(n - 1 - s))
+        } else {
+            (rng.below(n), rng.below(n))
+        };
+        let w = rng.below(4) as u32;
+        arcs.push((s, label(rng, labels, empty), label(rng, labels, empty), t, w));
+    }
+    let mut finals = vec![(n - 1, 3)];
+    for _ in 0..rng.below(4) {
+        finals.push((rng.below(n), rng.below(9) as u32));
+    }
+    Draft::new(n, 0, &finals, &arcs)
+}
+
+/// A table whose lattice for the code 1 has the wanted number of states:
+/// an epsilon line of `n`, then one arc back into it.
+fn reaching(n: usize, lattice_states: usize) -> Draft {
+    let mut arcs: Vec<Given> = (1..n).map(|s| (s - 1, 0, 4, s, 0)).collect();
+    arcs.push((n - 1, 1, 5, n - (lattice_states - n), 0));
+    Draft::new(n, 0, &[(n - 1, 0)], &arcs)
+}
+
+// ------------------------------------------------------------- damage
+
+/// Damages a table so that it meets the refusal aimed at. The draft needs
+/// at least two finals and two arcs from different states.
+pub fn damage(rng: &mut Rng, d: &mut Draft, aim: u32) {
+    let n = d.head[0];
+    let f = rng.below(d.finals.len());
+    let a = rng.below(d.arcs.len());
+    match aim {
+        3 => match rng.below(5) {
+            0 => d.head[0] = 0,
+            1 => d.head[0] = rng.pick(&[1_025, 1_026, 65_535]),
+            2 => d.head[1] = rng.pick(&[3_073, 65_535]),
+            3 => d.head[2] = rng.pick(&[n.wrapping_add(1), 65_535]),
+            _ => d.head[3] = rng.pick(&[n, n.wrapping_add(1), 65_535]),
+        },
+        4 => match rng.below(6) {
+            0 => d.head[1] = d.head[1].wrapping_add(1),
+            1 => d.head[1] = d.head[1].wrapping_sub(1),
+            2 => d.head[2] = d.head[2].wrapping_sub(1),
+            3 => {
+                d.finals.remove(f);
+            }
+            4 => {
+                d.arcs.remove(a);
+            }
+            _ => {
+                let like = d.arcs[a];
+                d.arcs.insert(a, like);
+            }
+        },
+        5 => {
+            let bad = rng.pick(&[n, n, n.wrapping_add(1), 1_024, 65_535]).max(n);
+            match rng.below(3) {
+                0 => d.finals[f].0 = bad,
+                1 => d.arcs[a].0[0] = bad,
+                _ => d.arcs[a].0[3] = bad,
+            }
+        }
+        6 => match rng.below(3) {
+            0 => d.finals[1].0 = d.finals[0].0,
+            1 => {
+                let last = d.finals.len() - 1;
+                d.finals.swap(0, last);
+            }
+            _ => {
+                let last = d.arcs.len() - 1;
+                d.arcs.swap(0, last);
+            }
+        },
+        7 => d.arcs[a].0[rng.range(1, 2)] = 65_535,
+        8 => {
+            let bad = rng.pick(&[1_000_001, 1_000_001, 0x0100_0000, u32::MAX]);
+            if rng.chance(1, 2) {
+                d.finals[f].1 = bad;
+            } else {
+                d.arcs[a].1 = bad;
+            }
+        }
+        _ => {}
+    }
+}
+
+/// Damages of the records themselves: refusals 1 and 2.
+pub fn damage_records(rng: &mut Rng, records: &mut Vec<Record>, aim: u32) {
+    let at = rng.below(records.len());
+    let last = records.len() - 1;
+    match (aim, rng.below(10)) {
+        (1, _) if records[last].2.is_empty() => records[last].0 = 1,
+        (1, 0..=4) => {
+            let rest = rng.below(records[last].2.len().max(1));
+            records[last].2.truncate(rest);
+        }
+        (1, 5..=7) => records[last].0 = records[last].0.saturating_add(rng.range(1, 300) as u16),
+        (1, _) => records[last].0 = 65_535,
+        (2, 0) => records[at].1 = rng.pick(&[0, 4, 256, 257, 512, 65_535]),
+        (2, 1) => {
+            // A body longer than its kind has, told rightly.
+            let more = rng.range(1, 4);
+            records[at].2.extend(vec![0; more]);
+            records[at].0 += more as u16;
+        }
+        (2, 2) => {
+            let rest = rng.below(records[at].2.len().max(1));
+            records[at].2.truncate(rest);
+            records[at].0 = rest as u16;
+        }
+        (2, 3) => {
+            // An arc before a final.
+            let arc = records.remove(last);
+            records.insert(1, arc);
+        }
+        (2, 4) => {
+            let head = records[0].clone();
+            records.insert(rng.range(1, last + 1), head);
+        }
+        (2, 5) => {
+            records.remove(0);
+        }
+        (2, 6) => records.clear(),
+        (2, 7) => {
+            let final_state = records[1].clone();
+            records.push(final_state);
+        }
+        (2, 8) => records.swap(0, last),
+        (2, _) => records.push((0, 0, vec![])),
+        _ => {}
+    }
+}
+
+/// Bytes damaged without an aim.
+pub fn damage_bytes(rng: &mut Rng, bytes: &mut Vec<u8>) {
+    match rng.below(6) {
+        0 if !bytes.is_empty() => {
+            let at = rng.below(bytes.len());
+            bytes[at] ^= 1 << rng.below(8);
+        }
+        1 if !bytes.is_empty() => {
+            let at = rng.below(bytes.len());
+            bytes[at] = rng.pick(&[0, 1, 2, 3, 6, 8, 12, 255]);
+        }
+        2 => bytes.truncate(rng.below(bytes.len() + 1)),
+        3 => {
+            for _ in 0..rng.range(1, 4) {
+                bytes.push(rng.next() as u8);
+            }
+        }
+        4 => bytes.extend(vec![0; rng.range(1, 4)]),
+        _ if bytes.len() >= 2 => {
+            let (a, b) = (rng.below(bytes.len()), rng.below(bytes.len()));
+            bytes.swap(a, b);
+        }
+        _ => bytes.clear(),
+    }
+}
+
+/// A small table with at least two finals and two arcs of different sources.
+fn damageable(rng: &mut Rng) -> Draft {
+    loop {
+        let d = small(rng, 6, 10);
+        let apart = d.arcs.len() > 1 && d.arcs[0].0[0] != d.arcs[d.arcs.len() - 1].0[0];
+        if d.finals.len() > 1 && apart {
+            return d;
+        }
+    }
+}
+
+/// A table damaged twice, or once where a is b. Later refusals are aimed at
+/// first, so that the earlier damage is not undone; the least one is left.
+fn damaged_twice(rng: &mut Rng, a: u32, b: u32) -> (Vec<u8>, u32) {
+    let mut d = damageable(rng);
+    let aims = if a == b { vec![a] } else { vec![a.max(b), a.min(b)] };
+    for &aim in &aims {
+        damage(rng, &mut d, aim);
+    }
+    let mut records = d.records();
+    for &aim in &aims {
+        if !records.is_empty() {
+            damage_records(rng, &mut records, aim);
+        }
+    }
+    let least = if records.is_empty() { 2 } else { a.min(b) };
+    (join_records(&records), least)
+}
+
+/// A damaged table; its refusal where one damage alone was done.
+pub fn damaged(rng: &mut Rng) -> (Vec<u8>, Option<u32>) {
+    let mut d = damageable(rng);
+    let how_many = rng.pick(&[1, 1, 2, 2, 3]);
+    let mut aims: Vec<u32> = (0..how_many).map(|_| rng.range(1, 8) as u32).collect();
+    let one = how_many == 1;
+    let blind = rng.chance(1, 4);
+    for &aim in &aims {
+        if aim >= 3 && !d.finals.is_empty() && !d.arcs.is_empty() {
+            // Two damages may have taken records away.
+            if d.finals.len() > 1 || aim != 6 {
+                damage(rng, &mut d, aim);
+            }
+        }
+    }
+    let mut records = d.records();
+    aims.sort_by(|a, b| b.cmp(a));
+    for &aim in &aims {
+        if aim < 3 && records.len() > 2 {
+            damage_records(rng, &mut records, aim);
+        }
+    }
+    let mut bytes = join_records(&records);
+    if blind {
+        damage_bytes(rng, &mut bytes);
+    }
+    let known = if one && !blind { Some(aims[0]) } else { None };
+    (bytes, known)
+}
+
+// -------------------------------------------------------------- strings
+
+/// The input labels along a random path: a string with good chances.
+fn along(rng: &mut Rng, d: &Draft) -> Vec<u16> {
+    let mut state = d.head[3];
+    let mut out = Vec::new();
+    for _ in 0..rng.below(9) {
+        let next: Vec<_> = d.arcs.iter().filter(|a| a.0[0] == state).collect();
+        if next.is_empty() || out.len() == 64 {
+            break;
+        }
+        let a = next[rng.below(next.len())];
+        if a.0[1] != 0 {
+            out.push(a.0[1]);
+        }
+        state = a.0[3];
+    }
+    out
+}
+
+pub fn string(rng: &mut Rng, d: &Draft) -> Vec<u16> {
+    match rng.below(40) {
+        0 => vec![1; 64],
+        1 => vec![1; 65],
+        2 => vec![rng.range(1, 2) as u16; rng.range(60, 70)],
+        3 => {
+            let mut x = along(rng, d);
+            x.insert(rng.below(x.len() + 1), 0);
+            x
+        }
+        4 => {
+            let mut x = along(rng, d);
+            x.insert(rng.below(x.len() + 1), 65_535);
+            x
+        }
+        5 => vec![65_534; rng.range(1, 3)],
+        6..=9 => vec![],
+        10..=14 => (0..rng.below(5)).map(|_| rng.range(1, 3) as u16).collect(),
+        _ => along(rng, d),
+    }
+}
+
+// ---------------------------------------------------------------- cases
+
+fn given(name: &str, left: Draft, right: Draft, code: &[u16], join: Option<u32>) -> Case {
+    Case {
+        name: name.to_string(),
+        left: left.bytes(),
+        right: right.bytes(),
+        code: code.to_vec(),
+        left_refusal: Some(0),
+        join_refusal: join,
+    }
+}
+
+fn raw(name: &str, left: Vec<u8>, refusal: u32) -> Case {
+    let right = one_arc(1, 2, 0, 0).bytes();
+    Case {
+        name: name.to_string(),
+        left,
+        right,
+        code: vec![1],
+        left_refusal: Some(refusal),
+        join_refusal: Some(refusal),
+    }
+}
+
+/// The worked pair of the paper.
+pub fn worked() -> (Draft, Draft) {
+    let left = Draft::new(3, 0, &[(2, 0)], &[(0, 1, 2, 1, 3), (1, 3, 0, 2, 1)]);
+    let right = Draft::new(3, 0, &[(2, 1)], &[(0, 2, 4, 1, 2), (1, 0, 5, 2, 4)]);
+    (left, right)
+}
+
+/// The cases of the paper and others on either side of a limit.
+pub fn fixed() -> Vec<Case> {
+    let ok = Some(0);
+    let copy = || loops(1, 2, 2, 0);
+    let mut out = vec![
+        raw("no bytes", vec![], 2),
+        raw("three bytes", vec![8, 0, 1], 1),
+        raw("weight 1,000,000", one_arc(1, 2, 1_000_000, 0).bytes(), 0),
+        raw("weight 1,000,001", one_arc(1, 2, 1_000_001, 0).bytes(), 8),
+        raw("final weight 1,000,001", one_arc(1, 2, 0, 1_000_001).bytes(), 8),
+        raw("label 65,534", one_arc(65_534, 2, 0, 0).bytes(), 0),
+        raw("label 65,535", one_arc(1, 65_535, 0, 0).bytes(), 7),
+    ];
+    let mut rng = Rng::new(1, 1);
+    for a in 1..=8 {
+        for b in a..=8 {
+            let (bytes, least) = damaged_twice(&mut rng, a, b);
+            out.push(raw(&format!("damages {a} and {b}"), bytes, least));
+        }
+    }
+    let (l, r) = worked();
+    let first = l.records();
+    let with = |more: &[Record]| join_records(&[&first[..], more].concat());
+    out.push(raw("second head behind", with(&first[..1]), 2));
+    out.push(raw("second head in front", [join_records(&first[..1]), l.bytes()].concat(), 2));
+    out.push(raw("final behind arcs", with(&r.records()[1..2]), 2));
+    out.push(raw("last arc missing", join_records(&first[..3]), 4));
+    out.push(raw("kind 4", with(&[(0, 4, vec![])]), 2));
+    out.push(raw("kind 4, then a cut head", [with(&[(0, 4, vec![])]), vec![8]].concat(), 1));
+    out.push(raw("four zero bytes behind", with(&[(0, 0, vec![])]), 2));
+    let heavy = |w, v| (one_arc(1, 2, 600_000, w), one_arc(2, 3, v, 600_000));
+    for (w, v, answer) in [
+        (400_000, 400_000, 0),
+        (400_000, 400_001, 13),
+        (400_001, 400_000, 13),
+        (400_001, 400_001, 13),
+    ] {
+        let (l, r) = heavy(w, v);
+        out.push(given("sums at the weight limit", l, r, &[1], Some(answer)));
+    }
+    for n in [97, 98, 99, 100, 101] {
+        out.push(given("like arcs", like_arcs(n, 1, 2, 5), copy(), &[1], ok));
+    }
+    for sizes in [[7, 14, 1], [9, 11, 1], [3, 3, 11], [10, 10, 1], [97, 1, 1]] {
+        out.push(given("bundles", bundles(&sizes, 1, 2), copy(), &[1, 1, 1], ok));
+    }
+    for (n, answer) in [(511, 0), (512, 0), (513, 11)] {
+        out.push(given("line against 0:7", line(n, 1, 0, 0), loops(1, 0, 7, 0), &[1; 64], Some(answer)));
+    }
+    // An epsilon ring on the right gives one triple more than its states.
+    for (n, answer) in [(1_023, 0), (1_024, 11)] {
+        let ring: Vec<Given> = (0..n).map(|s| (s, 0, 7, (s + 1) % n, 0)).collect();
+        let right = Draft::new(n, 0, &[(n - 1, 0)], &ring);
+        out.push(given("epsilon ring on the right", loops(1, 1, 2, 0), right, &[], Some(answer)));
+    }
+    for (l, r, answer) in [(48, 64, 0), (56, 55, 12), (1, 3_072, 0), (7, 439, 12), (3_072, 1, 0)] {
+        out.push(given("loops", loops(l, 1, 2, 0), loops(r, 2, 3, 0), &[1], Some(answer)));
+    }
+    // 12 comes before 13, and 11 before both.
+    out.push(given("12 and 13", loops(56, 1, 2, 600_000), loops(55, 2, 3, 600_000), &[1], Some(12)));
+    let mut many = line(513, 1, 0, 0);
+    let mut arcs: Vec<Given> = many
+        .arcs
+        .iter()
+        .map(|a| (a.0[0] as usize, a.0[1], a.0[2], a.0[3] as usize, a.1))
+        .collect();
+    arcs.extend(vec![(0, 1, 2, 0, 700_000); 80]);
+    many = Draft::new(513, 0, &[(0, 900_000)], &arcs);
+    let mut both: Vec<Given> = vec![(0, 2, 3, 0, 700_000); 80];
+    both.push((0, 0, 7, 0, 0));
+    let both = Draft::new(1, 0, &[(0, 900_000)], &both);
+    out.push(given("11, 12 and 13", many, both, &[1], Some(11)));
+    // Final sums over the limit on a state that is reached, and on one not.
+    let two_finals = |reached: bool| {
+        let to = if reached { 1 } else { 0 };
+        Draft::new(2, 0, &[(0, 0), (1, 900_000)], &[(0, 1, 2, to, 0)])
+    };
+    let last = Draft::new(1, 0, &[(0, 100_001)], &[(0, 2, 3, 0, 0)]);
+    out.push(given("final sum reached", two_finals(true), last.clone(), &[1], Some(13)));
+    out.push(given("final sum not reached", two_finals(false), last, &[1], ok));
+    for w in [2, 0] {
+        let right = Draft::new(1, 0, &[(0, 0)], &[]);
+        out.push(given("loop 0:7", loops(1, 0, 7, w), right, &[], ok));
+    }
+    out.push(given("arc twice", like_arcs(2, 1, 2, 5), copy(), &[1], ok));
+    let (l, r) = worked();
+    out.push(given("worked pair", l, r, &[1, 3], ok));
+    // A right step, then a step of both, then a left step.
+    let l = Draft::new(3, 0, &[(2, 0)], &[(0, 1, 2, 1, 0), (1, 1, 0, 2, 0)]);
+    let r = Draft::new(3, 0, &[(2, 0)], &[(0, 0, 4, 1, 0), (1, 2, 5, 2, 0)]);
+    out.push(given("mark put back", l, r, &[1, 1], ok));
+    // A ring that is reached but leads nowhere, and one nothing leads to.
+    let d = Draft::new(
+        4,
+        0,
+        &[(1, 0)],
+        &[(0, 1, 2, 1, 0), (0, 0, 0, 2, 0), (2, 0, 0, 2, 0), (3, 0, 0, 3, 0), (3, 0, 0, 1, 0)],
+    );
+    out.push(given("rings off every accepting path", d, copy(), &[1], ok));
+    // Equal cost: fewer arcs against earlier arcs.
+    let d = Draft::new(
+        3,
+        0,
+        &[(1, 0)],
+        &[(0, 1, 2, 2, 1), (0, 1, 2, 1, 2), (0, 1, 2, 1, 2), (2, 0, 2, 1, 1)],
+    );
+    out.push(given("ties", d, copy(), &[1], ok));
+    out.push(given("1,024 states up", line(1_024, 1, 2, 1_000), copy(), &[1; 64], ok));
+    out.push(given("1,024 states down", line_down(1_024, 1, 2, 1_000_000), loops(1, 2, 0, 0), &[1; 64], ok));
+    let mut ring: Vec<Given> = (0..1_024).map(|s| (s, 0, 2, (s + 1) % 1_024, 1)).collect();
+    out.push(given("ring of 1,024", Draft::new(1_024, 0, &[(1_023, 0)], &ring), copy(), &[], ok));
+    ring.extend(vec![(5, 0, 3, 6, 0); 2_048]);
+    let all: Vec<_> = (0..1_024).map(|s| (s, 1)).collect();
+    out.push(given("largest table", Draft::new(1_024, 1_023, &all, &ring), copy(), &[], ok));
+    // Lattices of exactly 1,024 states and one more.
+    for (n, states) in [(600, 1_024), (600, 1_025), (1_000, 1_024), (1_000, 1_025)] {
+        out.push(given("lattice states", reaching(n, states), loops(2, 4, 4, 0), &[1], None));
+    }
+    let grid: Vec<Given> = (0..16)
+        .flat_map(|s| [(s, 1, 3, s, 0), (s, 0, 0, (s + 1) % 16, 1)])
+        .collect();
+    for length in [62, 63, 64] {
+        let d = Draft::new(16, 0, &[(15, 0)], &grid);
+        out.push(given("lattice grid", d, loops(1, 3, 3, 0), &vec![1; length], None));
+    }
+    // Lattices of 3,072 and 3,073 arcs.
+    for read in [2, 3] {
+        let mut arcs: Vec<Given> = vec![(0, 0, 4, 0, 0); 1_535];
+        arcs.extend(vec![(0, 1, 5, 0, 0); read]);
+        out.push(given("lattice arcs", Draft::new(1, 0, &[(0, 0)], &arcs), copy(), &[1], None));
+    }
+    // Both 11 and 12: one more than 64 places of 16 states, many arcs each.
+    let mut arcs = grid.clone();
+    arcs.extend(vec![(3, 0, 1, 3, 0); 1_000]);
+    let d = Draft::new(16, 0, &[(15, 0)], &arcs);
+    out.push(given("lattice states and arcs", d, copy(), &[1; 64], None));
+    for n in [63, 64, 65] {
+        out.push(given("string length", loops(1, 1, 2, 1), loops(1, 2, 2, 1), &vec![1; n], ok));
+    }
+    for bad in [0, 65_535] {
+        out.push(given("string with a barred label", loops(1, 1, 2, 1), copy(), &[1, bad, 1], ok));
+    }
+    out
+}
+
+/// Random tables near the limits.
+fn near_limit(rng: &mut Rng) -> Case {
+    match rng.below(8) {
+        0..=1 => {
+            let (n, k) = (rng.range(20, 40), rng.range(20, 40));
+            let (m, j) = (rng.range(60, 320), rng.range(60, 320));
+            let labels = rng.range(3, 8);
+            let l = large(rng, n, m, labels, 8);
+            let r = large(rng, k, j, labels, 8);
+            let code = along(rng, &l);
+            given("dense pair", l, r, &code, None)
+        }
+        2 => {
+            // Few states, many arcs.
+            let (n, k) = (rng.range(1, 6), rng.range(1, 6));
+            let (m, j) = (rng.range(80, 240), rng.range(80, 240));
+            let l = large(rng, n, m, 6, 5);
+            let r = large(rng, k, j, 6, 5);
+            let code = along(rng, &l);
+            given("many arcs", l, r, &code, None)
+        }
+        3 => {
+            let n = rng.range(500, 520);
+            let l = line(n, rng.range(0, 1) as u16, 0, 1);
+            let r = loops(rng.range(1, 3), 0, 7, 0);
+            given("line near 512", l, r, &vec![1; rng.range(0, 64)], None)
+        }
+        4 => {
+            let (a, b) = (rng.range(40, 64), rng.range(40, 72));
+            given("loops near 3,072", loops(a, 1, 2, 0), loops(b, 2, 3, 0), &[1], None)
+        }
+        5 => {
+            let (n, m) = (rng.range(900, 1_024), rng.range(1_024, 3_072));
+            let l = large(rng, n, m, 3, 5);
+            let code = along(rng, &l);
+            given("large table", l, loops(1, 1, 1, 0), &code, None)
+        }
+        6 => {
+            let n = rng.range(11, 20);
+            let mut arcs: Vec<Given> = Vec::new();
+            for s in 0..n {
+                arcs.push((s, 1, label(rng, 2, 30), rng.below(n), 1));
+                arcs.push((s, 0, label(rng, 2, 30), (s + 1) % n, 0));
+                for _ in 0..rng.below(4) {
+                    arcs.push((s, rng.below(2) as u16, 2, rng.below(n), 2));
+                }
+            }
+            let d = Draft::new(n, 0, &[(rng.below(n), 0)], &arcs);
+            let code = vec![1; rng.range(50, 64)];
+            given("lattice near the limits", d, loops(1, 1, 0, 0), &code, None)
+        }
+        _ => {
+            let sizes: Vec<usize> = (0..rng.range(1, 7)).map(|_| rng.range(1, 4)).collect();
+            let code = vec![1; sizes.len()];
+            given("bundles near 99", bundles(&sizes, 1, 2), loops(1, 2, 2, 0), &code, None)
+        }
+    }
+}
+
+/// Case number k of a seed. The first ones are fixed.
+pub fn make(rng: &mut Rng, k: usize, fixed: &mut Vec<Option<Case>>) -> Case {
+    if k < fixed.len() {
+        if let Some(case) = fixed[k].take() {
+            return case;
+        }
+    }
+    if rng.chance(1, 80) {
+        return near_limit(rng);
+    }
+    match rng.below(20) {
+        0..=4 => {
+            let (left, known) = damaged(rng);
+            let base = small(rng, 4, 6);
+            let right = if rng.chance(1, 2) { base.bytes() } else { damaged(rng).0 };
+            let code = string(rng, &base);
+            let swap = rng.chance(1, 3);
+            let (left, right) = if swap { (right, left) } else { (left, right) };
+            Case {
+                name: "damaged".to_string(),
+                left,
+                right,
+                code,
+                left_refusal: if swap { None } else { known },
+                join_refusal: if swap { None } else { known },
+                    }
+        }
+        5..=6 => {
+            let (l, r) = (ring(rng), if rng.chance(1, 2) { ring(rng) } else { small(rng, 3, 5) });
+            let code = string(rng, &l);
+            given("ring", l, r, &code, None)
+        }
+        7 => {
+            let (l, r, code) = corrections(rng);
+            given("corrections", l, r, &code, None)
+        }
+        8..=12 => {
+            let (l, r, code) = matched(rng);
+            given("matched", l, r, &code, None)
+        }
+        x => {
+            let (most, arcs) = if x < 16 { (3, 5) } else { (6, 12) };
+            let l = small(rng, most, arcs);
+            let r = small(rng, most, arcs);
+            let code = string(rng, &l);
+            given("small", l, r, &code, None)
+        }
+    }
+}

@@ -1,0 +1,184 @@
+#!/usr/bin/env python3
+"""Plants faults in a copy of the model, one at a time, and runs the driver
+with the faulty copy on one side and the clean model on the other.
+
+    python3 tests/second/faults.py [--all] [--cases N] [--only TEXT]
+
+The faulty copy is a shared library with the interface of the real one
+(shim.rs), so the driver is built only once. Exit code 1 if a fault is not
+found or cannot be planted.
+"""
+import argparse
+import os
+import shutil
+import subprocess
+import sys
+import tempfile
+import time
+
+# Name, anchor, part of a line, replacement: the first such part behind the
+# anchor is replaced.
+FAULTS = [
+    ("count capped at 98", "", "pub const MANY: usize = 99;", "pub const MANY: usize = 98;"),
+    ("step of both keeps the mark", "pub fn join",
+     "let to = (a.target, b.target, 0);", "let to = (a.target, b.target, mark);"),
+    ("right steps first", "pub fn join",
+     "for (to, input, output, weight, origin) in steps {",
+     "steps.sort_by_key(|s: &((usize, usize, u8), u16, u16, u64, (u16, u16))| s.4 .0 != STILL); "
+     "for (to, input, output, weight, origin) in steps {"),
+    ("trimming keeps unreachable states", "pub fn live",
+     "(0..t.states).map(|s| reached[s] && accepts[s]).collect()",
+     "(0..t.states).map(|s| accepts[s]).collect()"),
+    ("start not renumbered", "pub fn trimmed", "start: number(t.start),", "start: t.start,"),
+    ("refusal 7 before 6", "fn test_body",
+     "for refusal in [5, 6, 7, 8] {", "for refusal in [5, 7, 6, 8] {"),
+    ("zeros not behind", "fn fill",
+     "let behind = items.len();", "let behind = buffer.len() - if items.is_empty() { buffer.len() } else { 0 };"),
+    ("cost without final weight", "pub fn path_cost",
+     "arcs + t.final_weight(path_end(t, path)).unwrap()", "arcs"),
+    ("ties by path order before arcs", "pub fn cheapest",
+     "(way.0, way.1, &way.2) < (old.0, old.1, &old.2)", "(way.0, &way.2) < (old.0, &old.2)"),
+    ("9 after 10", "pub fn apply",
+     "if code.len() > MAX_CODE ||",
+     "if out.len() >= TABLE_BYTES && origins.len() >= LATTICE_ORIGINS && pairs.len() >= WORK_STATES && code.len() > MAX_CODE ||"),
+    ("k = 98 refused with count 99", "pub fn nth",
+     "if k as usize >= paths.len() {", "if k as usize >= paths.len().min(98) {"),
+    ("origins swapped", "pub fn compose", "|o| [o.0, o.1]", "|o| [o.1, o.0]"),
+    ("triples with mark 1 not final", "pub fn join",
+     "for (i, &(p, q, _mark)) in triples.iter().enumerate() {",
+     "for (i, &(p, q, _mark)) in triples.iter().enumerate().filter(|x| x.1 .2 == 0) {"),
+    ("both sides rest freely", "pub fn join", "if mark == 0 {", "if mark <= 1 {"),
+    ("endless for a ring on no accepting path", "pub fn endless",
+     "let mut left = live(t);", "let mut left = vec![true; t.states];"),
+    ("buffers kept on 11 to 13", "pub fn compose",
+     "Err(r) => {", "Err(r) => { if r > 0 { return (r, 0); }"),
+    ("12 before 11", "pub fn join",
+     "if triples.len() > MAX_STATES {", "if arcs.len() > MAX_ARCS { return Err(12); } if triples.len() > MAX_STATES {"),
+    ("pairs of the lattice not cleared", "pub fn apply", "clear(pairs);", ""),
+    ("right table tested first", "pub fn compose",
+     "let a = match parse(left) {", "if let Err(r) = parse(right) { return (r, 0); } let a = match parse(left) {"),
+    ("extensions before their path", "pub fn nth",
+     "let paths = first_paths(&t, MANY);",
+     "let mut paths = first_paths(&t, MANY); paths.sort_by(|a, b| "
+     "b.starts_with(a).cmp(&a.starts_with(b)).then(a.cmp(b)));"),
+]
+
+# More, run with --all.
+MORE = [
+    ("joined states at most 1,023", "pub fn join", "if triples.len() > MAX_STATES {", "if triples.len() >= MAX_STATES {"),
+    ("joined states at most 1,025", "pub fn join", "if triples.len() > MAX_STATES {", "if triples.len() > MAX_STATES + 1 {"),
+    ("lattice states at most 1,023", "pub fn lattice", "if reached.len() > MAX_STATES {", "if reached.len() >= MAX_STATES {"),
+    ("lattice states at most 1,025", "pub fn lattice", "if reached.len() > MAX_STATES {", "if reached.len() > MAX_STATES + 1 {"),
+    ("joined arcs below 3,072", "pub fn join", "if arcs.len() > MAX_ARCS {", "if arcs.len() >= MAX_ARCS {"),
+    ("lattice arcs below 3,072", "pub fn lattice", "if arcs.len() > MAX_ARCS {", "if arcs.len() >= MAX_ARCS {"),
+    ("lattice arcs counted after trimming", "pub fn lattice", "if arcs.len() > MAX_ARCS {", "if arcs.len() > 2 * MAX_ARCS {"),
+    ("joined weight below 1,000,000", "pub fn join", "a.weight > MAX_WEIGHT", "a.weight >= MAX_WEIGHT"),
+    ("joined final weight not tested", "pub fn join", "x.1 > MAX_WEIGHT", "false && x.1 > MAX_WEIGHT"),
+    ("joined final weight of the left alone", "pub fn join", "finals.push((i, x + y));", "finals.push((i, x + 0 * y));"),
+    ("equal finals pass", "fn test_body", "t.finals[i - 1].0 >= *state", "t.finals[i - 1].0 > *state"),
+    ("equal sources refused", "fn test_body", "t.arcs[i - 1].source > a.source", "t.arcs[i - 1].source >= a.source"),
+    ("start n passes", "fn test_head", "if start >= n {", "if start > n {"),
+    ("f = n refused", "fn test_head", "if f > n {", "if f >= n {"),
+    ("cut head gives 2", "fn records", "return Err(1);", "return Err(2);"),
+    ("kinds tested before the end", "fn records", "if rest.len() - 4 < length {", "if rest.len() - 4 < length { if two(rest, 2) > 3 { return Err(2); }"),
+    ("second head passes", "fn test_kinds", "if (*kind == 1) != (i == 0) {", "if i == 0 && *kind != 1 {"),
+    ("order of kinds not tested", "fn test_kinds", "if i > 0 && records[i - 1].0 > *kind {", "if false {"),
+    ("output label 65,535 passes", "fn test_body", "a.input == BARRED || a.output == BARRED", "a.input == BARRED"),
+    ("final weight not tested", "fn test_body", "_ => *weight > MAX_WEIGHT,", "_ => false,"),
+    ("string of 64 refused", "pub fn apply", "code.len() > MAX_CODE", "code.len() >= MAX_CODE"),
+    ("0 in a string passes", "pub fn apply", "x == 0 || x == BARRED", "x == BARRED"),
+    ("join origins one short pass", "", "pub const JOIN_ORIGINS: usize = 6_144;", "pub const JOIN_ORIGINS: usize = 6_143;"),
+    ("path buffers of 1,024 wanted", "", "pub const PATH_ARCS: usize = 1_023;", "pub const PATH_ARCS: usize = 1_024;"),
+    ("14 before 10", "pub fn nth", "if arcs.len() < PATH_ARCS", "if !endless(&t) && arcs.len() < PATH_ARCS"),
+    ("15 before 14", "pub fn nth", "if endless(&t) {", "if endless(&t) && k < 99 {"),
+    ("empty labels kept in the output", "pub fn path_writes", "x != 0", "x < 65_535"),
+    ("lattice final before the end", "pub fn lattice", "place == code.len()", "place <= code.len()"),
+    ("numbers of a lattice from the joined trim", "pub fn apply", "kept.iter().map(|&i| from[i]).collect()", "kept.clone()"),
+    ("no acceptance leaves no state", "pub fn trimmed", "states: 1, start: 0", "states: t.states, start: t.start"),
+    ("ties to the later arc", "pub fn cheapest", "(way.0, way.1, &way.2) < (old.0, old.1, &old.2)", "(way.0, way.1) < (old.0, old.1) || (way.0, way.1) == (old.0, old.1) && way.2 > old.2"),
+    ("write tests what lies behind", "pub fn write", "if fields.len() < 4 * m || arc_weights.len() < m {", "if fields.len() != 4 * m || arc_weights.len() < m {"),
+    ("write cuts numbers to 16 bits", "pub fn write", "let [n, m, f, start] = head;", "let [n, m, f, start] = head.map(|x| x % 65_536);"),
+    ("chain: string before tables", "pub fn readings", "let (refused, length) = compose(", "if code.len() > MAX_CODE { return (9, 0); } let (refused, length) = compose("),
+]
+
+
+def main():
+    parser = argparse.ArgumentParser()
+    parser.add_argument("--all", action="store_true", help="plant the second list as well")
+    parser.add_argument("--cases", type=int, default=3000)
+    parser.add_argument("--only", help="plant the faults whose name has this text")
+    options = parser.parse_args()
+    here = os.path.dirname(os.path.abspath(__file__))
+    faults = FAULTS + (MORE if options.all or options.only else [])
+    if options.only:
+        faults = [f for f in faults if options.only in f[0]]
+    clean = open(os.path.join(here, "model.rs")).read()
+    work = tempfile.mkdtemp(prefix="faults-")
+    for name in os.listdir(here):
+        if name.endswith(".rs"):
+            shutil.copy(os.path.join(here, name), work)
+    missed = []
+    began = time.time()
+    try:
+        # The driver with the clean model is built once; each fault makes a
+        # new shared library for it.
+        build_library(work, clean)
+        rustc(work, "-O", "--cfg", "have_all", "-L", "native=" + work, "-l", "dylib=reader",
+              "main.rs", "-o", "driver")
+        # The clean copy must agree, or a found fault says nothing.
+        for number, fault in enumerate([("none", "", "", "")] + faults):
+            result = try_fault(work, clean, fault, options.cases)
+            good = result == "agrees" if number == 0 else result.startswith("found")
+            if not good:
+                missed.append(fault[0])
+            print(f"{number:2} {fault[0]}: {result}", flush=True)
+    finally:
+        shutil.rmtree(work)
+    seconds = time.time() - began
+    print(f"{len(faults)} faults planted, {len(missed)} not as wanted, {seconds:.0f} seconds")
+    for name in missed:
+        print(f"  {name}")
+    return 1 if missed else 0
+
+
+def rustc(work, *arguments):
+    command = ["rustc", "--edition", "2021", "--cap-lints", "allow", *arguments]
+    build = subprocess.run(command, cwd=work, capture_output=True, text=True)
+    if build.returncode != 0:
+        raise RuntimeError(build.stderr.strip())
+
+
+def build_library(work, source):
+    with open(os.path.join(work, "planted.rs"), "w") as f:
+        f.write(source)
+    rustc(work, "-C", "opt-level=1", "--cfg", "planted", "--crate-type", "cdylib",
+          "--crate-name", "reader", "shim.rs")
+
+
+def try_fault(work, clean, fault, cases):
+    _, after, old, new = fault
+    at = clean.find(after)
+    at = clean.find(old, at) if at >= 0 else -1
+    if at < 0:
+        return "NOT PLANTED: text not in model.rs"
+    try:
+        build_library(work, clean[:at] + new + clean[at + len(old):])
+    except RuntimeError as error:
+        return f"NOT BUILT: {error}"
+    try:
+        run = subprocess.run(["./driver", "--cases", str(cases), "--out", "out"], cwd=work,
+                             env={**os.environ, "LD_LIBRARY_PATH": work},
+                             capture_output=True, text=True, timeout=300)
+    except subprocess.TimeoutExpired:
+        return "NOT FOUND: no end within 300 seconds"
+    if run.returncode == 0:
+        return "agrees"
+    lines = run.stdout.splitlines()
+    failed = [i for i, x in enumerate(lines) if "FAILED" in x]
+    if run.returncode != 1 or not failed:
+        return f"NOT FOUND: exit code {run.returncode}"
+    return f"found, {lines[failed[0]].replace(' FAILED', '')}, {lines[failed[0] + 1]}"
+
+
+if __name__ == "__main__":
+    sys.exit(main())

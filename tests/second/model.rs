@@ -1,0 +1,898 @@
+// Naive model of the transducer reader, written from paper 01 alone.
+// Plain vectors and hash maps; nothing here is meant to be quick.
+//
+// Every call takes the lent buffers as slices and leaves them as the paper
+// says. An answer is the refusal (0 = success) and the other numbers, which
+// are 0 on refusal.
+#![allow(dead_code)]
+
+use std::collections::HashMap;
+
+pub const MAX_STATES: usize = 1_024;
+pub const MAX_ARCS: usize = 3_072;
+pub const MAX_WEIGHT: u64 = 1_000_000;
+pub const MAX_CODE: usize = 64;
+pub const BARRED: u16 = 65_535;
+pub const STILL: u16 = 65_535;
+pub const MANY: usize = 99;
+
+// Least lengths of lent buffers (refusal 10).
+pub const TABLE_BYTES: usize = 59_404;
+pub const JOIN_ORIGINS: usize = 6_144;
+pub const LATTICE_ORIGINS: usize = 3_072;
+pub const WORK_STATES: usize = 1_024;
+pub const PATH_ARCS: usize = 1_023;
+pub const READ_FINALS: usize = 1_024;
+pub const READ_FIELDS: usize = 12_288;
+pub const READ_WEIGHTS: usize = 3_072;
+
+#[derive(Clone, Debug, PartialEq)]
+pub struct Arc {
+    pub source: usize,
+    pub input: u16,
+    pub output: u16,
+    pub target: usize,
+    pub weight: u64,
+}
+
+#[derive(Clone, Debug, PartialEq)]
+pub struct Table {
+    pub states: usize,
+    pub start: usize,
+    pub finals: Vec<(usize, u64)>,
+    pub arcs: Vec<Arc>,
+}
+
+impl Table {
+    pub fn final_weight(&self, state: usize) -> Option<u64> {
+        self.finals.iter().find(|x| x.0 == state).map(|x| x.1)
+    }
+
+    /// Arc numbers leaving each state, in order.
+    pub fn leaving(&self) -> Vec<Vec<usize>> {
+        let mut out = vec![Vec::new(); self.states];
+        for (i, a) in self.arcs.iter().enumerate() {
+            out[a.source].push(i);
+        }
+        out
+    }
+}
+
+// ---------------------------------------------------------------- bytes
+
+fn two(bytes: &[u8], at: usize) -> u16 {
+    bytes[at] as u16 + 256 * bytes[at + 1] as u16
+}
+
+fn four(bytes: &[u8], at: usize) -> u64 {
+    two(bytes, at) as u64 + 65_536 * two(bytes, at + 2) as u64
+}
+
+/// Splits the bytes into records (kind, body). Refusal 1 looks at lengths
+/// alone, so a record of an unknown kind is walked over like any other.
+fn records(bytes: &[u8]) -> Result<Vec<(u16, Vec<u8>)>, u32> {
+    let mut found = Vec::new();
+    let mut rest = bytes;
+    while !rest.is_empty() {
+        if rest.len() < 4 {
+            return Err(1);
+        }
+        let length = two(rest, 0) as usize;
+        if rest.len() - 4 < length {
+            return Err(1);
+        }
+        found.push((two(rest, 2), rest[4..4 + length].to_vec()));
+        rest = &rest[4 + length..];
+    }
+    Ok(found)
+}
+
+fn test_kinds(records: &[(u16, Vec<u8>)]) -> Result<(), u32> {
+    if records.is_empty() {
+        return Err(2);
+    }
+    for (i, (kind, body)) in records.iter().enumerate() {
+        let length = match kind {
+            1 => 8,
+            2 => 6,
+            3 => 12,
+            _ => return Err(2),
+        };
+        if body.len() != length {
+            return Err(2);
+        }
+        if (*kind == 1) != (i == 0) {
+            return Err(2);
+        }
+        if i > 0 && records[i - 1].0 > *kind {
+            return Err(2);
+        }
+    }
+    Ok(())
+}
+
+fn test_head(n: u64, m: u64, f: u64, start: u64) -> Result<(), u32> {
+    if n < 1 || n > MAX_STATES as u64 {
+        return Err(3);
+    }
+    if m > MAX_ARCS as u64 {
+        return Err(3);
+    }
+    if f > n {
+        return Err(3);
+    }
+    if start >= n {
+        return Err(3);
+    }
+    Ok(())
+}
+
+/// Refusals 5 to 8, each over the whole table before the next.
+fn test_body(t: &Table) -> Result<(), u32> {
+    for refusal in [5, 6, 7, 8] {
+        for (i, (state, weight)) in t.finals.iter().enumerate() {
+            let bad = match refusal {
+                5 => *state >= t.states,
+                6 => i > 0 && t.finals[i - 1].0 >= *state,
+                7 => false,
+                _ => *weight > MAX_WEIGHT,
+            };
+            if bad {
+                return Err(refusal);
+            }
+        }
+        for (i, a) in t.arcs.iter().enumerate() {
+            let bad = match refusal {
+                5 => a.source >= t.states || a.target >= t.states,
+                6 => i > 0 && t.arcs[i - 1].source > a.source,
+                7 => a.input == BARRED || a.output == BARRED,
+                _ => a.weight > MAX_WEIGHT,
+            };
+            if bad {
+                return Err(refusal);
+            }
+        }
+    }
+    Ok(())
+}
+
+pub fn parse(bytes: &[u8]) -> Result<Table, u32> {
+    let records = records(bytes)?;
+    test_kinds(&records)?;
+    let head: Vec<u64> = (0..4).map(|i| two(&records[0].1, 2 * i) as u64).collect();
+    let (n, m, f, start) = (head[0], head[1], head[2], head[3]);
+    test_head(n, m, f, start)?;
+    let finals: Vec<_> = records.iter().filter(|r| r.0 == 2).collect();
+    let arcs: Vec<_> = records.iter().filter(|r| r.0 == 3).collect();
+    if finals.len() as u64 != f || arcs.len() as u64 != m {
+        return Err(4);
+    }
+    let t = Table {
+        states: n as usize,
+        start: start as usize,
+        finals: finals.iter().map(|r| (two(&r.1, 0) as usize, four(&r.1, 2))).collect(),
+        arcs: arcs
+            .iter()
+            .map(|r| Arc {
+                source: two(&r.1, 0) as usize,
+                input: two(&r.1, 2),
+                output: two(&r.1, 4),
+                target: two(&r.1, 6) as usize,
+                weight: four(&r.1, 8),
+            })
+            .collect(),
+    };
+    test_body(&t)?;
+    Ok(t)
+}
+
+pub fn bytes_of(t: &Table) -> Vec<u8> {
+    fn put2(out: &mut Vec<u8>, x: usize) {
+        out.extend((x as u16).to_le_bytes());
+    }
+    fn put4(out: &mut Vec<u8>, x: u64) {
+        out.extend((x as u32).to_le_bytes());
+    }
+    let mut out = Vec::new();
+    for x in [8, 1, t.states, t.arcs.len(), t.finals.len(), t.start] {
+        put2(&mut out, x);
+    }
+    for (state, weight) in &t.finals {
+        for x in [6, 2, *state] {
+            put2(&mut out, x);
+        }
+        put4(&mut out, *weight);
+    }
+    for a in &t.arcs {
+        for x in [12, 3, a.source, a.input as usize, a.output as usize, a.target] {
+            put2(&mut out, x);
+        }
+        put4(&mut out, a.weight);
+    }
+    out
+}
+
+// -------------------------------------------------------------- buffers
+
+/// Writes the items to the front of a buffer and zeros behind them.
+fn fill<T: Copy + Default>(buffer: &mut [T], items: &[T]) {
+    buffer[..items.len()].copy_from_slice(items);
+    let behind = items.len();
+    for x in &mut buffer[behind..] {
+        *x = T::default();
+    }
+}
+
+fn clear<T: Copy + Default>(buffer: &mut [T]) {
+    fill(buffer, &[]);
+}
+
+fn origins16(numbers: &[usize]) -> Vec<u16> {
+    numbers.iter().map(|x| *x as u16).collect()
+}
+
+// ----------------------------------------------------- read and write
+
+pub fn refusal(bytes: &[u8]) -> u32 {
+    match parse(bytes) {
+        Ok(_) => 0,
+        Err(r) => r,
+    }
+}
+
+pub fn read(
+    bytes: &[u8],
+    final_states: &mut [u16],
+    final_weights: &mut [u32],
+    fields: &mut [u16],
+    arc_weights: &mut [u32],
+) -> (u32, [u32; 4]) {
+    let t = match parse(bytes) {
+        Ok(t) => t,
+        Err(r) => return (r, [0; 4]),
+    };
+    if final_states.len() < READ_FINALS
+        || final_weights.len() < READ_FINALS
+        || fields.len() < READ_FIELDS
+        || arc_weights.len() < READ_WEIGHTS
+    {
+        return (10, [0; 4]);
+    }
+    let states: Vec<u16> = t.finals.iter().map(|x| x.0 as u16).collect();
+    let weights: Vec<u32> = t.finals.iter().map(|x| x.1 as u32).collect();
+    let mut four_each: Vec<u16> = Vec::new();
+    for a in &t.arcs {
+        four_each.extend([a.source as u16, a.input, a.output, a.target as u16]);
+    }
+    let costs: Vec<u32> = t.arcs.iter().map(|a| a.weight as u32).collect();
+    fill(final_states, &states);
+    fill(final_weights, &weights);
+    fill(fields, &four_each);
+    fill(arc_weights, &costs);
+    let head = [t.states, t.arcs.len(), t.finals.len(), t.start];
+    (0, head.map(|x| x as u32))
+}
+
+pub fn write(
+    head: [u32; 4],
+    final_states: &[u16],
+    final_weights: &[u32],
+    fields: &[u16],
+    arc_weights: &[u32],
+    out: &mut [u8],
+) -> (u32, u32) {
+    let [n, m, f, start] = head;
+    if let Err(r) = test_head(n as u64, m as u64, f as u64, start as u64) {
+        return (r, 0);
+    }
+    let (m, f) = (m as usize, f as usize);
+    // An arc is given when all four fields and its weight are there.
+    if final_states.len() < f || final_weights.len() < f {
+        return (4, 0);
+    }
+    if fields.len() < 4 * m || arc_weights.len() < m {
+        return (4, 0);
+    }
+    let t = Table {
+        states: n as usize,
+        start: start as usize,
+        finals: (0..f).map(|i| (final_states[i] as usize, final_weights[i] as u64)).collect(),
+        arcs: (0..m)
+            .map(|i| Arc {
+                source: fields[4 * i] as usize,
+                input: fields[4 * i + 1],
+                output: fields[4 * i + 2],
+                target: fields[4 * i + 3] as usize,
+                weight: arc_weights[i] as u64,
+            })
+            .collect(),
+    };
+    if let Err(r) = test_body(&t) {
+        return (r, 0);
+    }
+    if out.len() < TABLE_BYTES {
+        return (10, 0);
+    }
+    let bytes = bytes_of(&t);
+    fill(out, &bytes);
+    (0, bytes.len() as u32)
+}
+
+// -------------------------------------------------------------- compose
+
+pub struct Joined {
+    pub table: Table,
+    pub origins: Vec<(u16, u16)>,
+}
+
+/// Breadth-first composition. All triples are looked for before arcs are
+/// counted, and arcs are counted before weights are looked at: 11, 12, 13.
+pub fn join(left: &Table, right: &Table) -> Result<Joined, u32> {
+    let of_left = left.leaving();
+    let of_right = right.leaving();
+    let first = (left.start, right.start, 0);
+    let mut numbers: HashMap<(usize, usize, u8), usize> = HashMap::from([(first, 0)]);
+    let mut triples = vec![first];
+    let mut arcs: Vec<Arc> = Vec::new();
+    let mut origins: Vec<(u16, u16)> = Vec::new();
+    let mut i = 0;
+    while i < triples.len() {
+        let (p, q, mark) = triples[i];
+        let mut steps = Vec::new();
+        for &l in &of_left[p] {
+            let a = &left.arcs[l];
+            if a.output == 0 {
+                if mark == 0 {
+                    steps.push(((a.target, q, 0), a.input, 0, a.weight, (l as u16, STILL)));
+                }
+                continue;
+            }
+            for &r in &of_right[q] {
+                let b = &right.arcs[r];
+                if b.input == a.output {
+                    let to = (a.target, b.target, 0);
+                    let weight = a.weight + b.weight;
+                    steps.push((to, a.input, b.output, weight, (l as u16, r as u16)));
+                }
+            }
+        }
+        for &r in &of_right[q] {
+            let b = &right.arcs[r];
+            if b.input == 0 {
+                steps.push(((p, b.target, 1), 0, b.output, b.weight, (STILL, r as u16)));
+            }
+        }
+        for (to, input, output, weight, origin) in steps {
+            let target = match numbers.get(&to) {
+                Some(&number) => number,
+                None => {
+                    numbers.insert(to, triples.len());
+                    triples.push(to);
+                    triples.len() - 1
+                }
+            };
+            // One more than allowed is enough to know of refusal 12.
+            if arcs.len() <= MAX_ARCS {
+                arcs.push(Arc { source: i, input, output, target, weight });
+                origins.push(origin);
+            }
+        }
+        if triples.len() > MAX_STATES {
+            return Err(11);
+        }
+        i += 1;
+    }
+    if arcs.len() > MAX_ARCS {
+        return Err(12);
+    }
+    let mut finals = Vec::new();
+    for (i, &(p, q, _mark)) in triples.iter().enumerate() {
+        if let (Some(x), Some(y)) = (left.final_weight(p), right.final_weight(q)) {
+            finals.push((i, x + y));
+        }
+    }
+    let too_heavy = arcs.iter().any(|a| a.weight > MAX_WEIGHT);
+    if too_heavy || finals.iter().any(|x| x.1 > MAX_WEIGHT) {
+        return Err(13);
+    }
+    let table = Table { states: triples.len(), start: 0, finals, arcs };
+    Ok(Joined { table, origins })
+}
+
+pub fn compose(
+    left: &[u8],
+    right: &[u8],
+    table: &mut [u8],
+    origins: &mut [u16],
+    states: &mut [u32],
+) -> (u32, u32) {
+    let a = match parse(left) {
+        Ok(t) => t,
+        Err(r) => return (r, 0),
+    };
+    let b = match parse(right) {
+        Ok(t) => t,
+        Err(r) => return (r, 0),
+    };
+    if table.len() < TABLE_BYTES || origins.len() < JOIN_ORIGINS || states.len() < WORK_STATES {
+        return (10, 0);
+    }
+    match join(&a, &b) {
+        Ok(joined) => {
+            let bytes = bytes_of(&joined.table);
+            let two_each: Vec<u16> = joined.origins.iter().flat_map(|o| [o.0, o.1]).collect();
+            fill(table, &bytes);
+            fill(origins, &two_each);
+            clear(states);
+            (0, bytes.len() as u32)
+        }
+        Err(r) => {
+            clear(table);
+            clear(origins);
+            clear(states);
+            (r, 0)
+        }
+    }
+}
+
+// ----------------------------------------------------------------- trim
+
+/// Which states lie on an accepting path.
+pub fn live(t: &Table) -> Vec<bool> {
+    let mut reached = vec![false; t.states];
+    reached[t.start] = true;
+    loop {
+        let before = reached.clone();
+        for a in &t.arcs {
+            if reached[a.source] {
+                reached[a.target] = true;
+            }
+        }
+        if reached == before {
+            break;
+        }
+    }
+    let mut accepts = vec![false; t.states];
+    for (state, _) in &t.finals {
+        accepts[*state] = true;
+    }
+    loop {
+        let before = accepts.clone();
+        for a in t.arcs.iter().rev() {
+            if accepts[a.target] {
+                accepts[a.source] = true;
+            }
+        }
+        if accepts == before {
+            break;
+        }
+    }
+    (0..t.states).map(|s| reached[s] && accepts[s]).collect()
+}
+
+/// The trimmed table and, for each kept arc, its number before.
+pub fn trimmed(t: &Table) -> (Table, Vec<usize>) {
+    let live = live(t);
+    if !live[t.start] {
+        let alone = Table { states: 1, start: 0, finals: vec![], arcs: vec![] };
+        return (alone, vec![]);
+    }
+    let number = |s: usize| live[..s].iter().filter(|x| **x).count();
+    let kept: Vec<usize> = (0..t.arcs.len())
+        .filter(|&i| live[t.arcs[i].source] && live[t.arcs[i].target])
+        .collect();
+    let table = Table {
+        states: number(t.states),
+        start: number(t.start),
+        finals: t.finals.iter().filter(|x| live[x.0]).map(|x| (number(x.0), x.1)).collect(),
+        arcs: kept
+            .iter()
+            .map(|&i| {
+                let a = t.arcs[i].clone();
+                Arc { source: number(a.source), target: number(a.target), ..a }
+            })
+            .collect(),
+    };
+    (table, kept)
+}
+
+pub fn trim(bytes: &[u8], out: &mut [u8], origins: &mut [u16]) -> (u32, u32) {
+    let t = match parse(bytes) {
+        Ok(t) => t,
+        Err(r) => return (r, 0),
+    };
+    if out.len() < TABLE_BYTES || origins.len() < LATTICE_ORIGINS {
+        return (10, 0);
+    }
+    let (small, kept) = trimmed(&t);
+    let bytes = bytes_of(&small);
+    fill(out, &bytes);
+    fill(origins, &origins16(&kept));
+    (0, bytes.len() as u32)
+}
+
+// ---------------------------------------------------------------- apply
+
+/// The lattice of a string before trimming, with the table arc of each arc.
+pub fn lattice(code: &[u16], t: &Table) -> Result<(Table, Vec<usize>), u32> {
+    let leaving = t.leaving();
+    let mut numbers: HashMap<(usize, usize), usize> = HashMap::from([((0, t.start), 0)]);
+    let mut reached = vec![(0, t.start)];
+    let mut arcs: Vec<Arc> = Vec::new();
+    let mut origins = Vec::new();
+    let mut i = 0;
+    while i < reached.len() {
+        let (place, state) = reached[i];
+        for &x in &leaving[state] {
+            let a = &t.arcs[x];
+            let next = if a.input == 0 {
+                place
+            } else if place < code.len() && code[place] == a.input {
+                place + 1
+            } else {
+                continue;
+            };
+            let to = (next, a.target);
+            let target = match numbers.get(&to) {
+                Some(&number) => number,
+                None => {
+                    numbers.insert(to, reached.len());
+                    reached.push(to);
+                    reached.len() - 1
+                }
+            };
+            arcs.push(Arc { source: i, target, ..a.clone() });
+            origins.push(x);
+        }
+        if reached.len() > MAX_STATES {
+            return Err(11);
+        }
+        i += 1;
+    }
+    if arcs.len() > MAX_ARCS {
+        return Err(12);
+    }
+    let mut finals = Vec::new();
+    for (i, &(place, state)) in reached.iter().enumerate() {
+        if let (true, Some(w)) = (place == code.len(), t.final_weight(state)) {
+            finals.push((i, w));
+        }
+    }
+    Ok((Table { states: reached.len(), start: 0, finals, arcs }, origins))
+}
+
+/// The table is tested before the string, as 1 to 8 come before 9.
+pub fn apply(
+    code: &[u16],
+    bytes: &[u8],
+    out: &mut [u8],
+    origins: &mut [u16],
+    pairs: &mut [u32],
+) -> (u32, u32) {
+    let t = match parse(bytes) {
+        Ok(t) => t,
+        Err(r) => return (r, 0),
+    };
+    if code.len() > MAX_CODE || code.iter().any(|&x| x == 0 || x == BARRED) {
+        return (9, 0);
+    }
+    if out.len() < TABLE_BYTES || origins.len() < LATTICE_ORIGINS || pairs.len() < WORK_STATES {
+        return (10, 0);
+    }
+    match lattice(code, &t) {
+        Ok((whole, from)) => {
+            let (small, kept) = trimmed(&whole);
+            let numbers: Vec<usize> = kept.iter().map(|&i| from[i]).collect();
+            let bytes = bytes_of(&small);
+            fill(out, &bytes);
+            fill(origins, &origins16(&numbers));
+            clear(pairs);
+            (0, bytes.len() as u32)
+        }
+        Err(r) => {
+            clear(out);
+            clear(origins);
+            clear(pairs);
+            (r, 0)
+        }
+    }
+}
+
+// ----------------------------------------------------- count and paths
+
+/// Whether infinitely many paths accept: a ring of live states is left
+/// when live states without an arc to a live state are taken away.
+pub fn endless(t: &Table) -> bool {
+    let leaving = t.leaving();
+    let mut left = live(t);
+    loop {
+        let before = left.clone();
+        for s in (0..t.states).rev() {
+            let goes_on = leaving[s].iter().any(|&i| left[t.arcs[i].target]);
+            if left[s] && !goes_on {
+                left[s] = false;
+            }
+        }
+        if left == before {
+            break;
+        }
+    }
+    left.contains(&true)
+}
+
+/// The first accepting paths in path order, at most `most` of them.
+/// Only for tables that are not endless.
+pub fn first_paths(t: &Table, most: usize) -> Vec<Vec<u16>> {
+    let mut found = Vec::new();
+    let lists = (t.leaving(), live(t));
+    if lists.1[t.start] {
+        walk(t, &lists, t.start, most, &mut Vec::new(), &mut found);
+    }
+    found
+}
+
+fn walk(
+    t: &Table,
+    lists: &(Vec<Vec<usize>>, Vec<bool>),
+    state: usize,
+    most: usize,
+    path: &mut Vec<u16>,
+    found: &mut Vec<Vec<u16>>,
+) {
+    if found.len() < most && t.final_weight(state).is_some() {
+        found.push(path.clone());
+    }
+    for &i in &lists.0[state] {
+        let target = t.arcs[i].target;
+        if found.len() < most && lists.1[target] {
+            path.push(i as u16);
+            walk(t, lists, target, most, path, found);
+            path.pop();
+        }
+    }
+}
+
+pub fn count(bytes: &[u8]) -> (u32, u32) {
+    let t = match parse(bytes) {
+        Ok(t) => t,
+        Err(r) => return (r, 0),
+    };
+    if endless(&t) {
+        return (14, 0);
+    }
+    (0, first_paths(&t, MANY).len() as u32)
+}
+
+/// The state a path from the start ends in.
+pub fn path_end(t: &Table, path: &[u16]) -> usize {
+    path.last().map_or(t.start, |&i| t.arcs[i as usize].target)
+}
+
+pub fn path_cost(t: &Table, path: &[u16]) -> u64 {
+    let arcs: u64 = path.iter().map(|&i| t.arcs[i as usize].weight).sum();
+    arcs + t.final_weight(path_end(t, path)).unwrap()
+}
+
+pub fn path_writes(t: &Table, path: &[u16]) -> Vec<u16> {
+    let written = path.iter().map(|&i| t.arcs[i as usize].output);
+    written.filter(|&x| x != 0).collect()
+}
+
+pub fn path_reads(t: &Table, path: &[u16]) -> Vec<u16> {
+    let read = path.iter().map(|&i| t.arcs[i as usize].input);
+    read.filter(|&x| x != 0).collect()
+}
+
+/// Cost, number of arcs, number of labels.
+pub type Told = (u64, u32, u32);
+
+fn tell(t: &Table, path: &[u16], arcs: &mut [u16], labels: &mut [u16]) -> (u32, Told) {
+    let written = path_writes(t, path);
+    fill(arcs, path);
+    fill(labels, &written);
+    (0, (path_cost(t, path), path.len() as u32, written.len() as u32))
+}
+
+pub fn nth(bytes: &[u8], k: u32, arcs: &mut [u16], labels: &mut [u16]) -> (u32, Told) {
+    let t = match parse(bytes) {
+        Ok(t) => t,
+        Err(r) => return (r, (0, 0, 0)),
+    };
+    if arcs.len() < PATH_ARCS || labels.len() < PATH_ARCS {
+        return (10, (0, 0, 0));
+    }
+    if endless(&t) {
+        return (14, (0, 0, 0));
+    }
+    let paths = first_paths(&t, MANY);
+    if k as usize >= paths.len() {
+        return (15, (0, 0, 0));
+    }
+    tell(&t, &paths[k as usize], arcs, labels)
+}
+
+/// The accepting path of least (cost, arcs, path order): one round for each
+/// state, each round lengthening the best paths to acceptance by one arc.
+pub fn cheapest(t: &Table) -> Option<Vec<u16>> {
+    type Way = (u64, usize, Vec<u16>);
+    let mut best: Vec<Option<Way>> = vec![None; t.states];
+    for (state, weight) in &t.finals {
+        best[*state] = Some((*weight, 0, vec![]));
+    }
+    for _ in 0..t.states {
+        let mut changed = false;
+        for (i, a) in t.arcs.iter().enumerate().rev() {
+            let Some((cost, arcs, path)) = &best[a.target] else { continue };
+            let longer = [&[i as u16], path.as_slice()].concat();
+            let way = (cost + a.weight, arcs + 1, longer);
+            let better = match &best[a.source] {
+                None => true,
+                Some(old) => (way.0, way.1, &way.2) < (old.0, old.1, &old.2),
+            };
+            if better {
+                best[a.source] = Some(way);
+                changed = true;
+            }
+        }
+        if !changed {
+            break;
+        }
+    }
+    best[t.start].take().map(|way| way.2)
+}
+
+pub fn shortest(bytes: &[u8], arcs: &mut [u16], labels: &mut [u16]) -> (u32, Told) {
+    let t = match parse(bytes) {
+        Ok(t) => t,
+        Err(r) => return (r, (0, 0, 0)),
+    };
+    if arcs.len() < PATH_ARCS || labels.len() < PATH_ARCS {
+        return (10, (0, 0, 0));
+    }
+    match cheapest(&t) {
+        Some(path) => tell(&t, &path, arcs, labels),
+        None => (16, (0, 0, 0)),
+    }
+}
+
+// ------------------------------------------------------- the whole chain
+
+/// Compose, apply, count. The first refusal ends it; each buffer stays as
+/// the calls made so far left it.
+#[allow(clippy::too_many_arguments)]
+pub fn readings(
+    left: &[u8],
+    right: &[u8],
+    code: &[u16],
+    table: &mut [u8],
+    origins: &mut [u16],
+    states: &mut [u32],
+    lattice: &mut [u8],
+    lattice_origins: &mut [u16],
+    pairs: &mut [u32],
+) -> (u32, u32) {
+    let (refused, length) = compose(left, right, table, origins, states);
+    if refused != 0 {
+        return (refused, 0);
+    }
+    let joined = &table[..length as usize];
+    let (refused, length) = apply(code, joined, lattice, lattice_origins, pairs);
+    if refused != 0 {
+        return (refused, 0);
+    }
+    count(&lattice[..length as usize])
+}
+
+/// What the listing program prints for the contents of its three files.
+pub fn listing(left: &[u8], right: &[u8], code: &[u8]) -> String {
+    let up_to = |x: &[u8]| x[..x.len().min(65_536)].to_vec();
+    let (left, right, code) = (up_to(left), up_to(right), up_to(code));
+    let mut table = vec![0; TABLE_BYTES];
+    let mut origins = vec![0; JOIN_ORIGINS];
+    let mut work = vec![0; WORK_STATES];
+    let (r, length) = compose(&left, &right, &mut table, &mut origins, &mut work);
+    if r != 0 {
+        return format!("refused {r}\n");
+    }
+    if code.len() % 2 != 0 {
+        return "refused 9\n".to_string();
+    }
+    let code: Vec<u16> = (0..code.len() / 2).map(|i| two(&code, 2 * i)).collect();
+    let mut lattice = vec![0; TABLE_BYTES];
+    let joined = &table[..length as usize];
+    let (r, length) = apply(&code, joined, &mut lattice, &mut origins, &mut work);
+    if r != 0 {
+        return format!("refused {r}\n");
+    }
+    let lattice = &lattice[..length as usize];
+    let (r, n) = count(lattice);
+    if r == 14 {
+        return "readings endless\n".to_string();
+    }
+    if n as usize == MANY {
+        return "readings 99+\n".to_string();
+    }
+    let mut text = format!("readings {n}\n");
+    for k in 0..n {
+        let (mut arcs, mut labels) = (vec![0; PATH_ARCS], vec![0; PATH_ARCS]);
+        let (_, told) = nth(lattice, k, &mut arcs, &mut labels);
+        text += &format!("{k} {}", told.0);
+        for x in &labels[..told.2 as usize] {
+            text += &format!(" {x}");
+        }
+        text += "\n";
+    }
+    text
+}
+
+// ------------------------------------------------- brute-force enumeration
+
+/// All accepting paths of at most `most` arcs, by plain search from the
+/// start, optionally only those that read a given string. In path order.
+/// None when more than `budget` steps are needed.
+pub fn all_paths(
+    t: &Table,
+    reads: Option<&[u16]>,
+    most: usize,
+    budget: &mut usize,
+) -> Option<Vec<Vec<u16>>> {
+    fn go(
+        t: &Table,
+        state: usize,
+        reads: Option<&[u16]>,
+        most: usize,
+        budget: &mut usize,
+        path: &mut Vec<u16>,
+        found: &mut Vec<Vec<u16>>,
+    ) -> Option<()> {
+        if *budget == 0 {
+            return None;
+        }
+        *budget -= 1;
+        if reads.map_or(true, |x| x.is_empty()) && t.final_weight(state).is_some() {
+            found.push(path.clone());
+        }
+        if path.len() == most {
+            return Some(());
+        }
+        for (i, a) in t.arcs.iter().enumerate() {
+            if a.source != state {
+                continue;
+            }
+            let rest = match reads {
+                Some(x) if a.input != 0 => match x.split_first() {
+                    Some((first, rest)) if *first == a.input => Some(rest),
+                    _ => continue,
+                },
+                same => same,
+            };
+            path.push(i as u16);
+            go(t, a.target, rest, most, budget, path, found)?;
+            path.pop();
+        }
+        Some(())
+    }
+    let mut found = Vec::new();
+    go(t, t.start, reads, most, budget, &mut Vec::new(), &mut found)?;
+    Some(found)
+}
+
+/// All pairs of accepting paths of at most `most` arcs each: the left one
+/// reads the code, the right one reads what the left one writes. Neither
+/// composition nor a lattice is used.
+pub fn all_pairs(
+    left: &Table,
+    right: &Table,
+    code: &[u16],
+    most: usize,
+    budget: &mut usize,
+) -> Option<Vec<(Vec<u16>, Vec<u16>)>> {
+    let mut found = Vec::new();
+    for l in all_paths(left, Some(code), most, budget)? {
+        let middle = path_writes(left, &l);
+        for r in all_paths(right, Some(&middle), most, budget)? {
+            found.push((l.clone(), r));
+        }
+    }
+    Some(found)
+}
