@@ -70,6 +70,12 @@ def ladder(n):
     return sound(n=n, start=0, finals=((n - 1, 0),), arcs=arcs)
 
 
+def longest():
+    """98 paths of 1,023 arcs, each with the longest label and the greatest weight, that read nothing."""
+    arcs = [(0, 0, 65534, 1, WEIGHT)] * 98 + [(s, 0, 65534, s + 1, WEIGHT) for s in range(1, 1023)]
+    return sound(n=1024, start=0, finals=((1023, WEIGHT),), arcs=arcs)
+
+
 TURN = one_state((1, 1, 2, 0))  # turns 1 into 2
 COPY = one_state((1, 2, 2, 0))  # hands 2 on
 ONE = labels(1)
@@ -92,8 +98,10 @@ def cases():
     yield "a loop that reads nothing", "readings endless", COPY, REST, b""
     yield "64 labels", "readings 1", TURN, COPY, ONE * 64
     yield "968 pairs in the lattice", "readings 99+", TURN, ladder(8), ONE * 64
+    yield "3,072 arcs in the lattice", "readings 99+", one_state((48, 1, 2, 0)), COPY, ONE * 64
+    yield "the longest listing", "readings 98", one_state(), longest(), b""
     yield "the largest labels", "readings 1", one_state((1, 65534, 65534, 0)), one_state((1, 65534, 65534, 0)), labels(65534)
-    # Refusals: the left table, the right one, the composition, the string.
+    # Refusals: the left table, the right one, the composition, the string, its application.
     yield "left missing", "refused 2", None, COPY, ONE
     yield "right missing", "refused 2", COPY, None, ONE
     yield "all missing", "refused 2", None, None, None
@@ -110,6 +118,7 @@ def cases():
     yield "label 0", "refused 9", COPY, COPY, labels(1, 0)
     yield "label 65,535", "refused 9", COPY, COPY, labels(65535)
     yield "1,097 pairs in the lattice", "refused 11", TURN, ladder(9), ONE * 64
+    yield "3,136 arcs in the lattice", "refused 12", one_state((49, 1, 2, 0)), COPY, ONE * 64
     # Only the first 65,536 bytes of a file count.
     yield "a table cut within a record, which is whole behind it", "refused 1", COPY + EMPTY_RECORDS, COPY, ONE
     yield "a table cut between records, with a byte behind it", "refused 2", UP_TO_A_RECORD + b"\0", COPY, ONE
