@@ -1,11 +1,6 @@
 // Compares the static library with the naive model, call by call and byte by
-// byte. From the root of the repository:
-//
-//   rustc -O --edition 2021 --cfg have_first tests/second/main.rs \
-//         -L native=target/staticlib -l static=reader -o target/second-driver
-//   target/second-driver
-//
-// `--cfg have_all` compares every call (library.rs has the finer choices);
+// byte: tests/second/run builds and runs it. Built with `--cfg have_all` it
+// compares every call (library.rs has the finer choices);
 // `--cfg mock` puts a second copy of the model in the place of the library.
 //
 //   --seed N     seed of the cases; the default is printed
@@ -25,13 +20,10 @@ mod inner;
 mod model;
 mod rng;
 
-#[cfg(planted)]
-#[path = "planted.rs"]
-mod other;
-#[cfg(all(mock, not(planted)))]
+#[cfg(mock)]
 #[path = "model.rs"]
 mod other;
-#[cfg(not(any(mock, planted)))]
+#[cfg(not(mock))]
 #[path = "library.rs"]
 mod other;
 
@@ -50,9 +42,9 @@ pub const CALLS: [&str; 10] = [
     "refusal", "read", "write", "compose", "trim", "apply", "count", "nth", "shortest", "readings",
 ];
 
-#[cfg(any(mock, planted))]
+#[cfg(mock)]
 const HAVE: [bool; 10] = [true; 10];
-#[cfg(not(any(mock, planted)))]
+#[cfg(not(mock))]
 const HAVE: [bool; 10] = other::HAVE;
 
 /// The refusals each call can give.
