@@ -3,7 +3,7 @@ ghost use mathlib.Core.Path.{_≡_};
 ghost use Prim.Native.Nat.{_≤_};
 ghost use lib.ListN.{length};
 ghost use Rattle.transducer.specs.Format.{refusal, decode};
-ghost use Rattle.listing.specs.Text.{Whole};
+ghost use Rattle.listing.specs.Text.{Whole, least-room};
 ghost use Rattle.listing.specs.Entry.{applied-refusal, applied-text, listing-refusal, text-of, text-room, Listing-says};
 use crate::code;
 use crate::listed;
@@ -13,7 +13,7 @@ const LEAST_ROOM: usize = 602908;
 
 // Applies a code to an accepted transducer and lists what comes of it.
 fn list_applied(table: &[u8], bytes: &[u8], out: &mut [u8]) -> Written
-    requires { ⌜ (refusal (now table) ≡ 0) × (602908 ≤ length (now out)) ⌝ }
+    requires { ⌜ (refusal (now table) ≡ 0) × (least-room ≤ length (now out)) ⌝ }
     ensures { λ r. ⌜ Whole (now (out .entry)) (now (out .exit)) r (applied-refusal (decode (now (table .entry))) (now (bytes .entry)))
         (applied-text (decode (now (table .entry))) (now (bytes .entry))) ⌝ }
 {
@@ -42,7 +42,7 @@ fn list_applied(table: &[u8], bytes: &[u8], out: &mut [u8]) -> Written
 
 // Composes two transducers, applies a code and lists what comes of it.
 fn list_composed(left: &[u8], right: &[u8], bytes: &[u8], out: &mut [u8]) -> Written
-    requires { ⌜ 602908 ≤ length (now out) ⌝ }
+    requires { ⌜ least-room ≤ length (now out) ⌝ }
     ensures { λ r. ⌜ Whole (now (out .entry)) (now (out .exit)) r (listing-refusal (now (left .entry)) (now (right .entry)) (now (bytes .entry)))
         (text-of (now (left .entry)) (now (right .entry)) (now (bytes .entry))) ⌝ }
 {

@@ -5,7 +5,7 @@ ghost use Prim.Native.Nat.{_+_, _*_, _≤_, _<_};
 ghost use lib.ListN.{length};
 ghost use Rattle.transducer.specs.Format.{refusal, decode};
 ghost use Rattle.paths.specs.Count.{endless, path-count};
-ghost use Rattle.listing.specs.Text.{Wrote, Whole, line-of, lines, listing-text, refused-text};
+ghost use Rattle.listing.specs.Text.{Wrote, Whole, line-of, lines, listing-text, refused-text, line-room, least-room};
 use crate::text;
 use transducer::Written;
 
@@ -16,7 +16,7 @@ const NEWLINE: u8 = 10;
 // Writes the line of the k-th path.
 fn put_path(table: &[u8], k: u32, out: &mut [u8], at: usize) -> usize
     requires { ⌜ (refusal (now table) ≡ 0) × (endless (decode (now table)) ≡ false) × (k < path-count (decode (now table)))
-        × (at + 6152 ≤ length (now out)) ⌝ }
+        × (at + line-room ≤ length (now out)) ⌝ }
     ensures { λ r. ⌜ Wrote (now (out .entry)) (now (out .exit)) at r (line-of (decode (now (table .entry))) k) ⌝ }
 {
     let mut arcs = [0u16; 1023];
@@ -28,7 +28,7 @@ fn put_path(table: &[u8], k: u32, out: &mut [u8], at: usize) -> usize
 // Writes a line for each path.
 fn put_paths(table: &[u8], count: u32, out: &mut [u8], at: usize) -> usize
     requires { ⌜ (refusal (now table) ≡ 0) × (endless (decode (now table)) ≡ false) × (count ≡ path-count (decode (now table)))
-        × (at + 6152 * count ≤ length (now out)) ⌝ }
+        × (at + line-room * count ≤ length (now out)) ⌝ }
     ensures { λ r. ⌜ Wrote (now (out .entry)) (now (out .exit)) at r (lines (decode (now (table .entry))) count) ⌝ }
 {
     let mut end = at;
@@ -42,7 +42,7 @@ fn put_paths(table: &[u8], count: u32, out: &mut [u8], at: usize) -> usize
 
 // Writes the listing at the front.
 fn put_listing(table: &[u8], out: &mut [u8]) -> usize
-    requires { ⌜ (refusal (now table) ≡ 0) × (602908 ≤ length (now out)) ⌝ }
+    requires { ⌜ (refusal (now table) ≡ 0) × (least-room ≤ length (now out)) ⌝ }
     ensures { λ r. ⌜ Wrote (now (out .entry)) (now (out .exit)) 0 r (listing-text (decode (now (table .entry)))) ⌝ }
 {
     let counted = paths::path_count(table);
@@ -61,7 +61,7 @@ fn put_listing(table: &[u8], out: &mut [u8]) -> usize
 
 // Lists an accepted transducer: the text from the front of `out`, zeros behind.
 pub fn list_into(table: &[u8], out: &mut [u8]) -> Written
-    requires { ⌜ (refusal (now table) ≡ 0) × (602908 ≤ length (now out)) ⌝ }
+    requires { ⌜ (refusal (now table) ≡ 0) × (least-room ≤ length (now out)) ⌝ }
     ensures { λ r. ⌜ Whole (now (out .entry)) (now (out .exit)) r 0 (listing-text (decode (now (table .entry)))) ⌝ }
 {
     let end = put_listing(table, out);
@@ -74,7 +74,7 @@ pub fn list_into(table: &[u8], out: &mut [u8]) -> Written
 
 // Answers a refusal, with its text from the front of `out`, zeros behind.
 pub fn refuse_into(number: u32, out: &mut [u8]) -> Written
-    requires { ⌜ 602908 ≤ length (now out) ⌝ }
+    requires { ⌜ least-room ≤ length (now out) ⌝ }
     ensures { λ r. ⌜ Whole (now (out .entry)) (now (out .exit)) r number (refused-text number) ⌝ }
 {
     let word = text::put_bytes(out, 0, b"refused ");

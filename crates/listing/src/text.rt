@@ -2,7 +2,7 @@
 ghost use mathlib.Core.List.{[], _∷_};
 ghost use Prim.Native.Nat.{_+_, _*_, _≤_, _<_};
 ghost use lib.ListN.{length, take};
-ghost use Rattle.listing.specs.Text.{Wrote, decimal, labels-text, line};
+ghost use Rattle.listing.specs.Text.{Wrote, decimal, labels-text, line, line-room};
 
 const BLANK: u8 = 32;
 
@@ -60,7 +60,7 @@ pub fn put_labels(out: &mut [u8], at: usize, labels: &[u16], count: usize) -> us
 
 // Writes the line of a path: its number, its cost and its labels.
 pub fn put_line(out: &mut [u8], at: usize, k: u32, cost: u64, labels: &[u16], count: usize) -> usize
-    requires { ⌜ (count ≤ length (now labels)) × (count ≤ 1023) × (k < 100) × (cost < 10000000000) × (at + 6152 ≤ length (now out)) ⌝ }
+    requires { ⌜ (count ≤ length (now labels)) × (count ≤ 1023) × (k < 100) × (cost < 10000000000) × (at + line-room ≤ length (now out)) ⌝ }
     ensures { λ r. ⌜ Wrote (now (out .entry)) (now (out .exit)) at r (line k cost (take count (now (labels .entry)))) ⌝ }
 {
     let number = put_decimal(out, at, k as u64);

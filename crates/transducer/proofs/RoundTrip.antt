@@ -22,7 +22,7 @@ use Rattle.transducer.specs.declared.Arc.{Arc}
 use Rattle.transducer.specs.declared.Final.{Final}
 use Rattle.transducer.specs.Format.{Transducer, Good, final-at, arc-at, weight-at, weight-good, labels-good, decode, refusal, head-good, content-refusal, first-of}
 use Rattle.transducer.specs.Format.{states-good, order-good, all-labels-good, weights-good, head-states, head-arcs, head-finals, head-start}
-use Rattle.transducer.specs.Encode.{encode, head-record, final-record, arc-record, final-records, arc-records, weight-bytes}
+use Rattle.transducer.specs.Encode.{encode, head-record, final-record, arc-record, final-records, arc-records, weight-bytes, max-bytes}
 use Rattle.transducer.specs.Check.{head-word, final-word, arc-word}
 use Rattle.transducer.proofs.Laid.{Laid, laid-decode}
 use Rattle.transducer.proofs.WriteBack.{encode-laid}
@@ -114,7 +114,7 @@ head-range n m f s h =
 pub good-range : (t : Transducer) → Good t → Head-range (t .states) (length (t .arcs)) (length (t .finals)) (t .start)
 good-range t g = head-range _ _ _ _ (g .head)
 
-pub length-encode-below : (t : Transducer) → Good t → length (encode t) ≤ 59404
+pub length-encode-below : (t : Transducer) → Good t → length (encode t) ≤ max-bytes
 length-encode-below t g =
     let r : Head-range (t .states) (length (t .arcs)) (length (t .finals)) (t .start) = good-range t g in
     omega (arith, length-encode t)

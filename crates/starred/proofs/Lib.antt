@@ -1,0 +1,2 @@
+pub mod AllHold
+pub mod Promised

@@ -1,0 +1,210 @@
+-- The calls promise what the definitions give, for buffers of any sufficient lengths; so each case of the table is what its call answers.
+--     promises-defined     the contract of a call gives the answer by the definitions
+--     all-promised         and so, for each row of the table, the answer of that row
+-- Assumes nothing.
+use mathlib.Core.Path.{_≡_, refl, sym, subst, ap, _∙_}
+use mathlib.Core.Bool.{Bool, true, false, cond}
+use mathlib.Core.List.{List, [], _∷_}
+use Prim.Native.Nat.{ℕ, _≤_}
+use borrow.Author.Tests.{le-ltb, eqb-true}
+use lib.Dec.{eqb}
+use lib.ListN.{length, getD, drop}
+use Rattle.transducer.specs.Format.{decode}
+use Rattle.transducer.specs.Entry.{or-else, unless, left-in, read-room, read-refusal, Read-says}
+use Rattle.explore.specs.Explore.{left-behind}
+use Rattle.compose.specs.Compose.{composed}
+use Rattle.compose.specs.Entry.{compose-room, compose-refusal, Compose-says, origin-pairs}
+use Rattle.lattice.specs.Lattice.{lattice, lattice-origins}
+use Rattle.lattice.specs.ApplyEntry.{apply-room, apply-refusal, Apply-says}
+use Rattle.paths.specs.Count.{path-count, nth-path}
+use Rattle.paths.specs.Entry.{count-refusal, nth-refusal, Nth-says}
+use Rattle.shortest.specs.Shortest.{shortest}
+use Rattle.shortest.specs.Entry.{shortest-refusal, Shortest-says}
+use Rattle.listing.specs.Entry.{text-room, Listing-says}
+use Rattle.starred.specs.Answer.{Call, Answer, Case, All-hold, refused, counts, or-refused, read-answer, write-answer, path-answer, defined}
+use Rattle.starred.specs.Answer.Call.{reading, composing, applying, counting, kth-path, shortest-path, listing}
+use Rattle.starred.specs.Promise.{number, buffer, Promises, All-promised}
+use Rattle.starred.specs.Cases.{cases}
+use Rattle.starred.proofs.AllHold.{all-hold}
+
+-- An answer unless refused: its refusal, its numbers, and what is left in a buffer.
+
+refusal-of : (n : ℕ) (y : Answer) → y .refusal ≡ 0 → n ≡ or-refused n y .refusal
+unfolding or-refused
+refusal-of n y h = on (eqb n 0) refl
+  where
+    on : (b : Bool) → eqb n 0 ≡ b → n ≡ cond b y (refused n) .refusal
+    on true e = eqb-true n 0 e ∙ sym h
+    on false e = refl
+
+number-of : (n : ℕ) (y : Answer) (i : ℕ) → unless n (number y i) ≡ number (or-refused n y) i
+unfolding or-refused unless number
+number-of n y i = on (eqb n 0)
+  where
+    on : (b : Bool) → cond b (number y i) 0 ≡ number (cond b y (refused n)) i
+    on true = refl
+    on false = refl
+
+-- A buffer that on refusal does not depend on what would be written, as both `left-in` and `left-behind` leave it.
+left-of : (left : ℕ → List ℕ → List ℕ) → ((n : ℕ) (v w : List ℕ) → eqb n 0 ≡ false → left n v ≡ left n w) → (n : ℕ) (y : Answer) (i : ℕ)
+    → y .refusal ≡ 0 → left n (buffer y i) ≡ left (or-refused n y .refusal) (buffer (or-refused n y) i)
+unfolding or-refused
+left-of left same n y i h = on (eqb n 0) refl
+  where
+    on : (b : Bool) → eqb n 0 ≡ b → left n (buffer y i) ≡ left (cond b y (refused n) .refusal) (buffer (cond b y (refused n)) i)
+    on true e = ap (λ (m : ℕ). left m (buffer y i)) (eqb-true n 0 e ∙ sym h)
+    on false e = same n (buffer y i) (buffer (refused n) i) e
+
+left-in-of : (n : ℕ) (y : Answer) (i : ℕ) (before : List ℕ) → y .refusal ≡ 0
+    → left-in n before (buffer y i) ≡ left-in (or-refused n y .refusal) before (buffer (or-refused n y) i)
+unfolding left-in
+left-in-of n y i before h = left-of (λ m w. left-in m before w) (λ m v w e. rw e refl) n y i h
+
+left-behind-of : (n : ℕ) (y : Answer) (i : ℕ) (before : List ℕ) → y .refusal ≡ 0
+    → left-behind n before (buffer y i) ≡ left-behind (or-refused n y .refusal) before (buffer (or-refused n y) i)
+unfolding left-behind
+left-behind-of n y i before h = left-of (λ m w. left-behind m before w) (λ m v w e. rw e refl) n y i h
+
+-- Sufficient lengths, all alike: 10 does not hold.
+
+read-enough : (bs : List ℕ) (a b c d : ℕ) → 1024 ≤ a → 1024 ≤ b → 12288 ≤ c → 3072 ≤ d → read-refusal bs a b c d ≡ read-refusal bs 1024 1024 12288 3072
+unfolding read-refusal read-room
+read-enough bs a b c d ha hb hc hd = rw (le-ltb a 1024 ha, le-ltb b 1024 hb, le-ltb c 12288 hc, le-ltb d 3072 hd) refl
+
+compose-enough : (xs ys : List ℕ) (a b c : ℕ) → 59404 ≤ a → 6144 ≤ b → 1024 ≤ c → compose-refusal xs ys a b c ≡ compose-refusal xs ys 59404 6144 1024
+unfolding compose-refusal compose-room
+compose-enough xs ys a b c ha hb hc = rw (le-ltb a 59404 ha, le-ltb b 6144 hb, le-ltb c 1024 hc) refl
+
+apply-enough : (cs bs : List ℕ) (a b c : ℕ) → 59404 ≤ a → 3072 ≤ b → 1024 ≤ c → apply-refusal cs bs a b c ≡ apply-refusal cs bs 59404 3072 1024
+unfolding apply-refusal apply-room
+apply-enough cs bs a b c ha hb hc = rw (le-ltb a 59404 ha, le-ltb b 3072 hb, le-ltb c 1024 hc) refl
+
+nth-enough : (bs : List ℕ) (k a b : ℕ) → 1023 ≤ a → 1023 ≤ b → nth-refusal bs k a b ≡ nth-refusal bs k 1023 1023
+unfolding nth-refusal
+nth-enough bs k a b ha hb = rw (le-ltb a 1023 ha, le-ltb b 1023 hb) refl
+
+shortest-enough : (bs : List ℕ) (a b : ℕ) → 1023 ≤ a → 1023 ≤ b → shortest-refusal bs a b ≡ shortest-refusal bs 1023 1023
+unfolding shortest-refusal
+shortest-enough bs a b ha hb = rw (le-ltb a 1023 ha, le-ltb b 1023 hb) refl
+
+-- Each contract, with the number by which its call is refused.
+
+read-promised : (bs : List ℕ) → Promises (reading bs) (defined (reading bs))
+unfolding Promises defined number buffer read-answer
+read-promised bs r a a' b b' c c' d d' ha hb hc hd says =
+    let n = read-refusal bs 1024 1024 12288 3072 in
+    let y = read-answer (decode bs) in
+    let e = read-enough bs (length a) (length b) (length c) (length d) ha hb hc hd in
+    let told = subst (λ (m : ℕ). Read-says bs m r a a' b b' c c' d d') e says in
+    record {
+      refusal = told .refusal-is ∙ refusal-of n y refl;
+      states = told .states-is ∙ number-of n y 0;
+      arcs = told .arcs-is ∙ number-of n y 1;
+      finals = told .finals-is ∙ number-of n y 2;
+      start = told .start-is ∙ number-of n y 3;
+      final-states = told .final-states ∙ left-in-of n y 0 a refl;
+      final-weights = told .final-weights ∙ left-in-of n y 1 b refl;
+      fields = told .fields ∙ left-in-of n y 2 c refl;
+      arc-weights = told .arc-weights ∙ left-in-of n y 3 d refl;
+    }
+
+compose-promised : (xs ys : List ℕ) → Promises (composing xs ys) (defined (composing xs ys))
+unfolding Promises defined number buffer write-answer
+compose-promised xs ys r a a' b b' c c' ha hb hc says =
+    let n = compose-refusal xs ys 59404 6144 1024 in
+    let y = write-answer (composed (decode xs) (decode ys) .result) (origin-pairs (composed (decode xs) (decode ys) .steps)) in
+    let e = compose-enough xs ys (length a) (length b) (length c) ha hb hc in
+    let told = subst (λ (m : ℕ). Compose-says xs ys m r a a' b b' c c') e says in
+    record {
+      refused = told .refusal-is ∙ refusal-of n y refl;
+      length-told = told .len-is ∙ number-of n y 0;
+      table = told .table ∙ left-behind-of n y 0 a refl;
+      origins = told .origins ∙ left-behind-of n y 1 b refl;
+      work = told .states ∙ ap (λ (m : ℕ). left-behind m c []) (refusal-of n y refl);
+    }
+
+apply-promised : (cs bs : List ℕ) → Promises (applying cs bs) (defined (applying cs bs))
+unfolding Promises defined number buffer write-answer
+apply-promised cs bs r a a' b b' c c' ha hb hc says =
+    let n = apply-refusal cs bs 59404 3072 1024 in
+    let y = write-answer (lattice cs (decode bs)) (lattice-origins cs (decode bs)) in
+    let e = apply-enough cs bs (length a) (length b) (length c) ha hb hc in
+    let told = subst (λ (m : ℕ). Apply-says cs bs m r a a' b b' c c') e says in
+    record {
+      refused = told .refusal-is ∙ refusal-of n y refl;
+      length-told = told .len-is ∙ number-of n y 0;
+      table = told .table ∙ left-behind-of n y 0 a refl;
+      origins = told .origins ∙ left-behind-of n y 1 b refl;
+      work = told .pairs ∙ ap (λ (m : ℕ). left-behind m c []) (refusal-of n y refl);
+    }
+
+count-promised : (bs : List ℕ) → Promises (counting bs) (defined (counting bs))
+unfolding Promises defined number
+count-promised bs r says =
+    let n = count-refusal bs in
+    let y = counts (path-count (decode bs)) in
+    record { refusal = says .refusal-is ∙ refusal-of n y refl; count = says .count-is ∙ number-of n y 0 }
+
+nth-promised : (bs : List ℕ) (k : ℕ) → Promises (kth-path bs k) (defined (kth-path bs k))
+unfolding Promises defined number buffer path-answer
+nth-promised bs k r a a' b b' ha hb says =
+    let n = nth-refusal bs k 1023 1023 in
+    let y = path-answer (decode bs) (nth-path (decode bs) k) in
+    let e = nth-enough bs k (length a) (length b) ha hb in
+    let told = subst (λ (m : ℕ). Nth-says bs k m r a a' b b') e says in
+    record {
+      refusal = told .refusal-is ∙ refusal-of n y refl;
+      cost = told .cost-is ∙ number-of n y 0;
+      arc-count = told .arcs-is ∙ number-of n y 1;
+      label-count = told .labels-is ∙ number-of n y 2;
+      arcs = told .arcs ∙ left-in-of n y 0 a refl;
+      labels = told .labels ∙ left-in-of n y 1 b refl;
+    }
+
+shortest-promised : (bs : List ℕ) → Promises (shortest-path bs) (defined (shortest-path bs))
+unfolding Promises defined number buffer path-answer
+shortest-promised bs r a a' b b' ha hb says =
+    let n = shortest-refusal bs 1023 1023 in
+    let y = path-answer (decode bs) (shortest (decode bs)) in
+    let e = shortest-enough bs (length a) (length b) ha hb in
+    let told = subst (λ (m : ℕ). Shortest-says bs m r a a' b b') e says in
+    record {
+      refusal = told .refusal-is ∙ refusal-of n y refl;
+      cost = told .cost-is ∙ number-of n y 0;
+      arc-count = told .arcs-is ∙ number-of n y 1;
+      label-count = told .labels-is ∙ number-of n y 2;
+      arcs = told .arcs ∙ left-in-of n y 0 a refl;
+      labels = told .labels ∙ left-in-of n y 1 b refl;
+    }
+
+text-enough : (room : ℕ) → 602908 ≤ room → text-room room ≡ 0
+unfolding text-room
+text-enough room h = rw (le-ltb room 602908 h) refl
+
+listing-promised : (xs ys cs : List ℕ) → Promises (listing xs ys cs) (defined (listing xs ys cs))
+unfolding Promises defined number buffer or-else unless left-in
+listing-promised xs ys cs r out out' h says =
+    let told = subst (λ (m : ℕ). Listing-says xs ys cs m r out out') (text-enough (length out) h) says in
+    record { refusal = told .refusal-is; length-told = told .len-is; text = told .text }
+
+promises-defined : (k : Call) → Promises k (defined k)
+promises-defined (reading bs) = read-promised bs
+promises-defined (composing xs ys) = compose-promised xs ys
+promises-defined (applying cs bs) = apply-promised cs bs
+promises-defined (counting bs) = count-promised bs
+promises-defined (kth-path bs k) = nth-promised bs k
+promises-defined (shortest-path bs) = shortest-promised bs
+promises-defined (listing xs ys cs) = listing-promised xs ys cs
+
+-- So is each row of a table that holds.
+
+hold-promised : (cs : List Case) → All-hold cs → All-promised cs
+unfolding All-promised
+hold-promised [] h = tt
+hold-promised (c ∷ cs) h = (
+  subst (λ (x : Answer). Promises (c .call) x) (ap (λ (xs : List Answer). getD xs 0 (refused 0)) h) (promises-defined (c .call)),
+  hold-promised cs (ap (λ (xs : List Answer). drop 1 xs) h),
+)
+
+pub all-promised : (x y z : ℕ) → All-promised (cases x y z)
+all-promised x y z = hold-promised (cases x y z) (all-hold x y z)

@@ -1,0 +1,100 @@
+-- A case: a call, what it is handed, and what it answers; and what the definitions give, which the calls' contracts cite.
+-- Assumes nothing: these are definitions.
+use mathlib.Core.Path.{_≡_}
+use mathlib.Core.Bool.{cond}
+use mathlib.Core.List.{List, [], _∷_, map}
+use Prim.Native.Nat.{ℕ}
+use lib.Dec.{eqb}
+use lib.ListN.{length}
+use Rattle.transducer.specs.Format.{Transducer, decode}
+use Rattle.transducer.specs.Encode.{encode}
+use Rattle.transducer.specs.Path.{written-by, path-cost}
+use Rattle.transducer.specs.Entry.{arc-fields, read-refusal}
+use Rattle.compose.specs.Compose.{composed}
+use Rattle.compose.specs.Entry.{compose-refusal, origin-pairs}
+use Rattle.lattice.specs.Lattice.{lattice, lattice-origins}
+use Rattle.lattice.specs.ApplyEntry.{apply-refusal}
+use Rattle.paths.specs.Count.{path-count, nth-path}
+use Rattle.paths.specs.Entry.{count-refusal, nth-refusal}
+use Rattle.shortest.specs.Shortest.{shortest}
+use Rattle.shortest.specs.Entry.{shortest-refusal}
+use Rattle.listing.specs.Entry.{listing-refusal, text-of}
+
+-- A call with the bytes, the string and the number that it is handed (paper 01: reading a table, the join, applying a code, the count, reading k,
+-- the cheapest reading, the listing).
+pub data Call : Type 0 where
+  reading : (table : List ℕ) → Call
+  composing : (left right : List ℕ) → Call
+  applying : (string table : List ℕ) → Call
+  counting : (table : List ℕ) → Call
+  kth-path : (table : List ℕ) → (k : ℕ) → Call
+  shortest-path : (table : List ℕ) → Call
+  listing : (left right code : List ℕ) → Call
+
+-- What a call answers: the refusal or 0, the other numbers in the answer's order, and what it writes to the front of each buffer that it hands over.
+pub record Answer : Type 0 where
+  pub refusal : ℕ
+  pub numbers : List ℕ
+  pub buffers : List (List ℕ)
+
+pub record Case : Type 0 where
+  pub call : Call
+  pub answer : Answer
+
+infix 20 _gives_
+abbrev pub _gives_ : Call → Answer → Case
+c gives a = record { call = c; answer = a }
+
+-- Answers as rows have them: a refusal by a number; a transducer written, with its length and origins; a count; a path with its cost.
+abbrev pub refused : (number : ℕ) → Answer
+refused number = record { refusal = number; numbers = []; buffers = [] }
+
+abbrev pub writes : (len : ℕ) → (bytes origins : List ℕ) → Answer
+writes len bytes origins = record { refusal = 0; numbers = len ∷ []; buffers = bytes ∷ origins ∷ [] }
+
+abbrev pub counts : ℕ → Answer
+counts count = record { refusal = 0; numbers = count ∷ []; buffers = [] }
+
+abbrev pub tells : (cost : ℕ) → (arcs labels : List ℕ) → Answer
+tells cost arcs labels = record { refusal = 0; numbers = cost ∷ length arcs ∷ length labels ∷ []; buffers = arcs ∷ labels ∷ [] }
+
+-- A listing; a refusal is a text too.
+abbrev pub lists : (number : ℕ) → (text : List ℕ) → Answer
+lists number text = record { refusal = number; numbers = length text ∷ []; buffers = text ∷ [] }
+
+-- The bytes of a transducer are accepted: its four numbers, final states and weights, arc fields, arc weights.
+abbrev pub reads : (states arcs finals start : ℕ) → (final-states final-weights fields arc-weights : List ℕ) → Answer
+reads n m f start a b c d = record { refusal = 0; numbers = n ∷ m ∷ f ∷ start ∷ []; buffers = a ∷ b ∷ c ∷ d ∷ [] }
+
+-- An answer where a call is not refused.
+unfoldable pub or-refused : (number : ℕ) → Answer → Answer
+or-refused number a = cond (eqb number 0) a (refused number)
+
+-- A transducer read, one written with its origins, and a path told.
+unfoldable pub read-answer : Transducer → Answer
+read-answer t =
+    reads (t .states) (length (t .arcs)) (length (t .finals)) (t .start)
+    (map (λ f. f .state) (t .finals)) (map (λ f. f .weight) (t .finals)) (arc-fields (t .arcs)) (map (λ a. a .weight) (t .arcs))
+
+unfoldable pub write-answer : Transducer → (origins : List ℕ) → Answer
+write-answer t origins = writes (length (encode t)) (encode t) origins
+
+unfoldable pub path-answer : Transducer → (path : List ℕ) → Answer
+path-answer t p = tells (path-cost t p) p (written-by t p)
+
+-- What the definitions give for each call, lent buffers of the least lengths.
+unfoldable pub defined : Call → Answer
+defined (reading bs) = or-refused (read-refusal bs 1024 1024 12288 3072) (read-answer (decode bs))
+defined (composing xs ys) =
+    or-refused (compose-refusal xs ys 59404 6144 1024)
+    (write-answer (composed (decode xs) (decode ys) .result) (origin-pairs (composed (decode xs) (decode ys) .steps)))
+defined (applying cs bs) =
+    or-refused (apply-refusal cs bs 59404 3072 1024) (write-answer (lattice cs (decode bs)) (lattice-origins cs (decode bs)))
+defined (counting bs) = or-refused (count-refusal bs) (counts (path-count (decode bs)))
+defined (kth-path bs k) = or-refused (nth-refusal bs k 1023 1023) (path-answer (decode bs) (nth-path (decode bs) k))
+defined (shortest-path bs) = or-refused (shortest-refusal bs 1023 1023) (path-answer (decode bs) (shortest (decode bs)))
+defined (listing xs ys cs) = lists (listing-refusal xs ys cs) (text-of xs ys cs)
+
+-- The cases of a table hold: what the definitions give is what the table says, row by row.
+abbrev pub All-hold : List Case → Type 0
+All-hold cs = map (λ c. defined (c .call)) cs ≡ map (λ c. c .answer) cs

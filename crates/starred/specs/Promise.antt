@@ -1,0 +1,90 @@
+-- What the calls promise comes to the cases: whatever a call answers and leaves behind by its contract, lent buffers of at least the
+-- least lengths, is the answer of a case. Assumes nothing: these are definitions.
+use mathlib.Core.Path.{_≡_}
+use mathlib.Core.List.{List, [], _∷_}
+use Prim.Native.Nat.{ℕ, _≤_}
+use lib.ListN.{length, getD}
+use Rattle.wire.specs.Bytes.{filled}
+use Rattle.transducer.specs.declared.Header.{Header}
+use Rattle.transducer.specs.declared.Written.{Written}
+use Rattle.transducer.specs.Entry.{left-in, read-refusal, Read-says}
+use Rattle.explore.specs.Explore.{left-behind}
+use Rattle.compose.specs.declared.Answer.{Answer as Composed}
+use Rattle.compose.specs.Entry.{compose-refusal, Compose-says}
+use Rattle.lattice.specs.ApplyEntry.{apply-refusal, Apply-says}
+use Rattle.paths.specs.declared.Counted.{Counted}
+use Rattle.paths.specs.declared.Told.{Told}
+use Rattle.paths.specs.Entry.{count-refusal, Count-says, nth-refusal, Nth-says}
+use Rattle.shortest.specs.Entry.{shortest-refusal, Shortest-says}
+use Rattle.listing.specs.Entry.{text-room, Listing-says}
+use Rattle.starred.specs.Answer.{Call, Answer, Case}
+use Rattle.starred.specs.Answer.Call.{reading, composing, applying, counting, kth-path, shortest-path, listing}
+
+-- The i-th of the other numbers of an answer, and what is written to the i-th buffer; 0 and nothing on refusal.
+unfoldable pub number : Answer → (i : ℕ) → ℕ
+number x i = getD (x .numbers) i 0
+
+unfoldable pub buffer : Answer → (i : ℕ) → List ℕ
+buffer x i = getD (x .buffers) i []
+
+-- A path told: its cost, how many arcs and labels it has, and both.
+pub record Tells-as (x : Answer) (r : Told) (a a' b b' : List ℕ) : Type 0 where
+  pub refusal : r .refusal ≡ x .refusal
+  pub cost : r .cost ≡ number x 0
+  pub arc-count : r .arcs ≡ number x 1
+  pub label-count : r .labels ≡ number x 2
+  pub arcs : a' ≡ left-in (x .refusal) a (buffer x 0)
+  pub labels : b' ≡ left-in (x .refusal) b (buffer x 1)
+
+-- A transducer written with its origins, and a buffer lent only to work in.
+pub record Writes-as (x : Answer) (refusal len : ℕ) (a a' b b' c c' : List ℕ) : Type 0 where
+  pub refused : refusal ≡ x .refusal
+  pub length-told : len ≡ number x 0
+  pub table : a' ≡ left-behind (x .refusal) a (buffer x 0)
+  pub origins : b' ≡ left-behind (x .refusal) b (buffer x 1)
+  pub work : c' ≡ left-behind (x .refusal) c []
+
+pub record Reads-as (x : Answer) (r : Header) (a a' b b' c c' d d' : List ℕ) : Type 0 where
+  pub refusal : r .refusal ≡ x .refusal
+  pub states : r .states ≡ number x 0
+  pub arcs : r .arcs ≡ number x 1
+  pub finals : r .finals ≡ number x 2
+  pub start : r .start ≡ number x 3
+  pub final-states : a' ≡ left-in (x .refusal) a (buffer x 0)
+  pub final-weights : b' ≡ left-in (x .refusal) b (buffer x 1)
+  pub fields : c' ≡ left-in (x .refusal) c (buffer x 2)
+  pub arc-weights : d' ≡ left-in (x .refusal) d (buffer x 3)
+
+pub record Counts-as (x : Answer) (r : Counted) : Type 0 where
+  pub refusal : r .refusal ≡ x .refusal
+  pub count : r .count ≡ number x 0
+
+pub record Lists-as (x : Answer) (r : Written) (out out' : List ℕ) : Type 0 where
+  pub refusal : r .refusal ≡ x .refusal
+  pub length-told : r .len ≡ number x 0
+  pub text : out' ≡ filled (length out) (buffer x 0)
+
+unfoldable pub Promises : Call → Answer → Type 0
+Promises (reading bs) x =
+    (r : Header) (a a' b b' c c' d d' : List ℕ) → 1024 ≤ length a → 1024 ≤ length b → 12288 ≤ length c → 3072 ≤ length d
+    → Read-says bs (read-refusal bs (length a) (length b) (length c) (length d)) r a a' b b' c c' d d' → Reads-as x r a a' b b' c c' d d'
+Promises (composing xs ys) x =
+    (r : Composed) (a a' b b' c c' : List ℕ) → 59404 ≤ length a → 6144 ≤ length b → 1024 ≤ length c
+    → Compose-says xs ys (compose-refusal xs ys (length a) (length b) (length c)) r a a' b b' c c' → Writes-as x (r .refusal) (r .len) a a' b b' c c'
+Promises (applying cs bs) x =
+    (r : Written) (a a' b b' c c' : List ℕ) → 59404 ≤ length a → 3072 ≤ length b → 1024 ≤ length c
+    → Apply-says cs bs (apply-refusal cs bs (length a) (length b) (length c)) r a a' b b' c c' → Writes-as x (r .refusal) (r .len) a a' b b' c c'
+Promises (counting bs) x = (r : Counted) → Count-says bs (count-refusal bs) r → Counts-as x r
+Promises (kth-path bs k) x =
+    (r : Told) (a a' b b' : List ℕ) → 1023 ≤ length a → 1023 ≤ length b → Nth-says bs k (nth-refusal bs k (length a) (length b)) r a a' b b'
+    → Tells-as x r a a' b b'
+Promises (shortest-path bs) x =
+    (r : Told) (a a' b b' : List ℕ) → 1023 ≤ length a → 1023 ≤ length b → Shortest-says bs (shortest-refusal bs (length a) (length b)) r a a' b b'
+    → Tells-as x r a a' b b'
+Promises (listing xs ys cs) x =
+    (r : Written) (out out' : List ℕ) → 602908 ≤ length out → Listing-says xs ys cs (text-room (length out)) r out out' → Lists-as x r out out'
+
+-- The cases of a table are what their calls promise.
+unfoldable pub All-promised : List Case → Type 0
+All-promised [] = Unit
+All-promised (c ∷ cs) = Promises (c .call) (c .answer) × All-promised cs
