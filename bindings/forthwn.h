@@ -13,6 +13,9 @@ enum {
     FORTHWN_LATTICE_ORIGINS = 3072, /* origins of a lattice or a trimmed table */
     FORTHWN_STATES = 1024,         /* states of a composition or a lattice, to work in */
     FORTHWN_PATH = 1023,           /* arcs, and labels, of a path */
+    FORTHWN_FINALS = 1024,         /* final states, and final weights, of a table that is read */
+    FORTHWN_FIELDS = 12288,        /* its fields, four for each arc */
+    FORTHWN_WEIGHTS = 3072,        /* its arc weights */
     FORTHWN_TEXT = 602908          /* bytes of a listing */
 };
 

@@ -1,6 +1,7 @@
 // Generators of tables, damaged tables, strings and pairs.
 #![allow(dead_code)]
 
+use crate::near::near_limit;
 use crate::rng::Rng;
 
 /// A table before it is written out. Records are kept apart from the head so
@@ -83,7 +84,7 @@ fn weight(rng: &mut Rng) -> u32 {
     }
 }
 
-fn label(rng: &mut Rng, labels: usize, empty: usize) -> u16 {
+pub fn label(rng: &mut Rng, labels: usize, empty: usize) -> u16 {
     match rng.below(100) {
         x if x < empty => 0,
         99 => rng.pick(&[255, 256, 65_533, 65_534]),
@@ -502,7 +503,7 @@ pub fn damaged(rng: &mut Rng) -> (Vec<u8>, Option<u32>) {
 // -------------------------------------------------------------- strings
 
 /// The input labels along a random path: a string with good chances.
-fn along(rng: &mut Rng, d: &Draft) -> Vec<u16> {
+pub fn along(rng: &mut Rng, d: &Draft) -> Vec<u16> {
     let mut state = d.head[3];
     let mut out = Vec::new();
     for _ in 0..rng.below(9) {
@@ -543,7 +544,7 @@ pub fn string(rng: &mut Rng, d: &Draft) -> Vec<u16> {
 
 // ---------------------------------------------------------------- cases
 
-fn given(name: &str, left: Draft, right: Draft, code: &[u16], join: Option<u32>) -> Case {
+pub fn given(name: &str, left: Draft, right: Draft, code: &[u16], join: Option<u32>) -> Case {
     Case {
         name: name.to_string(),
         left: left.bytes(),
@@ -718,65 +719,6 @@ pub fn fixed() -> Vec<Case> {
     out
 }
 
-/// Random tables near the limits.
-fn near_limit(rng: &mut Rng) -> Case {
-    match rng.below(8) {
-        0..=1 => {
-            let (n, k) = (rng.range(20, 40), rng.range(20, 40));
-            let (m, j) = (rng.range(60, 320), rng.range(60, 320));
-            let labels = rng.range(3, 8);
-            let l = large(rng, n, m, labels, 8);
-            let r = large(rng, k, j, labels, 8);
-            let code = along(rng, &l);
-            given("dense pair", l, r, &code, None)
-        }
-        2 => {
-            // Few states, many arcs.
-            let (n, k) = (rng.range(1, 6), rng.range(1, 6));
-            let (m, j) = (rng.range(80, 240), rng.range(80, 240));
-            let l = large(rng, n, m, 6, 5);
-            let r = large(rng, k, j, 6, 5);
-            let code = along(rng, &l);
-            given("many arcs", l, r, &code, None)
-        }
-        3 => {
-            let n = rng.range(500, 520);
-            let l = line(n, rng.range(0, 1) as u16, 0, 1);
-            let r = loops(rng.range(1, 3), 0, 7, 0);
-            given("line near 512", l, r, &vec![1; rng.range(0, 64)], None)
-        }
-        4 => {
-            let (a, b) = (rng.range(40, 64), rng.range(40, 72));
-            given("loops near 3,072", loops(a, 1, 2, 0), loops(b, 2, 3, 0), &[1], None)
-        }
-        5 => {
-            let (n, m) = (rng.range(900, 1_024), rng.range(1_024, 3_072));
-            let l = large(rng, n, m, 3, 5);
-            let code = along(rng, &l);
-            given("large table", l, loops(1, 1, 1, 0), &code, None)
-        }
-        6 => {
-            let n = rng.range(11, 20);
-            let mut arcs: Vec<Given> = Vec::new();
-            for s in 0..n {
-                arcs.push((s, 1, label(rng, 2, 30), rng.below(n), 1));
-                arcs.push((s, 0, label(rng, 2, 30), (s + 1) % n, 0));
-                for _ in 0..rng.below(4) {
-                    arcs.push((s, rng.below(2) as u16, 2, rng.below(n), 2));
-                }
-            }
-            let d = Draft::new(n, 0, &[(rng.below(n), 0)], &arcs);
-            let code = vec![1; rng.range(50, 64)];
-            given("lattice near the limits", d, loops(1, 1, 0, 0), &code, None)
-        }
-        _ => {
-            let sizes: Vec<usize> = (0..rng.range(1, 7)).map(|_| rng.range(1, 4)).collect();
-            let code = vec![1; sizes.len()];
-            given("bundles near 99", bundles(&sizes, 1, 2), loops(1, 2, 2, 0), &code, None)
-        }
-    }
-}
-
 /// Case number k of a seed. The first ones are fixed.
 pub fn make(rng: &mut Rng, k: usize, fixed: &mut Vec<Option<Case>>) -> Case {
     if k < fixed.len() {
@@ -784,7 +726,7 @@ pub fn make(rng: &mut Rng, k: usize, fixed: &mut Vec<Option<Case>>) -> Case {
             return case;
         }
     }
-    if rng.chance(1, 80) {
+    if rng.chance(1, 60) {
         return near_limit(rng);
     }
     match rng.below(20) {
@@ -802,7 +744,7 @@ pub fn make(rng: &mut Rng, k: usize, fixed: &mut Vec<Option<Case>>) -> Case {
                 code,
                 left_refusal: if swap { None } else { known },
                 join_refusal: if swap { None } else { known },
-                    }
+            }
         }
         5..=6 => {
             let (l, r) = (ring(rng), if rng.chance(1, 2) { ring(rng) } else { small(rng, 3, 5) });

@@ -2,14 +2,15 @@
 //
 // `--cfg have_first` links refusal, read, write and compose; `--cfg have_all`
 // links every call; single calls are added with `--cfg have_trim`,
-// `have_apply`, `have_count`, `have_nth`, `have_shortest`, `have_readings`.
+// `have_apply`, `have_count`, `have_nth`, `have_shortest`, `have_readings`,
+// `have_list`.
 // Without any of them nothing is linked and only `--self` can run.
 #![allow(dead_code, clippy::too_many_arguments)]
 
 use crate::model::Told;
 
 /// Which calls are linked, in the order of `main::CALLS`.
-pub const HAVE: [bool; 10] = [
+pub const HAVE: [bool; 11] = [
     cfg!(any(have_all, have_first)),
     cfg!(any(have_all, have_first)),
     cfg!(any(have_all, have_first)),
@@ -20,6 +21,7 @@ pub const HAVE: [bool; 10] = [
     cfg!(any(have_all, have_nth)),
     cfg!(any(have_all, have_shortest)),
     cfg!(any(have_all, have_readings)),
+    cfg!(any(have_all, have_list)),
 ];
 
 /// A path's three numbers cross the interface as an array: cost, arcs, labels.
@@ -61,6 +63,8 @@ extern "C" {
         origins: *mut u16, origins_len: usize, states: *mut u32, states_len: usize,
         lattice: *mut u8, lattice_len: usize, lattice_origins: *mut u16, lattice_origins_len: usize,
         pairs: *mut u32, pairs_len: usize, count: *mut u32) -> u32;
+    fn forthwn_list(left: *const u8, left_len: usize, right: *const u8, right_len: usize,
+        code: *const u8, code_len: usize, out: *mut u8, out_cap: usize, out_len: *mut u32) -> u32;
 }
 
 #[cfg(any(have_all, have_first))]
@@ -186,3 +190,16 @@ pub fn readings(left: &[u8], right: &[u8], string: &[u16], table: &mut [u8], ori
 }
 #[cfg(not(any(have_all, have_readings)))]
 pub use crate::model::readings;
+
+#[cfg(any(have_all, have_list))]
+#[rustfmt::skip]
+pub fn list(left: &[u8], right: &[u8], code: &[u8], out: &mut [u8]) -> (u32, u32) {
+    let mut length = DIRTY;
+    let refused = unsafe {
+        forthwn_list(left.as_ptr(), left.len(), right.as_ptr(), right.len(),
+            code.as_ptr(), code.len(), out.as_mut_ptr(), out.len(), &mut length)
+    };
+    (refused, length)
+}
+#[cfg(not(any(have_all, have_list)))]
+pub use crate::model::list;

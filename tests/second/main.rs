@@ -1,7 +1,8 @@
 // Compares the static library with the naive model, call by call and byte by
 // byte: tests/second/run builds and runs it. Built with `--cfg have_all` it
 // compares every call (library.rs has the finer choices);
-// `--cfg mock` puts a second copy of the model in the place of the library.
+// `--cfg mock` puts a second copy of the model in the place of the library,
+// `--cfg planted` a faulty model in the place of the model (faults.py).
 //
 //   --seed N     seed of the cases; the default is printed
 //   --cases N    how many cases (20,000)
@@ -18,14 +19,26 @@
 mod cases;
 mod inner;
 mod model;
+mod near;
 mod rng;
 
+// The other side of a comparison: the library, or a second copy of the model.
 #[cfg(mock)]
 #[path = "model.rs"]
 mod other;
 #[cfg(not(mock))]
 #[path = "library.rs"]
 mod other;
+
+// The model's side: the model, or a shared library that has it with a fault
+// (faults.py writes planted.rs). What is handed on from call to call is made
+// by the model without one.
+#[cfg(planted)]
+mod planted;
+#[cfg(not(planted))]
+use model as tried;
+#[cfg(planted)]
+use planted as tried;
 
 use cases::Case;
 use model::{bytes_of, parse, Table};
@@ -38,17 +51,17 @@ use std::time::Instant;
 const SEED: u64 = 20_240_229;
 const CASES: usize = 20_000;
 
-pub const CALLS: [&str; 10] = [
-    "refusal", "read", "write", "compose", "trim", "apply", "count", "nth", "shortest", "readings",
+pub const CALLS: [&str; 11] = [
+    "refusal", "read", "write", "compose", "trim", "apply", "count", "nth", "shortest", "readings", "list",
 ];
 
 #[cfg(mock)]
-const HAVE: [bool; 10] = [true; 10];
+const HAVE: [bool; 11] = [true; 11];
 #[cfg(not(mock))]
-const HAVE: [bool; 10] = other::HAVE;
+const HAVE: [bool; 11] = other::HAVE;
 
 /// The refusals each call can give.
-const CAN: [&[u32]; 10] = [
+const CAN: [&[u32]; 11] = [
     &[0, 1, 2, 3, 4, 5, 6, 7, 8],
     &[0, 1, 2, 3, 4, 5, 6, 7, 8, 10],
     &[0, 3, 4, 5, 6, 7, 8, 10],
@@ -59,6 +72,7 @@ const CAN: [&[u32]; 10] = [
     &[0, 1, 2, 3, 4, 5, 6, 7, 8, 10, 14, 15],
     &[0, 1, 2, 3, 4, 5, 6, 7, 8, 10, 16],
     &[0, 1, 2, 3, 4, 5, 6, 7, 8, 9, 10, 11, 12, 13, 14],
+    &[0, 1, 2, 3, 4, 5, 6, 7, 8, 9, 10, 11, 12, 13],
 ];
 
 // ---------------------------------------------------------- lent buffers
@@ -177,7 +191,7 @@ struct Failure {
 
 struct Run {
     rng: Rng,
-    seen: [[u64; 17]; 10],
+    seen: [[u64; 17]; 11],
     trace: bool,
 }
 
@@ -250,7 +264,7 @@ impl Run {
         if !HAVE[0] {
             return Ok(());
         }
-        let m = model::refusal(bytes);
+        let m = tried::refusal(bytes);
         let o = other::refusal(bytes);
         self.compare(0, m, (m, o), &[("table", bytes)], &[])
     }
@@ -264,7 +278,7 @@ impl Run {
         let mut fw = self.lend::<u32>("final_weights", n[1]);
         let mut fields = self.lend::<u16>("fields", n[2]);
         let mut aw = self.lend::<u32>("arc_weights", n[3]);
-        let m = model::read(bytes, fs.m(), fw.m(), fields.m(), aw.m());
+        let m = tried::read(bytes, fs.m(), fw.m(), fields.m(), aw.m());
         let o = other::read(bytes, fs.o(), fw.o(), fields.o(), aw.o());
         self.compare(1, m.0, (m, o), &[("table", bytes)], &[&fs, &fw, &fields, &aw])
     }
@@ -276,7 +290,7 @@ impl Run {
         let given = self.given(t);
         let n = self.lengths([model::TABLE_BYTES]);
         let mut out = self.lend::<u8>("out", n[0]);
-        let m = model::write(given.head, &given.fs, &given.fw, &given.fields, &given.aw, out.m());
+        let m = tried::write(given.head, &given.fs, &given.fw, &given.fields, &given.aw, out.m());
         let o = other::write(given.head, &given.fs, &given.fw, &given.fields, &given.aw, out.o());
         let inputs: [(&str, &[u8]); 5] = [
             ("head", &longs(&given.head)),
@@ -296,7 +310,7 @@ impl Run {
         let mut table = self.lend::<u8>("table", n[0]);
         let mut origins = self.lend::<u16>("origins", n[1]);
         let mut states = self.lend::<u32>("states", n[2]);
-        let m = model::compose(left, right, table.m(), origins.m(), states.m());
+        let m = tried::compose(left, right, table.m(), origins.m(), states.m());
         let o = other::compose(left, right, table.o(), origins.o(), states.o());
         self.compare(3, m.0, (m, o), &[("left", left), ("right", right)], &[&table, &origins, &states])
     }
@@ -308,7 +322,7 @@ impl Run {
         let n = self.lengths([model::TABLE_BYTES, model::LATTICE_ORIGINS]);
         let mut out = self.lend::<u8>("out", n[0]);
         let mut origins = self.lend::<u16>("origins", n[1]);
-        let m = model::trim(bytes, out.m(), origins.m());
+        let m = tried::trim(bytes, out.m(), origins.m());
         let o = other::trim(bytes, out.o(), origins.o());
         self.compare(4, m.0, (m, o), &[("table", bytes)], &[&out, &origins])
     }
@@ -321,7 +335,7 @@ impl Run {
         let mut lattice = self.lend::<u8>("lattice", n[0]);
         let mut origins = self.lend::<u16>("origins", n[1]);
         let mut pairs = self.lend::<u32>("pairs", n[2]);
-        let m = model::apply(code, bytes, lattice.m(), origins.m(), pairs.m());
+        let m = tried::apply(code, bytes, lattice.m(), origins.m(), pairs.m());
         let o = other::apply(code, bytes, lattice.o(), origins.o(), pairs.o());
         let inputs: [(&str, &[u8]); 2] = [("string", &words(code)), ("table", bytes)];
         self.compare(5, m.0, (m, o), &inputs, &[&lattice, &origins, &pairs])
@@ -331,7 +345,7 @@ impl Run {
         if !HAVE[6] {
             return Ok(());
         }
-        let m = model::count(bytes);
+        let m = tried::count(bytes);
         let o = other::count(bytes);
         self.compare(6, m.0, (m, o), &[("table", bytes)], &[])
     }
@@ -343,7 +357,7 @@ impl Run {
         let n = self.lengths([model::PATH_ARCS, model::PATH_ARCS]);
         let mut arcs = self.lend::<u16>("arcs", n[0]);
         let mut labels = self.lend::<u16>("labels", n[1]);
-        let m = model::nth(bytes, k, arcs.m(), labels.m());
+        let m = tried::nth(bytes, k, arcs.m(), labels.m());
         let o = other::nth(bytes, k, arcs.o(), labels.o());
         let inputs: [(&str, &[u8]); 2] = [("table", bytes), ("k", &longs(&[k]))];
         self.compare(7, m.0, (m, o), &inputs, &[&arcs, &labels])
@@ -356,7 +370,7 @@ impl Run {
         let n = self.lengths([model::PATH_ARCS, model::PATH_ARCS]);
         let mut arcs = self.lend::<u16>("arcs", n[0]);
         let mut labels = self.lend::<u16>("labels", n[1]);
-        let m = model::shortest(bytes, arcs.m(), labels.m());
+        let m = tried::shortest(bytes, arcs.m(), labels.m());
         let o = other::shortest(bytes, arcs.o(), labels.o());
         self.compare(8, m.0, (m, o), &[("table", bytes)], &[&arcs, &labels])
     }
@@ -376,10 +390,27 @@ impl Run {
         let mut l = self.lend::<u8>("lattice", n[3]);
         let mut lo = self.lend::<u16>("lattice_origins", n[4]);
         let mut p = self.lend::<u32>("pairs", n[5]);
-        let x = model::readings(left, right, code, t.m(), o.m(), s.m(), l.m(), lo.m(), p.m());
+        let x = tried::readings(left, right, code, t.m(), o.m(), s.m(), l.m(), lo.m(), p.m());
         let y = other::readings(left, right, code, t.o(), o.o(), s.o(), l.o(), lo.o(), p.o());
         let inputs: [(&str, &[u8]); 3] = [("left", left), ("right", right), ("string", &words(code))];
         self.compare(9, x.0, (x, y), &inputs, &[&t, &o, &s, &l, &lo, &p])
+    }
+
+    /// The bytes of the code as a file has them, now and then with one more.
+    fn list(&mut self, left: &[u8], right: &[u8], code: &[u16]) -> Outcome {
+        if !HAVE[10] {
+            return Ok(());
+        }
+        let mut code = words(code);
+        if self.rng.chance(1, 12) {
+            code.push(self.rng.next() as u8);
+        }
+        let n = self.lengths([model::TEXT_BYTES]);
+        let mut out = self.lend::<u8>("text", n[0]);
+        let m = tried::list(left, right, &code, out.m());
+        let o = other::list(left, right, &code, out.o());
+        let inputs: [(&str, &[u8]); 3] = [("left", left), ("right", right), ("code", &code)];
+        self.compare(10, m.0, (m, o), &inputs, &[&out])
     }
 
     /// What a table's writing is given: its numbers, with something behind
@@ -500,7 +531,8 @@ impl Run {
                 }
             }
         }
-        self.readings(left, right, code)
+        self.readings(left, right, code)?;
+        self.list(left, right, code)
     }
 }
 
@@ -608,7 +640,7 @@ fn usage(message: &str) -> ! {
 }
 
 fn check_library(seed: u64, range: std::ops::Range<usize>, trace: bool, out: &Path) -> bool {
-    let linked: Vec<_> = (0..10).filter(|&i| HAVE[i]).map(|i| CALLS[i]).collect();
+    let linked: Vec<_> = (0..CALLS.len()).filter(|&i| HAVE[i]).map(|i| CALLS[i]).collect();
     if linked.is_empty() {
         eprintln!("no call is linked: build with --cfg have_first, have_all or mock, or use --self");
         return false;
@@ -616,7 +648,7 @@ fn check_library(seed: u64, range: std::ops::Range<usize>, trace: bool, out: &Pa
     println!("calls: {}", linked.join(" "));
     let mut fixed: Vec<_> = cases::fixed().into_iter().map(Some).collect();
     let single = range.len() == 1;
-    let mut run = Run { rng: Rng::new(seed, 0), seen: [[0; 17]; 10], trace };
+    let mut run = Run { rng: Rng::new(seed, 0), seen: [[0; 17]; 11], trace };
     let program = std::env::args().next().unwrap_or_default();
     // Names the case being run; it is left behind if a call ends the program.
     let running = out.join("running.txt");
@@ -648,7 +680,7 @@ fn check_library(seed: u64, range: std::ops::Range<usize>, trace: bool, out: &Pa
         let told: Vec<_> = CAN[i].iter().map(|&r| format!("{r}:{}", run.seen[i][r as usize])).collect();
         println!("{call:9} {}", told.join(" "));
     }
-    let missed: Vec<_> = (0..10)
+    let missed: Vec<_> = (0..CALLS.len())
         .filter(|&i| HAVE[i])
         .flat_map(|i| CAN[i].iter().map(move |&r| (i, r)))
         .filter(|&(i, r)| run.seen[i][r as usize] == 0)

@@ -783,34 +783,39 @@ pub fn readings(
     count(&lattice[..length as usize])
 }
 
-/// What the listing program prints for the contents of its three files.
-pub fn listing(left: &[u8], right: &[u8], code: &[u8]) -> String {
-    let up_to = |x: &[u8]| x[..x.len().min(65_536)].to_vec();
-    let (left, right, code) = (up_to(left), up_to(right), up_to(code));
+// -------------------------------------------------------------- listing
+
+/// The longest text: its first line, and 98 lines of a number of two digits,
+/// a cost of ten and 1,023 labels of five.
+pub const TEXT_BYTES: usize = "readings 98\n".len() + 98 * ("97 1024000000\n".len() + 1_023 * " 65534".len());
+
+/// The refusal of a listing and its text, a code being the bytes of its file.
+fn listed(left: &[u8], right: &[u8], code: &[u8]) -> (u32, String) {
+    let refused = |r: u32| (r, format!("refused {r}\n"));
     let mut table = vec![0; TABLE_BYTES];
     let mut origins = vec![0; JOIN_ORIGINS];
     let mut work = vec![0; WORK_STATES];
-    let (r, length) = compose(&left, &right, &mut table, &mut origins, &mut work);
+    let (r, length) = compose(left, right, &mut table, &mut origins, &mut work);
     if r != 0 {
-        return format!("refused {r}\n");
+        return refused(r);
     }
     if code.len() % 2 != 0 {
-        return "refused 9\n".to_string();
+        return refused(9);
     }
-    let code: Vec<u16> = (0..code.len() / 2).map(|i| two(&code, 2 * i)).collect();
+    let code: Vec<u16> = (0..code.len() / 2).map(|i| two(code, 2 * i)).collect();
     let mut lattice = vec![0; TABLE_BYTES];
     let joined = &table[..length as usize];
     let (r, length) = apply(&code, joined, &mut lattice, &mut origins, &mut work);
     if r != 0 {
-        return format!("refused {r}\n");
+        return refused(r);
     }
     let lattice = &lattice[..length as usize];
     let (r, n) = count(lattice);
     if r == 14 {
-        return "readings endless\n".to_string();
+        return (0, "readings endless\n".to_string());
     }
     if n as usize == MANY {
-        return "readings 99+\n".to_string();
+        return (0, "readings 99+\n".to_string());
     }
     let mut text = format!("readings {n}\n");
     for k in 0..n {
@@ -822,7 +827,24 @@ pub fn listing(left: &[u8], right: &[u8], code: &[u8]) -> String {
         }
         text += "\n";
     }
-    text
+    (0, text)
+}
+
+/// What the listing program prints for the contents of its three files.
+pub fn listing(left: &[u8], right: &[u8], code: &[u8]) -> String {
+    let up_to = |x: &[u8]| x[..x.len().min(65_536)].to_vec();
+    listed(&up_to(left), &up_to(right), &up_to(code)).1
+}
+
+/// The listing as a call. A buffer that is too short stays as it was, before
+/// all else; every other refusal is told and is a text as well.
+pub fn list(left: &[u8], right: &[u8], code: &[u8], out: &mut [u8]) -> (u32, u32) {
+    if out.len() < TEXT_BYTES {
+        return (10, 0);
+    }
+    let (refused, text) = listed(left, right, code);
+    fill(out, text.as_bytes());
+    (refused, text.len() as u32)
 }
 
 // ------------------------------------------------- brute-force enumeration

@@ -5,13 +5,13 @@
 //         tests/second/shim.rs --out-dir target/shim
 //
 // or, with `--crate-type cdylib`, as a shared library that faults.py swaps.
-// `--cfg planted` takes the model from planted.rs.
+// `--cfg faulty` takes the model from faulty.rs, which faults.py writes.
 #![allow(unexpected_cfgs, clippy::missing_safety_doc, clippy::too_many_arguments)]
 
-#[cfg(not(planted))]
+#[cfg(not(faulty))]
 mod model;
-#[cfg(planted)]
-#[path = "planted.rs"]
+#[cfg(faulty)]
+#[path = "faulty.rs"]
 mod model;
 
 use std::slice::{from_raw_parts as view, from_raw_parts_mut as lent};
@@ -103,5 +103,14 @@ pub unsafe extern "C" fn forthwn_readings(left: *const u8, left_n: usize, right:
     let (r, x) = model::readings(view(left, left_n), view(right, right_n), view(code, code_n),
         lent(t, t_n), lent(o, o_n), lent(s, s_n), lent(l, l_n), lent(lo, lo_n), lent(p, p_n));
     *count = x;
+    r
+}
+
+#[no_mangle]
+#[rustfmt::skip]
+pub unsafe extern "C" fn forthwn_list(left: *const u8, left_n: usize, right: *const u8, right_n: usize,
+    code: *const u8, code_n: usize, out: *mut u8, out_n: usize, length: *mut u32) -> u32 {
+    let (r, x) = model::list(view(left, left_n), view(right, right_n), view(code, code_n), lent(out, out_n));
+    *length = x;
     r
 }

@@ -1,0 +1,73 @@
+//! Times our calls for bench/growth: for each line `CALL NAME FILE..` of the standard input a line `CALL NAME NANOSECONDS ANSWER`.
+#[path = "../bindings/forthwn.rs"]
+mod forthwn;
+
+use forthwn::{Chain, PATH};
+use std::hint::black_box;
+use std::time::Instant;
+
+/// The least of batches of at least 20 microseconds within 30 milliseconds, as growth.cc takes it.
+fn least_ns(call: &mut dyn FnMut() -> usize) -> f64 {
+    let first = Instant::now();
+    black_box(call());
+    let batch = (20_000.0 / (first.elapsed().as_nanos() as f64).max(1.0)).max(1.0) as u32;
+    let (mut least, begun) = (f64::INFINITY, Instant::now());
+    let mut i = 0;
+    while i < 5 || begun.elapsed().as_millis() < 30 {
+        let at = Instant::now();
+        for _ in 0..batch {
+            black_box(call());
+        }
+        least = least.min(at.elapsed().as_nanos() as f64 / f64::from(batch));
+        i += 1;
+    }
+    least
+}
+
+/// The states of a table that a call has written.
+fn states(table: &[u8]) -> usize {
+    usize::from(u16::from_le_bytes([table[4], table[5]]))
+}
+
+/// The call as a function that tells the number it comes to: states, a count (14 where infinitely many), a cost.
+fn call_of(call: &str, files: Vec<Vec<u8>>) -> Box<dyn FnMut() -> usize> {
+    let mut c = Chain::new();
+    let (mut arcs, mut labels) = (vec![0; PATH], vec![0; PATH]);
+    match call {
+        "refusal" => Box::new(move || {
+            forthwn::accepts(black_box(&files[0])).expect("accepts");
+            states(&files[0])
+        }),
+        "compose" => Box::new(move || {
+            forthwn::compose(&files[0], &files[1], &mut c.table, &mut c.origins, &mut c.states).expect("compose");
+            states(&c.table)
+        }),
+        "apply" => Box::new(move || {
+            forthwn::apply(&[], &files[0], &mut c.lattice, &mut c.lattice_origins, &mut c.pairs).expect("apply");
+            states(&c.lattice)
+        }),
+        "trim" => Box::new(move || {
+            forthwn::trim(&files[0], &mut c.lattice, &mut c.lattice_origins).expect("trim");
+            states(&c.lattice)
+        }),
+        "count" => Box::new(move || forthwn::count(&files[0]).unwrap_or_else(|refusal| refusal) as usize),
+        "nth" => {
+            let last = forthwn::count(&files[0]).expect("count") - 1;
+            Box::new(move || forthwn::nth(&files[0], last, &mut arcs, &mut labels).expect("nth").cost as usize)
+        }
+        "shortest" => Box::new(move || forthwn::shortest(&files[0], &mut arcs, &mut labels).expect("shortest").cost as usize),
+        _ => panic!("no call {call}"),
+    }
+}
+
+fn main() {
+    for line in std::io::stdin().lines() {
+        let line = line.expect("a line");
+        let mut words = line.split_whitespace();
+        let (call, name) = (words.next().expect("a call"), words.next().expect("a name"));
+        let files = words.map(|path| std::fs::read(path).unwrap_or_else(|e| panic!("{path}: {e}"))).collect();
+        let mut run = call_of(call, files);
+        let answer = run();
+        println!("{call} {name} {:.1} {answer}", least_ns(&mut run));
+    }
+}
