@@ -16,6 +16,7 @@ use Rattle.transducer.specs.Encode.{head-record, encode}
 use Rattle.transducer.specs.Leaf.{Finals-by-state}
 use Rattle.transducer.proofs.Encode.{length-encode}
 use Rattle.transducer.proofs.RoundTrip.{accepted-good, refusal-encode, decode-encode, length-encode-below}
+use Rattle.transducer.proofs.Runs.{good-within}
 use Rattle.explore.specs.declared.Walk.{Walk}
 use Rattle.explore.specs.Explore.{built-refusal}
 use Rattle.explore.specs.Walk.{explored, Told}
@@ -28,15 +29,17 @@ use Rattle.lattice.specs.Apply.{string-good, same-state, steps, final-st
 use Rattle.lattice.specs.ApplyEntry.{Apply-says}
 use Rattle.lattice.specs.Applying.{pack, next, found, key-finals, closed, Closes, Refused-with}
 use Rattle.lattice.specs.Lattice.{lattice, lattice-origins}
-use Rattle.lattice.specs.Marks.{Trims}
+use Rattle.lattice.specs.Marks.{All-reached, Trims}
 use Rattle.lattice.specs.Trim.{trimmed, origins-kept}
 use Rattle.lattice.proofs.AppliedTrails.{first}
 use Rattle.lattice.proofs.ApplySays.{says-zeroed, says-written}
+use Rattle.lattice.proofs.BuiltReached.{built-reached}
 use Rattle.lattice.proofs.Closing.{told-finals}
 use Rattle.lattice.proofs.FoundBuilt.{found-explored, found-length, found-arcs, found-origins}
 use Rattle.lattice.proofs.KeyFinals.{key-final, key-weight, pack-final, pack-weight}
 use Rattle.lattice.proofs.KeyParts.{keying, good-head}
 use Rattle.lattice.proofs.LatticeGood.{state-weight, applied-light, good-applied}
+use Rattle.lattice.proofs.SameState.{same-state-decides}
 use Rattle.lattice.proofs.Tracing.{refilled, map-same}
 use Rattle.lattice.proofs.TrimmedGood.{trimmed-good}
 use Rattle.lattice.proofs.TrimmedKeeps.{length-origins, trimmed-arc}
@@ -99,6 +102,11 @@ module _ (cs bs : List ℕ) (bytes : Bytes bs) (ok : refusal bs ≡ 0) (string :
       z-good : Good z
       z-good = good-applied cs t good string .1 fine
 
+      z-reached : All-reached z
+      unfolding applied
+      z-reached =
+          built-reached same-state (steps cs t) (final-state cs t) (state-weight t) (first t) same-state-decides few (good-within z z-good)
+
       -- The lattice before trimming, as bytes
 
       module _ {codes : List ℕ} (by-state : Finals-by-state t codes) where
@@ -136,6 +144,9 @@ module _ (cs bs : List ℕ) (bytes : Bytes bs) (ok : refusal bs ≡ 0) (string :
 
           decoded : decode (take (10252 + 16 * w .arcs - from) (drop from table')) ≡ z
           decoded = ap decode bytes-are ∙ decode-encode z z-good
+
+          pub bytes-reached : All-reached (decode (take (10252 + 16 * w .arcs - from) (drop from table')))
+          bytes-reached = subst All-reached (sym decoded) z-reached
 
           -- What trimming leaves of it
 

@@ -1,15 +1,21 @@
 -- Finals and arcs of accepted bytes, as a loop loads them: they lie inside, and their states are below the number of states. Assumes nothing.
 use mathlib.Core.Path.{_≡_, sym, ap, _∙_}
-use mathlib.Core.List.{List}
-use Prim.Native.Nat.{ℕ, _+_, _*_, _≤_, _<_}
+use mathlib.Core.Bool.{Bool, true, false}
+use mathlib.Core.List.{List, [], _∷_}
+use Prim.Native.Nat.{ℕ, zero, suc, _+_, _*_, _≤_, _<_}
+use native.Mathlib.Nat.{not-suc-le-zero, le-of-suc-le-suc}
 use native.Mathlib.Omega.{arith}
+use lib.Dec.{leb}
 use lib.ListN.{length, getD}
 use Rattle.wire.specs.Bytes.{Bytes}
+use Rattle.wire.proofs.Places.{and-true}
 use Rattle.transducer.specs.declared.Arc.{Arc}
 use Rattle.transducer.specs.declared.Final.{Final}
-use Rattle.transducer.specs.Format.{decode, refusal, head-finals, final-at}
-use Rattle.transducer.specs.Path.{arc}
-use Rattle.transducer.proofs.Good.{final-state-below}
+use Rattle.transducer.specs.Format.{decode, refusal, sources-stay, head-finals, final-at}
+use Rattle.transducer.specs.Path.{arc, no-arc}
+use Rattle.lattice.specs.Marks.{from-end, to-end}
+use Rattle.transducer.proofs.Good.{final-state-below, sources-stay-good}
+use Rattle.transducer.proofs.Index.{stay-floor}
 use Rattle.transducer.proofs.Offsets.{length-accepted, decode-states, length-finals, final-offset, accepted-within, accepted-good}
 use Rattle.transducer.proofs.RoundTrip.{accepted-good as accepted-is-good}
 use Rattle.transducer.proofs.Runs.{Within, good-within}
@@ -20,6 +26,20 @@ pub record Arc-ends (n : ℕ) (a : Arc) : Type 0 where
   pub target-below : a .target < n
   pub few : n ≤ 1024
 
+pub ends-below : (back : Bool) {n from to : ℕ} {a : Arc} → Arc-ends n a → from ≡ from-end back a → to ≡ to-end back a → (from < 1024) × (to < 1024)
+ends-below false two f g = (omega (arith, two), omega (arith, two))
+ends-below true two f g = (omega (arith, two), omega (arith, two))
+
+stay-order : (floor : ℕ) (l : List Arc) (j i : ℕ) → sources-stay floor l ≡ true → j ≤ i → i < length l → getD l j no-arc .source ≤ getD l i no-arc .source
+unfolding sources-stay
+stay-order floor [] j i h k m = absurd (not-suc-le-zero m)
+stay-order floor (a ∷ l) zero zero h k m = omega arith
+stay-order floor (a ∷ l) zero (suc i) h k m =
+    stay-floor (a .source) l i (and-true (leb floor (a .source)) (sources-stay (a .source) l) h .1) (le-of-suc-le-suc m)
+stay-order floor (a ∷ l) (suc j) zero h k m = absurd (omega arith)
+stay-order floor (a ∷ l) (suc j) (suc i) h k m =
+    stay-order (a .source) l j i (and-true (leb floor (a .source)) (sources-stay (a .source) l) h .1) (le-of-suc-le-suc k) (le-of-suc-le-suc m)
+
 module _ (bs : List ℕ) (bytes : Bytes bs) (ok : refusal bs ≡ 0) where
   pub within-states : Within (decode bs)
   within-states = good-within (decode bs) (accepted-is-good bs bytes ok)
@@ -29,6 +49,10 @@ module _ (bs : List ℕ) (bytes : Bytes bs) (ok : refusal bs ≡ 0) where
 
   pub arc-ends : (i : ℕ) (a : Arc) → i < length (decode bs .arcs) → a ≡ arc (decode bs) i → Arc-ends (decode bs .states) a
   arc-ends i a h e = rw e (record { source-below = within-states .leaves i h; target-below = within-states .arrives i h; few = few-states })
+
+  pub sources-order : (j i : ℕ) → j ≤ i → i < length (decode bs .arcs) → arc (decode bs) j .source ≤ arc (decode bs) i .source
+  unfolding arc
+  sources-order j i l h = stay-order 0 (decode bs .arcs) j i (sources-stay-good (decode bs) (accepted-good bs bytes ok)) l h
 
   -- A final that is loaded in a turn of a loop over the finals.
   pub final-inside : {place : ℕ} (i : ℕ) → i < head-finals bs → place ≡ 12 + 10 * i → place + 10 ≤ length bs

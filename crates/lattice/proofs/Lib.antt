@@ -3,6 +3,7 @@ pub mod AppliedSteps
 pub mod AppliedTrails
 pub mod AppliedWritten
 pub mod ApplySays
+pub mod BuiltReached
 pub mod Closing
 pub mod Counted
 pub mod Ends
@@ -20,6 +21,7 @@ pub mod Running
 pub mod SameState
 pub mod ServedArcs
 pub mod Sweeps
+pub mod Sweeping
 pub mod Symbols
 pub mod Tracing
 pub mod TrimSays

@@ -1,9 +1,9 @@
--- Marks that spread along arcs: one mark (`Spread`), and a sweep (`Swept`), arc by arc. Assumes nothing.
-use mathlib.Core.Path.{_≡_, refl, sym, _∙_}
-use mathlib.Core.Bool.{Bool, true, false}
+-- Marks that spread along arcs: one mark (`Spread`), and any number of them (`Widened`). Assumes nothing.
+use mathlib.Core.Path.{_≡_, refl, sym, ap, subst, _∙_}
+use mathlib.Core.Bool.{Bool, true, false, cond}
 use mathlib.Core.Logic.{_⊎_, inl, inr}
 use mathlib.Core.List.{List, [], _∷_}
-use Prim.Native.Nat.{ℕ, zero, suc, _+_, _≤_, _<_}
+use Prim.Native.Nat.{ℕ, zero, suc, _+_, _-_, _≤_, _<_}
 use native.Mathlib.Nat.{not-suc-le-zero, le-of-suc-le-suc}
 use native.Mathlib.Decide.{ℕ-discrete}
 use native.Mathlib.Omega.{arith}
@@ -12,7 +12,7 @@ use lib.Seq.{getD-set-same, getD-set-other}
 use Rattle.transducer.specs.declared.Arc.{Arc}
 use Rattle.transducer.specs.Format.{Transducer}
 use Rattle.transducer.specs.Path.{arc}
-use Rattle.lattice.specs.Marks.{number, Spread, Swept, Passes}
+use Rattle.lattice.specs.Marks.{number, Spread, from-end, to-end, Passes, Widened}
 
 pub never : {A : Type 0} (b : Bool) → b ≡ false → b ≡ true → A
 never b e h = let z : _≡_ {A = ℕ} 0 1 = cc in absurd (omega arith)
@@ -30,6 +30,11 @@ number-set (true ∷ ms) zero h e = never true e refl
 number-set (false ∷ ms) zero h e = omega arith
 number-set (m ∷ ms) (suc i) h e = omega (arith, number-set ms i (le-of-suc-le-suc h) e)
 
+pub set-there : (ms : List Bool) (i : ℕ) → getD ms i false ≡ true → set ms i true ≡ ms
+set-there [] i e = refl
+set-there (m ∷ ms) zero e = ap (λ (b : Bool). b ∷ ms) (sym e)
+set-there (m ∷ ms) (suc i) e = ap (λ (l : List Bool). m ∷ l) (set-there ms i e)
+
 -- One mark
 
 module _ (ms : List Bool) (from to : ℕ) where
@@ -44,8 +49,9 @@ module _ (ms : List Bool) (from to : ℕ) where
         from-old = λ s h. inl h;
       }
 
-  pub spread-there : getD ms to false ≡ true → Spread ms from to ms 0
+  pub spread-there : getD ms to false ≡ true → Spread ms from to (set ms to true) 0
   spread-there e =
+      rw (set-there ms to e)
       record { long = refl; same = λ _. refl; counted = omega arith; grows = λ s h. h; covers = λ _. e; from-old = λ s h. inl h }
 
   pub spread-new : to < length ms → getD ms from false ≡ true → getD ms to false ≡ false → Spread ms from to (set ms to true) 1
@@ -67,71 +73,25 @@ module _ (ms : List Bool) (from to : ℕ) where
       old s h (yes e) = inr (e, here)
       old s h (no n) = inl (sym (getD-set-other ms to s true false n) ∙ h)
 
--- A sweep
+-- More marks by arcs
 
-pub swept-first : (t : Transducer) (from to : Arc → ℕ) (i : ℕ) (ms : List Bool) → Swept t from to i i ms ms 0
-swept-first t from to i ms =
+pub widened-none : (t : Transducer) (back : Bool) (ms : List Bool) → Widened t back ms ms
+widened-none t back ms = record { long = refl; grows = λ s h. h; sound = λ p pass old s h. old s h }
+
+pub widened-twice : {t : Transducer} {back : Bool} {ms mid last : List Bool} → Widened t back ms mid → Widened t back mid last → Widened t back ms last
+widened-twice v w =
     record {
-      long = refl;
-      same = λ _. refl;
-      counted = omega arith;
-      grows = λ s h. h;
-      covers = λ j l h _. absurd (omega arith);
-      sound = λ p pass old s h. old s h;
+      long = w .long ∙ v .long;
+      grows = λ s h. w .grows s (v .grows s h);
+      sound = λ p pass old. w .sound p pass (v .sound p pass old);
     }
 
-module _ {t : Transducer} {from to : Arc → ℕ} {ms mid last : List Bool} {gained more : ℕ} where
-  swept-more : {low high : ℕ} (low' high' i : ℕ) (a : Arc) → a ≡ arc t i → i < length (t .arcs)
-      → ((j : ℕ) → low' ≤ j → j < high' → (j ≡ i) ⊎ ((low ≤ j) × (j < high)))
-      → Swept t from to low high ms mid gained → Spread mid (from a) (to a) last more → Swept t from to low' high' ms last (gained + more)
-  swept-more {low} {high} low' high' i a is below cases w sp =
-      record {
-        long = sp .long ∙ w .long;
-        same = λ z.
-            let one : gained ≡ 0 = omega arith in
-            let two : more ≡ 0 = omega arith in
-            sp .same two ∙ w .same one;
-        counted = omega (arith, sp .counted, w .counted);
-        grows = λ s h. sp .grows s (w .grows s h);
-        covers = λ j l h e. on j e (cases j l h);
-        sound = λ p pass old s h. over p pass old s (sp .from-old s h);
-      }
-    where
-      here : Spread mid (from (arc t i)) (to (arc t i)) last more
-      here = rw is at sp
-
-      on : (j : ℕ) → getD ms (from (arc t j)) false ≡ true → (j ≡ i) ⊎ ((low ≤ j) × (j < high)) → getD last (to (arc t j)) false ≡ true
-      on j e (inl q) =
-          let e' : getD ms (from (arc t i)) false ≡ true = rw q at e in
-          rw q (here .covers (w .grows (from (arc t i)) e'))
-      on j e (inr b) = sp .grows (to (arc t j)) (w .covers j (b .0) (b .1) e)
-
-      over : (p : ℕ → Bool) → Passes t from to p → ((s : ℕ) → getD ms s false ≡ true → p s ≡ true) → (s : ℕ)
-          → (getD mid s false ≡ true) ⊎ ((s ≡ to a) × (getD mid (from a) false ≡ true)) → p s ≡ true
-      over p pass old s (inl e) = w .sound p pass old s e
-      over p pass old s (inr b) =
-          let e : getD mid (from (arc t i)) false ≡ true = rw is at (b .1) in
-          let q : s ≡ to (arc t i) = rw is at (b .0) in
-          rw q (pass i below (w .sound p pass old (from (arc t i)) e))
-
-  -- Arcs in order, and from the last to the first.
-  pub swept-on : {i : ℕ} (a : Arc) → a ≡ arc t i → i < length (t .arcs)
-      → Swept t from to 0 i ms mid gained → Spread mid (from a) (to a) last more → Swept t from to 0 (i + 1) ms last (gained + more)
-  swept-on {i} a is below w sp = swept-more 0 (i + 1) i a is below (λ j l h. on j h (ℕ-discrete j i)) w sp
-    where
-      on : (j : ℕ) → j < i + 1 → Dec (j ≡ i) → (j ≡ i) ⊎ ((0 ≤ j) × (j < i))
-      on j h (yes e) = inl e
-      on j h (no n) = inr (omega arith, omega arith)
-
-  pub swept-back : {high : ℕ} (i before : ℕ) (a : Arc) → before ≡ i + 1 → a ≡ arc t i → i < length (t .arcs)
-      → Swept t from to before high ms mid gained → Spread mid (from a) (to a) last more → Swept t from to i high ms last (gained + more)
-  swept-back {high} i before a b is below w sp = swept-more i high i a is below (λ j l h. on j l h (ℕ-discrete j i)) w sp
-    where
-      on : (j : ℕ) → i ≤ j → j < high → Dec (j ≡ i) → (j ≡ i) ⊎ ((before ≤ j) × (j < high))
-      on j l h (yes e) = inl e
-      on j l h (no n) = inr (omega arith, h)
-
--- There are no more marks than states, so what is new stays small.
-pub swept-few : {t : Transducer} {from to : Arc → ℕ} {low high gained : ℕ} {ms mid : List Bool} → length ms ≡ 1024
-    → Swept t from to low high ms mid gained → number ms + gained ≤ 1024
-swept-few {mid = mid} long w = omega (arith, number-most mid, w .counted, w .long)
+pub widened-one : {t : Transducer} {back : Bool} {ms ms' : List Bool} {gained : ℕ} (i : ℕ) → i < length (t .arcs)
+    → Spread ms (from-end back (arc t i)) (to-end back (arc t i)) ms' gained → Widened t back ms ms'
+widened-one {t} {back} {ms} {ms'} i below sp =
+    record { long = sp .long; grows = sp .grows; sound = λ p pass old s h. on p pass old s (sp .from-old s h) }
+  where
+    on : (p : ℕ → Bool) → Passes t back p → ((s : ℕ) → getD ms s false ≡ true → p s ≡ true) → (s : ℕ)
+        → (getD ms s false ≡ true) ⊎ ((s ≡ to-end back (arc t i)) × (getD ms (from-end back (arc t i)) false ≡ true)) → p s ≡ true
+    on p pass old s (inl e) = old s e
+    on p pass old s (inr b) = rw (b .0) (pass i below (old (from-end back (arc t i)) (b .1)))

@@ -59,17 +59,17 @@ running-next {f} {s} {next} {index} step h e m =
     on r l (yes q) = rw q (getD-set-same index (s + 1) (next + step) 0 (omega (arith, m .long)) ∙ top)
     on r l (no n) = getD-set-other index (s + 1) r (next + step) 0 n ∙ m .so-far r (omega arith)
 
-count-same-property : (f g : ℕ → Bool) → ((s : ℕ) → f s ≡ g s) → (n : ℕ) → count n f ≡ count n g
+count-same-property : (f g : ℕ → Bool) (most : ℕ) → ((s : ℕ) → s < most → f s ≡ g s) → (n : ℕ) → n ≤ most → count n f ≡ count n g
 unfolding count
-count-same-property f g e zero = refl
-count-same-property f g e (suc n) = ap₂ _+_ (count-same-property f g e n) (ap (λ (b : Bool). cond b 1 0) (e n))
+count-same-property f g most e zero l = refl
+count-same-property f g most e (suc n) l = ap₂ _+_ (count-same-property f g most e n (omega arith)) (ap (λ (b : Bool). cond b 1 0) (e n l))
 
-pub running-stop : {f : ℕ → Bool} {s next : ℕ} {index : List ℕ} (t : Transducer) → t .states ≤ s → ((s : ℕ) → f s ≡ useful t s) → Running f s next index
+pub running-stop : {f : ℕ → Bool} {s next : ℕ} {index : List ℕ} (t : Transducer) → t .states ≤ s → ((s : ℕ) → s < t .states → f s ≡ useful t s) → Running f s next index
     → Renumbered t index
 running-stop {f} t h e m =
     record {
       long = m .long;
-      at-state = λ r l. m .so-far r (omega arith) ∙ count-same-property f (useful t) e r ∙ sym (renumbered-count t r);
+      at-state = λ r l. m .so-far r (omega arith) ∙ count-same-property f (useful t) (t .states) e r l ∙ sym (renumbered-count t r);
     }
 
 -- A state is useful where the number behind its own is another.

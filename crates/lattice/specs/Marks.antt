@@ -1,9 +1,10 @@
 -- Marks of states, and what the parts of trimming answer. Assumes nothing: these are definitions.
 use mathlib.Core.Path.{_≡_}
-use mathlib.Core.Bool.{Bool, true, false, cond}
+use mathlib.Core.Bool.{Bool, true, false, _&&_, not, cond}
 use mathlib.Core.Logic.{_⊎_}
 use mathlib.Core.List.{List, [], _∷_}
 use Prim.Native.Nat.{ℕ, _+_, _≤_, _<_}
+use lib.Dec.{ltb}
 use lib.ListN.{length, getD}
 use lib.Seq.{sets}
 use Rattle.wire.specs.Bytes.{filled}
@@ -11,7 +12,7 @@ use Rattle.transducer.specs.declared.Arc.{Arc}
 use Rattle.transducer.specs.Format.{Transducer}
 use Rattle.transducer.specs.Encode.{arc-records, encode}
 use Rattle.transducer.specs.Path.{arc}
-use Rattle.lattice.specs.Trim.{renumbered, kept-arcs, kept-numbers, trimmed, origins-kept}
+use Rattle.lattice.specs.Trim.{comes-to, renumbered, kept-arcs, kept-numbers, trimmed, origins-kept}
 
 -- How many marks are set.
 unfoldable pub number : List Bool → ℕ
@@ -27,25 +28,43 @@ pub record Spread (ms : List Bool) (from to : ℕ) (ms' : List Bool) (gained : �
   pub covers : getD ms from false ≡ true → getD ms' to false ≡ true
   pub from-old : (s : ℕ) → getD ms' s false ≡ true → (getD ms s false ≡ true) ⊎ ((s ≡ to) × (getD ms from false ≡ true))
 
--- The two ends of an arc.
-abbrev pub source-of : Arc → ℕ
-source-of a = a .source
+-- The end of an arc that marks spread from, and the one that they spread to: along the arc, or back where so told.
+abbrev pub from-end : (back : Bool) → Arc → ℕ
+from-end back a = cond back (a .target) (a .source)
 
-abbrev pub target-of : Arc → ℕ
-target-of a = a .target
+abbrev pub to-end : (back : Bool) → Arc → ℕ
+to-end back a = cond back (a .source) (a .target)
 
 -- A property that passes along each arc, from one end to the other.
-abbrev pub Passes : Transducer → (from to : Arc → ℕ) → (ℕ → Bool) → Type 0
-Passes t from to p = (i : ℕ) → i < length (t .arcs) → p (from (arc t i)) ≡ true → p (to (arc t i)) ≡ true
+abbrev pub Passes : Transducer → (back : Bool) → (ℕ → Bool) → Type 0
+Passes t back p =
+    (i : ℕ) → i < length (t .arcs) → p (from-end back (arc t i)) ≡ true → p (to-end back (arc t i)) ≡ true
 
--- Marks spread along the arcs numbered from `low` to below `high`: a property that passes along arcs and held of the marked states still does.
-pub record Swept (t : Transducer) (from to : Arc → ℕ) (low high : ℕ) (ms ms' : List Bool) (gained : ℕ) : Type 0 where
+-- More marks, all of them by arcs: a property that passes along arcs and held of the marked states still does.
+pub record Widened (t : Transducer) (back : Bool) (ms ms' : List Bool) : Type 0 where
   pub long : length ms' ≡ length ms
-  pub same : gained ≡ 0 → ms' ≡ ms
-  pub counted : number ms' ≡ number ms + gained
   pub grows : (s : ℕ) → getD ms s false ≡ true → getD ms' s false ≡ true
-  pub covers : (i : ℕ) → low ≤ i → i < high → getD ms (from (arc t i)) false ≡ true → getD ms' (to (arc t i)) false ≡ true
-  pub sound : (p : ℕ → Bool) → Passes t from to p → ((s : ℕ) → getD ms s false ≡ true → p s ≡ true) → (s : ℕ) → getD ms' s false ≡ true → p s ≡ true
+  pub sound : (p : ℕ → Bool) → Passes t back p → ((s : ℕ) → getD ms s false ≡ true → p s ≡ true) → (s : ℕ) → getD ms' s false ≡ true → p s ≡ true
+
+-- Whether an arc leads against the order of a sweep, from a higher state to a lower one or the other way round for the last arc first, and has
+-- not both marks. Along any other arc no mark is left to spread once the sweep is over, since arcs stand by their sources.
+unfoldable pub waits : List Bool → (down : Bool) → (from to : ℕ) → Bool
+waits ms down from to = cond down (ltb from to) (ltb to from) && not (getD ms from false && getD ms to false)
+
+-- Marks spread along each arc once: `gained` of them are new at least, and where it is 0 no more are to come.
+pub record Swept (t : Transducer) (back : Bool) (ms ms' : List Bool) (gained : ℕ) : Type 0 where
+  pub wider : Widened t back ms ms'
+  pub more : number ms + gained ≤ number ms'
+  pub closed : gained ≡ 0 → Passes t back (λ s. getD ms' s false)
+
+-- Marks spread until no more are to come.
+pub record Settled (t : Transducer) (back : Bool) (ms ms' : List Bool) : Type 0 where
+  pub wider : Widened t back ms ms'
+  pub closed : Passes t back (λ s. getD ms' s false)
+
+-- Paths from the start come to each state.
+abbrev pub All-reached : Transducer → Type 0
+All-reached t = (s : ℕ) → s < t .states → comes-to (t .states) t s ≡ true
 
 -- The marks are those of a property.
 pub record Marked (p : ℕ → Bool) (ms : List Bool) : Type 0 where

@@ -327,7 +327,7 @@ fn apply_into(
     let codes = transducer::final_codes(bytes, f);
     let from = close(&codes, string.len() as u32, pairs, w, &mut table);
     let end = ARCS_AT + 16 * m;
-    let len = trimming::trim_into(&table[from..end], lattice, origins);
+    let len = trimming::trim_into(&table[from..end], true, lattice, origins);
     let kept = wire::u16_at(lattice, 6) as usize;
     trace(origins, kept, &arcs);
     wire::clear32(pairs, 0);

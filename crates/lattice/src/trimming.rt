@@ -1,5 +1,6 @@
 // Trimming: what lies on accepting paths, in its order, renumbered.
 ghost use mathlib.Core.Path.{_≡_};
+ghost use mathlib.Core.Bool.{true};
 ghost use Prim.Native.Nat.{_+_, _*_, _≤_, _<_};
 ghost use lib.ListN.{length, getD};
 ghost use lib.Seq.{sets};
@@ -7,7 +8,7 @@ ghost use Rattle.transducer.specs.Format.{refusal, decode, head-finals};
 ghost use Rattle.transducer.specs.Encode.{final-records};
 ghost use Rattle.transducer.specs.Leaf.{Opened};
 ghost use Rattle.lattice.specs.Trim.{kept-finals};
-ghost use Rattle.lattice.specs.Marks.{Renumbered, Arcs-put, Trims};
+ghost use Rattle.lattice.specs.Marks.{All-reached, Renumbered, Arcs-put, Trims};
 ghost use Rattle.lattice.specs.TrimEntry.{Trim-says, trim-refusal};
 use crate::sweep;
 use transducer::Arc;
@@ -84,16 +85,19 @@ fn put_arcs(
 }
 
 // The new number of a state.
-fn new_number(index: &[u16; 1025], state: usize) -> u16
+fn new_number(index: &[u16; 1025], state: u16) -> u16
     requires { ⌜ state < 1025 ⌝ }
     ensures { λ r. ⌜ r ≡ getD (now (index .entry)) state 0 ⌝ }
 {
-    index[state]
+    let s = state as usize;
+    let number = index[s];
+    return number;
 }
 
-// Writes what trimming leaves of accepted bytes, and for each arc the number that it had. Answers the length in bytes.
-pub fn trim_into(table: &[u8], out: &mut [u8], origins: &mut [u16]) -> usize
-    requires { ⌜ (refusal (now table) ≡ 0) × (59404 ≤ length (now out)) × (3072 ≤ length (now origins)) ⌝ }
+// Writes what trimming leaves of accepted bytes, and for each arc the number that it had. Answers the length in bytes. `reached` tells that
+// each state is known to be reached.
+pub fn trim_into(table: &[u8], reached: bool, out: &mut [u8], origins: &mut [u16]) -> usize
+    requires { ⌜ (refusal (now table) ≡ 0) × (59404 ≤ length (now out)) × (3072 ≤ length (now origins)) × (reached ≡ true → All-reached (decode (now table))) ⌝ }
     ensures { λ r. ⌜ Trims (decode (now (table .entry))) r (now (out .entry)) (now (out .exit)) (now (origins .entry)) (now (origins .exit)) ⌝ }
 {
     let head = transducer::head_of(table);
@@ -102,7 +106,7 @@ pub fn trim_into(table: &[u8], out: &mut [u8], origins: &mut [u16]) -> usize
     let f = head.finals as usize;
     let start = head.start as usize;
     let first = 12 + 10 * f;
-    let index = sweep::renumber(table, first, n, m, f, start);
+    let index = sweep::renumber(table, first, n, m, f, start, reached);
     if index[start] == index[start + 1] {
         transducer::put_head(out, 1, 0, 0, 0);
         wire::clear8(out, 12);
@@ -118,7 +122,7 @@ pub fn trim_into(table: &[u8], out: &mut [u8], origins: &mut [u16]) -> usize
         index[n],
         arcs as u16,
         finals as u16,
-        new_number(&index, start),
+        new_number(&index, head.start as u16),
     );
     wire::clear8(out, end);
     wire::clear16(origins, arcs);
@@ -149,7 +153,7 @@ pub fn trim(table: &[u8], out: &mut [u8], origins: &mut [u16]) -> Written
             len: 0,
         };
     }
-    let len = trim_into(table, out, origins);
+    let len = trim_into(table, false, out, origins);
     Written {
         refusal: 0,
         len: len as u32,

@@ -6,7 +6,7 @@ use native.Mathlib.Omega.{arith}
 use lib.ListN.{length, replicate, length-replicate}
 use Rattle.wire.specs.Bytes.{Bytes}
 use Rattle.transducer.proofs.Accept.{bounds}
-use Rattle.lattice.proofs.AppliedWritten.{says-11, says-12, ends-inside, bytes-accepted, len-small, out-long, traceable, says-lattice}
+use Rattle.lattice.proofs.AppliedWritten.{says-11, says-12, ends-inside, bytes-accepted, bytes-reached, len-small, out-long, traceable, says-lattice}
 use Rattle.lattice.proofs.KeyParts.{string-short}
 use Rattle.lattice.proofs.TrimSays.{Opening, opening}
 use Rattle.lattice.proofs.applying.apply_into.Statement.{statement}
@@ -188,7 +188,13 @@ trim-into-requires c κs =
     let k = lent (opened (walked else2)) in
     let pre = entry k .pre in
     let told = walked else2 .walk-all .ensures .done (else2 .before .if1 .left) in
-    (bytes-accepted _ _ (is-bytes k) (pre .accepted) (pre .good) told (else2 .if2 .left) (coded made .final-codes .ensures) (made .close .ensures _ _ told), pre .lattice-long, pre .origins-long)
+    let codes = coded made .final-codes .ensures in
+    let closes = made .close .ensures _ _ told in (
+      bytes-accepted _ _ (is-bytes k) (pre .accepted) (pre .good) told (else2 .if2 .left) codes closes,
+      pre .lattice-long,
+      pre .origins-long,
+      λ _. bytes-reached _ _ (is-bytes k) (pre .accepted) (pre .good) told (else2 .if2 .left) codes closes,
+    )
 
 u16-at-requires : tie.Need-u16-at-requires
 u16-at-requires c κs =

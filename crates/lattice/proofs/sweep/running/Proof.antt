@@ -55,7 +55,7 @@ loop-again c =
 
 returns : tie.Need-returns Inv-loop μ-loop
 unfolding has-both
-returns c = λ t e same. running-stop t (omega (arith, c .loop-test .left)) same (c .before .loop .inv .1)
+returns c = λ t e same. running-stop t (omega (arith, c .loop-test .left)) (λ s l. same s (omega arith)) (c .before .loop .inv .1)
 
 pub running-spec : {M : Type 1} → statement M
 running-spec =

@@ -16,16 +16,16 @@ returns c =
     let x = c .before .before .args in
     spread-none (x .marks .now) (x .from) (x .to) (not-true (getD (x .marks .now) (x .from) false) (c .if1 .taken))
 
-element-copy-out-if2 : tie.Need-element-copy-out-if2
-element-copy-out-if2 c = search needs
+element-copy-out-old : tie.Need-element-copy-out-old
+element-copy-out-old c = search needs
+
+element-write-marks : tie.Need-element-write-marks
+element-write-marks c = search needs
 
 returns-2 : tie.Need-returns-2
 returns-2 c =
     let x = c .before .before .before .before .args in
     spread-there (x .marks .now) (x .from) (x .to) (c .if2 .taken)
-
-element-write-marks : tie.Need-element-write-marks
-element-write-marks c = search needs
 
 returns-3 : tie.Need-returns-3
 returns-3 c =
@@ -35,12 +35,4 @@ returns-3 c =
     (not-false (getD (x .marks .now) (x .from) false) (c .before .before .if1 .left)) (c .if2 .left)
 
 pub spread-spec : {M : Type 1} → statement M
-spread-spec =
-    tie.close
-    (tie.spec
-    element-copy-out-if1
-    returns
-    element-copy-out-if2
-    returns-2
-    element-write-marks
-    returns-3)
+spread-spec = tie.close (tie.spec element-copy-out-if1 returns element-copy-out-old element-write-marks returns-2 returns-3)

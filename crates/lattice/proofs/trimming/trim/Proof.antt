@@ -1,8 +1,10 @@
 -- One test after the other, each with its law in `TrimSays`; then what `trim_into` leaves.
 use borrow.Author.Needs.{needs}
 use mathlib.Core.Path.{refl, sym, _∙_}
+use mathlib.Core.Bool.{false}
 use native.Mathlib.Omega.{arith}
 use Rattle.wire.specs.Bytes.{Bytes}
+use Rattle.lattice.proofs.Marks.{never}
 use Rattle.lattice.proofs.TrimSays.{says-bad, says-short-table, says-short-origins, says-trimmed, trims-short}
 use Rattle.lattice.proofs.trimming.trim.Statement.{statement}
 use Rattle.lattice.proofs.trimming.trim.Tie as tie
@@ -32,7 +34,8 @@ returns-3 c = says-short-origins (c .before .before .before .refusal .ensures) (
 trim-into-requires : tie.Need-trim-into-requires
 trim-into-requires c κs =
     let passed = c .before .before in
-    (sym (passed .before .before .before .refusal .ensures) ∙ passed .before .before .if1 .left, passed .before .if2 .left, passed .if3 .left)
+    let ok = sym (passed .before .before .before .refusal .ensures) ∙ passed .before .before .if1 .left in
+    (ok, passed .before .if2 .left, passed .if3 .left, λ e. never false refl e)
 
 cast-t12 : tie.Need-cast-t12
 cast-t12 c =

@@ -98,7 +98,7 @@ renumber-requires : tie.Need-renumber-requires
 renumber-requires c κs =
     let h = opened c in
     let k = head-is h in
-    (is-opened h, k .states-are, k .arcs-are, k .head-finals-are, k .start-is, k .few-states)
+    (is-opened h, k .states-are, k .arcs-are, k .head-finals-are, k .start-is, k .few-states, start h .pre .3)
 
 mul-if1 : tie.Need-mul-if1
 mul-if1 c = omega (arith, head-is (opened (c .before)))
@@ -188,9 +188,14 @@ cast-put-head c = omega (arith, few-arcs (arcs-put c))
 cast-put-head-2 : tie.Need-cast-put-head-2
 cast-put-head-2 c = omega (arith, few-finals (finals-put (arcs-put c)) .0)
 
+cast-new-number : tie.Need-cast-new-number
+cast-new-number c =
+    let k = head-is (opened (numbered (finals-put (arcs-put (c .before .before))) .before .before)) in
+    omega (arith, k .few-states, k .start-below)
+
 new-number-requires : tie.Need-new-number-requires
 new-number-requires c κs =
-    let k = head-is (opened (numbered (finals-put (arcs-put (c .before))) .before .before)) in
+    let k = head-is (opened (numbered (finals-put (arcs-put (c .before .before))) .before .before)) in
     omega (arith, k .few-states, k .start-below)
 
 -- The buffers keep their lengths.
@@ -204,18 +209,18 @@ origins-long c = omega (arith, c .put-arcs .kept)
 
 put-head-requires-2 : tie.Need-put-head-requires-2
 put-head-requires-2 c κs =
-    let put = arcs-put (c .before .before) in
+    let put = arcs-put (c .before .before .before) in
     omega (arith, table-long put, start (opened (numbered (finals-put put) .before .before)) .pre .1)
 
 clear8-requires-2 : tie.Need-clear8-requires-2
 clear8-requires-2 c κs =
     let head = c .before .before .before in
-    let put = arcs-put (start-read head .before .before) in
+    let put = arcs-put (start-read head .before .before .before) in
     omega (arith, head .put-head2 .kept, table-long put, few-arcs put, few-finals (finals-put put) .1)
 
 clear16-requires-2 : tie.Need-clear16-requires-2
 clear16-requires-2 c κs =
-    let put = arcs-put (start-read (head-put (c .before .before .before)) .before .before) in
+    let put = arcs-put (start-read (head-put (c .before .before .before)) .before .before .before) in
     omega (arith, origins-long put, few-arcs put, start (opened (numbered (finals-put put) .before .before)) .pre .2)
 
 same-length-3 : tie.Need-same-length-3
@@ -229,7 +234,7 @@ returns-2 c =
     let zeroed = c .before .before in
     let table = cleared-table zeroed in
     let head = head-put table in
-    let arcs = arcs-put (start-read head .before .before) in
+    let arcs = arcs-put (start-read head .before .before .before) in
     let finals = finals-put arcs in
     let some = numbered finals in
     let h = opened (some .before .before) in
@@ -278,6 +283,7 @@ trim-into-spec =
     array-read-put-head
     cast-put-head
     cast-put-head-2
+    cast-new-number
     new-number-requires
     put-head-requires-2
     clear8-requires-2
