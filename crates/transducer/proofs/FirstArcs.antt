@@ -1,31 +1,25 @@
--- The two loops that make the first-arc index: `Marking` and `Marked` say what the first does, `Summed` how far the second has come.
+-- The two loops that make the first-arc index: `Marking` says how far the first has come, `Summed` the second.
 -- Assumes nothing.
-use mathlib.Core.Path.{_≡_, sym, ap, _∙_}
+use mathlib.Core.Path.{_≡_, refl, sym, ap, _∙_}
 use mathlib.Core.Bool.{true}
 use mathlib.Core.List.{List, [], _∷_, _++_}
-use Prim.Native.Nat.{ℕ, suc, _+_, _*_, _≤_, _<_, max}
+use Prim.Native.Nat.{ℕ, zero, suc, _+_, _*_, _≤_, _<_, max}
 use native.Mathlib.Numerals.{add-one}
 use native.Mathlib.Decide.{ℕ-discrete, decLe}
 use native.Mathlib.Omega.{arith}
-use lib.ListN.{length, getD, set, replicate, length-set, length-replicate, getD-replicate}
-use lib.Seq.{getD-set-same, getD-set-other}
+use lib.ListN.{length, getD, set, take, replicate, length-set, length-replicate, getD-replicate}
+use lib.Seq.{take-all, getD-set-same, getD-set-other}
 use Rattle.wire.specs.Bytes.{Bytes, two, places}
 use Rattle.wire.proofs.Places.{length-places, places-snoc, take-places}
 use Rattle.transducer.specs.declared.Arc.{Arc}
 use Rattle.transducer.specs.Format.{Transducer, decode, refusal, sources-stay, head-arcs, head-finals, arc-at}
 use Rattle.transducer.specs.Path.{arc, no-arc}
-use Rattle.transducer.specs.Leaf.{arcs-below, Indexed}
+use Rattle.transducer.specs.Leaf.{Opened, arcs-below, Marked, Indexed}
 use Rattle.transducer.proofs.Good.{sources-stay-good, arc-states-below}
-use Rattle.transducer.proofs.Index.{arcs-below-append, arcs-below-zero, arcs-below-length, arcs-below-lt, arcs-below-ge, stay-take, stay-before}
+use Rattle.transducer.proofs.Index.{arcs-below-append, arcs-below-zero, arcs-below-length, arcs-below-lt, arcs-below-ge, stay-rises, stay-take, stay-before}
 use Rattle.transducer.proofs.Offsets.{length-accepted, decode-states, decode-arcs, length-arcs, arc-offset, accepted-within, accepted-good}
 
 -- The first loop
-
--- One place up from each state stands a number that takes the maximum from the arcs below that state to those below the next.
-pub record Marked (xs : List Arc) (index : List ℕ) : Type 0 where
-  pub long : length index ≡ 1025
-  pub at-first : getD index 0 0 ≡ 0
-  pub at-state : (s : ℕ) → s < 1024 → max (arcs-below s xs) (getD index (suc s) 0) ≡ arcs-below (suc s) xs
 
 pub marked-none : Marked [] (replicate 1025 0)
 unfolding arcs-below
@@ -82,11 +76,29 @@ pub record Marking (bs : List ℕ) (i place : ℕ) (index : List ℕ) : Type 0 w
   pub there : place ≡ 12 + 10 * head-finals bs + 16 * i + 4
   pub marked : Marked (places i (12 + 10 * head-finals bs) 16 (arc-at bs)) index
 
-pub marking-first : (bs : List ℕ) (place : ℕ) → place ≡ 12 + 10 * head-finals bs + 4 → Marking bs 0 place (replicate 1025 0)
-unfolding places
-marking-first bs place e = record { within = omega arith; there = omega arith; marked = marked-none }
+-- The numbers by which arcs are found are small.
+pub record Small (bs : List ℕ) (first : ℕ) : Type 0 where
+  pub first-most : first ≤ 10252
+  pub arcs-are : length (decode bs .arcs) ≡ head-arcs bs
+  pub arcs-most : head-arcs bs ≤ 3072
+  pub long : length bs ≡ first + 16 * head-arcs bs
+
+set-twice : (l : List ℕ) (i a b : ℕ) → set (set l i a) i b ≡ set l i b
+set-twice [] i a b = refl
+set-twice (x ∷ xs) zero a b = refl
+set-twice (x ∷ xs) (suc i) a b = ap (λ (l : List ℕ). x ∷ l) (set-twice xs i a b)
 
 module _ (bs : List ℕ) (bytes : Bytes bs) (ok : refusal bs ≡ 0) where
+  pub opened-small : {first : ℕ} → Opened bs first → Small bs first
+  opened-small o =
+      let within = accepted-within bs bytes ok in
+      record {
+        first-most = omega (arith, o .first-is, within .states, within .finals);
+        arcs-are = length-arcs bs bytes ok;
+        arcs-most = within .arcs;
+        long = omega (arith, o .first-is, length-accepted bs bytes ok);
+      }
+
   pub marking-inside : {i place : ℕ} {index : List ℕ} → i < head-arcs bs → Marking bs i place index → place + 12 ≤ length bs
   marking-inside h m = omega (arith, length-accepted bs bytes ok, m .there)
 
@@ -118,11 +130,61 @@ module _ (bs : List ℕ) (bytes : Bytes bs) (ok : refusal bs ≡ 0) where
       marked-next old a index source i is (sym (length-places i from 16 (arc-at bs))) stay-more below (m .marked) in
       record { within = omega arith; there = omega (arith, m .there); marked = rw more next }
 
-  pub marking-stop : {i place : ℕ} {index : List ℕ} → head-arcs bs ≤ i → Marking bs i place index → Marked (decode bs .arcs) index
-  marking-stop {i} h m =
-      let e : i ≡ head-arcs bs = omega (arith, m .within) in
-      let all : decode bs .arcs ≡ places i (12 + 10 * head-finals bs) 16 (arc-at bs) = rw e (decode-arcs bs bytes ok) in
-      rw all (m .marked)
+  -- The first `i` arcs, where they stand.
+  first-places : (i : ℕ) → i ≤ head-arcs bs → take i (decode bs .arcs) ≡ places i (12 + 10 * head-finals bs) 16 (arc-at bs)
+  first-places i h = rw (decode-arcs bs bytes ok) (take-places i (head-arcs bs) (12 + 10 * head-finals bs) 16 (arc-at bs) h)
+
+  pub marking-first : {i place : ℕ} {index : List ℕ} → i ≤ head-arcs bs → place ≡ 12 + 10 * head-finals bs + 16 * i + 4 →
+      Marked (take i (decode bs .arcs)) index → Marking bs i place index
+  marking-first {i} h e m = record { within = h; there = e; marked = rw (first-places i h) at m }
+
+  pub marking-stop : {i place : ℕ} {index : List ℕ} → Marking bs i place index → Marked (take i (decode bs .arcs)) index
+  marking-stop {i} m = rw (first-places i (m .within)) (m .marked)
+
+  -- A block of arcs of one source: the marks of the earlier ones are overwritten.
+  marking-run : (k source : ℕ) {i place : ℕ} {index : List ℕ} → i + suc k ≤ head-arcs bs → ((j : ℕ) → j ≤ k → source ≡ two bs (place + 16 * j)) →
+      Marking bs i place index → Marking bs (i + suc k) (place + 16 * suc k) (set index (source + 1) (i + suc k))
+  marking-run zero source {i} {place} h e m =
+      let none : place + 16 * 0 ≡ place = omega arith in
+      let here : source ≡ two bs place = rw none at (e 0 (omega arith)) in
+      marking-next source (omega arith) here m
+  marking-run (suc k) source {i} {place} {index} h e m =
+      let more : i + suc (suc k) ≡ i + suc k + 1 = omega arith in
+      let further : place + 16 * suc (suc k) ≡ place + 16 * suc k + 16 = omega arith in
+      let before : Marking bs (i + suc k) (place + 16 * suc k) (set index (source + 1) (i + suc k)) =
+      marking-run k source (omega arith) (λ j l. e j (omega arith)) m in
+      rw (more, further, ← set-twice index (source + 1) (i + suc k) (i + suc k + 1)) (marking-next source (omega arith) (e (suc k) (omega arith)) before)
+
+  source-at : (i j place : ℕ) → place ≡ 12 + 10 * head-finals bs + 16 * i + 4 → i + j < head-arcs bs →
+      getD (decode bs .arcs) (i + j) no-arc .source ≡ two bs (place + 16 * j)
+  unfolding arc arc-at
+  source-at i j place e h =
+      let there : 12 + 10 * head-finals bs + 16 * (i + j) + 4 ≡ place + 16 * j = omega arith in
+      ap (λ (a : Arc). a .source) (arc-offset bs bytes ok (i + j) (omega (arith, length-arcs bs bytes ok))) ∙ ap (two bs) there
+
+  pub marking-block : {i place : ℕ} {index : List ℕ} (source : ℕ) → i + 32 ≤ head-arcs bs → source ≡ two bs place → source ≡ two bs (place + 496) →
+      Marking bs i place index → Marking bs (i + 32) (place + 512) (set index (source + 1) (i + 32))
+  marking-block {i} {place} source h first last m = marking-run 31 source h same m
+    where
+      rises : (j k : ℕ) → j ≤ k → k ≤ 31 → two bs (place + 16 * j) ≤ two bs (place + 16 * k)
+      rises j k p q =
+          omega (
+            arith,
+            source-at i j place (m .there) (omega arith),
+            source-at i k place (m .there) (omega arith),
+            stay-rises 0 (decode bs .arcs) (i + j) (i + k) (sources-stay-good (decode bs) (accepted-good bs bytes ok)) (omega arith)
+                (omega (arith, length-arcs bs bytes ok)),
+          )
+
+      same : (j : ℕ) → j ≤ 31 → source ≡ two bs (place + 16 * j)
+      same j p =
+          let none : place + 16 * 0 ≡ place = omega arith in
+          let low : two bs place ≤ two bs (place + 16 * j) = rw none at (rises 0 j (omega arith) p) in
+          omega (arith, low, rises j 31 p (omega arith))
+
+-- Once all arcs are marked.
+pub marked-all : (xs : List Arc) {arcs : ℕ} {index : List ℕ} → arcs ≡ length xs → Marked (take arcs xs) index → Marked xs index
+marked-all xs {arcs} e m = let whole : take arcs xs ≡ xs = take-all arcs xs (omega arith) in rw whole at m
 
 -- The second loop
 

@@ -92,6 +92,17 @@ stay-floor floor (x ∷ xs) (suc i) h l =
     let both = and-true (leb floor (x .source)) (sources-stay (x .source) xs) h in
     omega (arith, leb-true floor (x .source) (both .0), stay-floor (x .source) xs i (both .1) (le-of-suc-le-suc l))
 
+pub stay-rises : (floor : ℕ) (xs : List Arc) (i j : ℕ) → sources-stay floor xs ≡ true → i ≤ j → j < length xs →
+    getD xs i no-arc .source ≤ getD xs j no-arc .source
+unfolding sources-stay
+stay-rises floor [] i j h p l = absurd (not-suc-le-zero l)
+stay-rises floor (x ∷ xs) zero zero h p l = omega arith
+stay-rises floor (x ∷ xs) zero (suc j) h p l =
+    stay-floor (x .source) xs j (and-true (leb floor (x .source)) (sources-stay (x .source) xs) h .1) (le-of-suc-le-suc l)
+stay-rises floor (x ∷ xs) (suc i) zero h p l = absurd (not-suc-le-zero p)
+stay-rises floor (x ∷ xs) (suc i) (suc j) h p l =
+    stay-rises (x .source) xs i j (and-true (leb floor (x .source)) (sources-stay (x .source) xs) h .1) (le-of-suc-le-suc p) (le-of-suc-le-suc l)
+
 pub stay-take : (floor i : ℕ) (xs : List Arc) → sources-stay floor xs ≡ true → sources-stay floor (take i xs) ≡ true
 unfolding sources-stay
 stay-take floor zero xs h = refl

@@ -6,6 +6,7 @@ pub mod Encode
 pub mod Finals
 pub mod FirstArcs
 pub mod Fits
+pub mod Glance
 pub mod Good
 pub mod GoodParts
 pub mod Index

@@ -1,7 +1,8 @@
 -- The tests of refusals 5 to 8, gathered in one pass over the finals and the arcs. Assumes nothing: these are definitions.
+use mathlib.Core.Path.{_≡_}
 use mathlib.Core.Bool.{Bool, true, false, _&&_, not, cond}
 use mathlib.Core.List.{List, [], _∷_}
-use Prim.Native.Nat.{ℕ, zero, suc, _+_, _*_}
+use Prim.Native.Nat.{ℕ, zero, suc, _+_, _*_, _/_, _%_, _≤_}
 use Rattle.wire.specs.Bytes.{four}
 use lib.Dec.{ltb, leb, eqb}
 use lib.ListN.{getD}
@@ -60,6 +61,23 @@ arcs-checked (suc count) at step n word arc c = arcs-checked count (at + step) s
 -- The tests with the floor put back to 0, between the finals and the arcs.
 unfoldable pub from-0 : Checks → Checks
 from-0 c = record { heads = c .heads; states = c .states; order = c .order; labels = c .labels; weights = c .weights; floor = 0 }
+
+-- The tests with another floor.
+unfoldable pub with-floor : ℕ → Checks → Checks
+with-floor floor c =
+    record { heads = c .heads; states = c .states; order = c .order; labels = c .labels; weights = c .weights; floor = floor }
+
+-- Labels and weights up to these are good; the bound of inputs is the low half of `labels`, that of outputs the high half.
+pub record Good-up-to (labels weights : ℕ) : Type 0 where
+  pub labels-are : (input output : ℕ) → input ≤ labels % 65536 → output ≤ labels / 65536 → labels-good input output ≡ true
+  pub weights-are : (weight : ℕ) → weight ≤ weights → weight-good weight ≡ true
+
+-- What a glance at arcs answers: `unsure`, or the source of the last where each passes each test, the floor where there are none.
+abbrev pub unsure : ℕ
+unsure = 4294967295
+
+pub record Plain (bs : List ℕ) (at count n floor r : ℕ) : Type 0 where
+  pub all-pass : (r ≡ unsure → ⊥) → (c : Checks) → c .floor ≡ floor → arcs-checked count at 16 n (four bs) (arc-at bs) c ≡ with-floor r c
 
 -- The tests of all records, at the places that f finals and m arcs give.
 unfoldable pub all-checked : List ℕ → (n m f : ℕ) → Checks

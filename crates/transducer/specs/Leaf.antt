@@ -2,7 +2,7 @@
 use mathlib.Core.Path.{_≡_}
 use mathlib.Core.Bool.{Bool, true, false, cond}
 use mathlib.Core.List.{List, [], _∷_}
-use Prim.Native.Nat.{ℕ, zero, suc, _+_, _*_, _≤_, _<_}
+use Prim.Native.Nat.{ℕ, zero, suc, _+_, _*_, _≤_, _<_, max}
 use lib.Dec.{ltb}
 use lib.ListN.{length, getD}
 use Rattle.transducer.specs.declared.Arc.{Arc}
@@ -25,6 +25,12 @@ pub record Opened (bs : List ℕ) (first : ℕ) : Type 0 where
 unfoldable pub arcs-below : (s : ℕ) → List Arc → ℕ
 arcs-below s [] = 0
 arcs-below s (a ∷ as') = cond (ltb (a .source) s) (suc (arcs-below s as')) (arcs-below s as')
+
+-- One place up from each state stands a number that takes the maximum from the arcs below that state to those below the next.
+pub record Marked (xs : List Arc) (index : List ℕ) : Type 0 where
+  pub long : length index ≡ 1025
+  pub at-first : getD index 0 0 ≡ 0
+  pub at-state : (s : ℕ) → s < 1024 → max (arcs-below s xs) (getD index (suc s) 0) ≡ arcs-below (suc s) xs
 
 -- The first-arc index of a transducer: at each state up to and with n, the number of arcs below it.
 pub record Indexed (t : Transducer) (index : List ℕ) : Type 0 where

@@ -1,10 +1,10 @@
 // Arcs and finals read straight from accepted bytes, and two indexes by state.
 ghost use mathlib.Core.Path.{_≡_};
 ghost use Prim.Native.Nat.{ℕ, _+_, _*_, _≤_, _<_, max};
-ghost use lib.ListN.{length};
-ghost use Rattle.transducer.specs.Format.{refusal, decode, head-finals};
+ghost use lib.ListN.{length, take};
+ghost use Rattle.transducer.specs.Format.{Transducer, refusal, decode, head-finals};
 ghost use Rattle.transducer.specs.Path.{arc};
-ghost use Rattle.transducer.specs.Leaf.{header-of, Opened, Indexed, Finals-by-state};
+ghost use Rattle.transducer.specs.Leaf.{header-of, Opened, Marked, Indexed, Finals-by-state};
 use crate::Arc;
 use crate::Header;
 use crate::check;
@@ -41,20 +41,40 @@ fn larger(a: u16, b: u16) -> u16
     a
 }
 
-// The first-arc index: at each state up to and with the number of states, how many arcs leave states below it.
-pub fn first_arcs(bytes: &[u8], first: usize, states: usize, arcs: usize) -> [u16; 1025]
-    requires { ⌜ Opened (now bytes) first × (states ≡ decode (now bytes) .states) × (arcs ≡ length (decode (now bytes) .arcs)) ⌝ }
-    ensures { λ r. ⌜ Indexed (decode (now (bytes .entry))) r ⌝ }
+// Marks the arcs from `from` to below `to` one by one: one place up from its source stands the number of an arc and one more.
+fn mark_each(bytes: &[u8], first: usize, from: usize, to: usize, index: &mut [u16; 1025])
+    requires { ⌜ Opened (now bytes) first × (from ≤ to) × (to ≤ length (decode (now bytes) .arcs)) × Marked (take from (decode (now bytes) .arcs)) (now index) ⌝ }
+    ensures { λ _. ⌜ Marked (take to (decode (now (bytes .entry)) .arcs)) (now (index .exit)) ⌝ }
 {
-    let mut index = [0u16; 1025];
-    let mut i = 0;
-    let mut place = first + 4;
-    while i < arcs {
+    let mut i = from;
+    let mut place = first + 16 * from + 4;
+    while i < to {
         let source = wire::u16_at(bytes, place) as usize;
         i += 1;
         index[source + 1] = i as u16;
         place += 16;
     }
+}
+
+// Marks thirty-two arcs. Sources never fall: where the first and the last have the same, so have all between, and the last mark stays.
+fn mark_block(bytes: &[u8], first: usize, from: usize, index: &mut [u16; 1025])
+    requires { ⌜ Opened (now bytes) first × (from + 32 ≤ length (decode (now bytes) .arcs)) × Marked (take from (decode (now bytes) .arcs)) (now index) ⌝ }
+    ensures { λ _. ⌜ Marked (take (from + 32) (decode (now (bytes .entry)) .arcs)) (now (index .exit)) ⌝ }
+{
+    let place = first + 16 * from + 4;
+    let source = wire::u16_at(bytes, place) as usize;
+    if source != wire::u16_at(bytes, place + 496) as usize {
+        mark_each(bytes, first, from, from + 32, index);
+        return;
+    }
+    index[source + 1] = (from + 32) as u16;
+}
+
+// Takes the running maximum of the marks.
+fn raise(states: usize, index: &mut [u16; 1025])
+    requires { ⌜ (states ≤ 1024) × (length (now index) ≡ 1025) ⌝ }
+    ensures { λ _. ⌜ ((t : Transducer) → t .states ≡ states → Marked (t .arcs) (now (index .entry)) → Indexed t (now (index .exit))) ⌝ }
+{
     let mut s = 0;
     let mut most = 0;
     while s < states {
@@ -62,6 +82,32 @@ pub fn first_arcs(bytes: &[u8], first: usize, states: usize, arcs: usize) -> [u1
         most = larger(most, index[s]);
         index[s] = most;
     }
+}
+
+// The first-arc index: at each state up to and with the number of states, how many arcs leave states below it.
+pub fn first_arcs(bytes: &[u8], first: usize, states: usize, arcs: usize) -> [u16; 1025]
+    requires { ⌜ Opened (now bytes) first × (states ≡ decode (now bytes) .states) × (arcs ≡ length (decode (now bytes) .arcs)) ⌝ }
+    ensures { λ r. ⌜ Indexed (decode (now (bytes .entry))) r ⌝ }
+{
+    let mut index = [0u16; 1025];
+    mark_each(bytes, first, 0, arcs, &mut index);
+    raise(states, &mut index);
+    index
+}
+
+// The same by blocks: quicker where a state has many arcs, but too long to be compiled into its callers, and composition is then slower.
+pub fn first_arcs_by_blocks(bytes: &[u8], first: usize, states: usize, arcs: usize) -> [u16; 1025]
+    requires { ⌜ Opened (now bytes) first × (states ≡ decode (now bytes) .states) × (arcs ≡ length (decode (now bytes) .arcs)) ⌝ }
+    ensures { λ r. ⌜ Indexed (decode (now (bytes .entry))) r ⌝ }
+{
+    let mut index = [0u16; 1025];
+    let mut i = 0;
+    while i + 32 <= arcs {
+        mark_block(bytes, first, i, &mut index);
+        i += 32;
+    }
+    mark_each(bytes, first, i, arcs, &mut index);
+    raise(states, &mut index);
     index
 }
 

@@ -13,6 +13,7 @@ pub use entry::write;
 pub use leaf::arc_of;
 pub use leaf::final_codes;
 pub use leaf::first_arcs;
+pub use leaf::first_arcs_by_blocks;
 pub use leaf::header as head_of;
 pub use store::put_arc;
 pub use store::put_final;
