@@ -38,5 +38,5 @@ count-found {bs} {n} {b} {cs} {start} z e h l q k s =
     let ends : endless (decode bs) ≡ false = sym l ∙ q in
     rw (ok, ends) (record {
       refusal-is = refl;
-      count-is = rw s (settled-path-count (decode bs) (z .within) (at-state cs) (k .rising) (k .sums) ends);
+      count-is = rw s (settled-path-count (decode bs) (z .within) cs k ends);
     })

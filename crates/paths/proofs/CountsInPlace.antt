@@ -1,59 +1,53 @@
--- A sweep over an array of counts: the sum over one state's arcs (`Adding`), and the states that are swept (`Sweeping`). Assumes nothing.
+-- A sweep over arrays of marks and counts: the sum over one state's arcs (`Adding`), the counts of the marked states (`Tallied`), and the
+-- counts in the end. Assumes nothing.
 use mathlib.Core.Path.{_≡_, refl, sym, ap, _∙_}
-use mathlib.Core.Bool.{Bool, true, false, _&&_, _||_, not, cond}
+use mathlib.Core.Bool.{Bool, true, false, not, cond}
 use mathlib.Core.List.{List}
-use Prim.Native.Nat.{ℕ, zero, suc, _+_, _-_, _*_, _≤_, _<_}
+use Prim.Native.Nat.{ℕ, zero, suc, _+_, _-_, _≤_, _<_, min}
 use native.Mathlib.Numerals.{add-one}
 use native.Mathlib.Omega.{arith}
 use native.Mathlib.Decide.{ℕ-discrete}
-use lib.Dec.{eqb, leb}
-use lib.ListN.{length, getD, set, drop, replicate, length-set}
+use lib.Dec.{eqb}
+use lib.ListN.{length, getD, set, drop, replicate, length-set, length-replicate}
 use lib.Seq.{getD-set-same, getD-set-other}
-use borrow.Author.Tests.{eqb-true, eq-eqb, ne-eqb, leb-false}
-use Rattle.wire.proofs.Places.{and-true}
+use borrow.Author.Tests.{not-true, eqb-true}
 use Rattle.transducer.specs.Format.{Transducer}
 use Rattle.transducer.specs.Path.{arc}
 use Rattle.paths.specs.declared.Count.{Count}
 use Rattle.paths.specs.declared.Swept.{Swept}
-use Rattle.paths.specs.Tally.{add, own, add-arcs, add-all}
-use Rattle.paths.specs.Sweep.{total, at-state, Rising, Settled, Swept-says}
-use Rattle.paths.proofs.Tally.{add-all-first, add-arcs-next, add-arcs-last, add-arcs-most, add-all-monotone}
-use Rattle.paths.proofs.Sweep.{Updated, rising-zero, rising-next, rising-change, rising-total, total-same}
+use Rattle.paths.specs.Count.{paths-from, can-accept, goes-on, most-counted}
+use Rattle.paths.specs.Tally.{add, own, add-arcs, add-all, tally}
+use Rattle.paths.specs.Sweep.{at-state, marked, Shut, Leads-says, leads-on, Dead, Tallied, Swept-says, Settled, Totals-say}
+use Rattle.paths.proofs.GoesOn.{can-accept-some}
+use Rattle.paths.proofs.Tally.{add-all-first, add-arcs-next, add-arcs-last, add-arcs-most, add-all-same}
+use Rattle.paths.proofs.Sweep.{finite-tally, dead-tally}
 use Rattle.paths.proofs.Ready.{Sized, Range, range-leaves, before-range, behind-range}
-
-clash : {A : Type 0} (b : Bool) → b ≡ true → b ≡ false → A
-clash b p q = let z : _≡_ {A = ℕ} 0 1 = cc in absurd (omega arith)
+use Rattle.paths.proofs.MarksInPlace.{clash, shut-next, leads-found, leads-more, range-leads, shut-marked, marked-set-other}
+use Rattle.paths.proofs.EndlessMarks.{Marking, marking-changed, marks-goes-on, marks-endless}
 
 -- One state
 
--- What the arcs from i on add to the sum so far is the whole count, by these counts, and while no arc led back also by any that differ from
--- them only up to the state.
-pub record Adding (t : Transducer) (c : ℕ → ℕ) (s i to sum : ℕ) (early back : Bool) : Type 0 where
+-- Each arc before `seen` leads to a marked state, and what the arcs from i on add to the sum so far is the whole count.
+pub record Adding (t : Transducer) (ms : List Bool) (c : ℕ → ℕ) (s i seen to sum : ℕ) : Type 0 where
   pub from : ℕ
   pub range : Range t s from to
-  pub low : from ≤ i
-  pub high : i ≤ to
-  pub kept : back ≡ false → early ≡ false
-  pub whole : (d : ℕ → ℕ) → ((v : ℕ) → (back ≡ false → s < v) → d v ≡ c v) → add-arcs (drop i (t .arcs)) s d sum ≡ add-all t d s
+  pub low : from ≤ seen
+  pub shut : Shut t ms from seen
+  pub here : i < to → i ≡ seen
+  pub whole : add-arcs (drop i (t .arcs)) s c sum ≡ add-all t c s
 
-pub adding-first : (t : Transducer) → Sized t → (c : ℕ → ℕ) (s from to sum : ℕ) (early : Bool) → Range t s from to → sum ≡ own t s
-    → Adding t c s from to sum early early
-adding-first t z c s from to sum early r e =
+pub adding-first : (t : Transducer) → Sized t → (ms : List Bool) (c : ℕ → ℕ) (s from to sum : ℕ) → Range t s from to → sum ≡ own t s → Adding t ms c s from from to sum
+adding-first t z ms c s from to sum r e =
     record {
       from = from;
       range = r;
       low = omega arith;
-      high = r .order;
-      kept = λ q. q;
-      whole = λ d _.
-          rw e (sym (add-all-first t d s from (omega (arith, r .order, r .inside)) (λ j. before-range t (z .content) s from to r j)));
+      shut = λ i a b. absurd (omega arith);
+      here = λ _. refl;
+      whole = rw e (sym (add-all-first t c s from (omega (arith, r .order, r .inside)) (λ j. before-range t (z .content) s from to r j)));
     }
 
-or-none : (a b : Bool) → a || b ≡ false → (a ≡ false) × (b ≡ false)
-or-none true b h = clash true refl h
-or-none false b h = (refl, h)
-
--- The arc to read next comes nearer to the end.
+-- The arc to add next comes nearer to the end.
 pub after-less : (i to sum j : ℕ) → i < to → j ≡ cond (eqb sum 99) to (i + 1) → to - j < to - i
 after-less i to sum j h e = on (eqb sum 99) e
   where
@@ -61,198 +55,119 @@ after-less i to sum j h e = on (eqb sum 99) e
     on true q = omega arith
     on false q = omega arith
 
-pub adding-next : (t : Transducer) → Sized t → (c : ℕ → ℕ) (s i j to sum next u : ℕ) (early back : Bool) → Adding t c s i to sum early back → i < to → u ≡ arc t i .target
-    → next ≡ add sum (c u) → j ≡ cond (eqb next 99) to (i + 1) → Adding t c s j to next early (back || leb u s)
-adding-next t z c s i j to sum next u early back a h e f n = on (eqb next 99) refl
-  where
-    leaves : arc t i .source ≡ s
-    leaves = range-leaves t (z .content) s (a .from) to (a .range) i (a .low) h
+module _ (t : Transducer) (z : Sized t) (ms : List Bool) (c : ℕ → ℕ) (s i seen to sum : ℕ) (a : Adding t ms c s i seen to sum) where
+  pub adding-below : i < to → i < length (t .arcs)
+  adding-below h = omega (arith, a .range .inside)
 
-    kept : back || leb u s ≡ false → early ≡ false
-    kept q = a .kept (or-none back (leb u s) q .0)
+  pub adding-next : (j next u : ℕ) → i < to → u ≡ arc t i .target → marked ms u ≡ true → next ≡ add sum (c u) → j ≡ cond (eqb next 99) to (i + 1)
+      → Adding t ms c s j (i + 1) to next
+  adding-next j next u h e m f n =
+      record {
+        from = a .from;
+        range = a .range;
+        low = omega (arith, low);
+        shut = shut-next t ms (a .from) i u (rw (a .here h) (a .shut)) e m;
+        here = λ l. here l (eqb next 99) refl;
+        whole = on (eqb next 99) refl;
+      }
+    where
+      low : a .from ≤ i
+      low = omega (arith, a .low, a .here h)
 
-    whole : (d : ℕ → ℕ) → ((v : ℕ) → (back || leb u s ≡ false → s < v) → d v ≡ c v) → add-arcs (drop (suc i) (t .arcs)) s d next ≡ add-all t d s
-    whole d k =
-        let same : d u ≡ c u = k u (λ q. leb-false u s (or-none back (leb u s) q .1)) in
-        let step : add-arcs (drop i (t .arcs)) s d sum ≡ add-arcs (drop (suc i) (t .arcs)) s d (add sum (d (arc t i .target))) =
-        add-arcs-next t d s i sum (omega (arith, a .range .inside)) leaves in
-        rw (f, ← same, e) (sym step ∙ a .whole d (λ v l. k v (λ q. l (or-none back (leb u s) q .0))))
+      leaves : arc t i .source ≡ s
+      leaves = range-leaves t (z .content) s (a .from) to (a .range) i low h
 
-    on : (b : Bool) → eqb next 99 ≡ b → Adding t c s j to next early (back || leb u s)
-    on true q =
-        let full : next ≡ 99 = eqb-true next 99 q in
-        let at : j ≡ to = n ∙ ap (λ (b : Bool). cond b to (i + 1)) q in
-        rw at (record {
-          from = a .from;
-          range = a .range;
-          low = a .range .order;
-          high = omega arith;
-          kept = kept;
-          whole = λ d k. add-arcs-most (drop to (t .arcs)) s d next full ∙ (sym (add-arcs-most (drop (suc i) (t .arcs)) s d next full) ∙ whole d k);
-        })
-    on false q =
-        let at : j ≡ suc i = n ∙ (ap (λ (b : Bool). cond b to (i + 1)) q ∙ add-one i) in
-        rw at (record { from = a .from; range = a .range; low = omega (arith, a .low); high = omega arith; kept = kept; whole = whole })
+      at : (b : Bool) → eqb next 99 ≡ b → j ≡ cond b to (i + 1)
+      at b q = n ∙ ap (λ (d : Bool). cond d to (i + 1)) q
 
-pub adding-stop : (t : Transducer) → Sized t → (c : ℕ → ℕ) (s i to sum : ℕ) (early back : Bool) → Adding t c s i to sum early back → to ≤ i
-    → (d : ℕ → ℕ) → ((v : ℕ) → (back ≡ false → s < v) → d v ≡ c v) → sum ≡ add-all t d s
-adding-stop t z c s i to sum early back a h d k =
-    sym (add-arcs-last t d s i sum (λ j m l. behind-range t (z .content) s (a .from) to (a .range) j (omega arith) l)) ∙ a .whole d k
+      here : j < to → (b : Bool) → eqb next 99 ≡ b → j ≡ i + 1
+      here l true q = absurd (omega (arith, at true q))
+      here l false q = at false q
 
-pub adding-below : (t : Transducer) (c : ℕ → ℕ) (s i to sum : ℕ) (early back : Bool) → Adding t c s i to sum early back → i < to → i < length (t .arcs)
-adding-below t c s i to sum early back a h = omega (arith, a .range .inside)
+      step : add-arcs (drop (suc i) (t .arcs)) s c next ≡ add-all t c s
+      step = rw (f, e) (sym (add-arcs-next t c s i sum (adding-below h) leaves) ∙ a .whole)
+
+      on : (b : Bool) → eqb next 99 ≡ b → add-arcs (drop j (t .arcs)) s c next ≡ add-all t c s
+      on true q =
+          let full : next ≡ 99 = eqb-true next 99 q in
+          add-arcs-most (drop j (t .arcs)) s c next full ∙ (sym (add-arcs-most (drop (suc i) (t .arcs)) s c next full) ∙ step)
+      on false q = rw (at false q, add-one i) step
+
+  pub adding-stop : to ≤ i → sum ≡ add-all t c s
+  adding-stop h =
+      sym (add-arcs-last t c s i sum (λ j m l. behind-range t (z .content) s (a .from) to (a .range) j (omega arith) l)) ∙ a .whole
+
+  -- An arc that leads to an unmarked state, among those that are added or behind them.
+
+  pub adding-found : (u : ℕ) → i < to → u ≡ arc t i .target → marked ms u ≡ false → leads-on t ms s ≡ true
+  adding-found u h e m = range-leads t z ms s (a .from) to true (a .range) (leads-found t ms (a .from) i to u (omega (arith, a .low, a .here h)) h e m)
+
+  pub adding-leads : (r : Bool) → Leads-says t ms seen to r → leads-on t ms s ≡ r
+  adding-leads r w = range-leads t z ms s (a .from) to r (a .range) (leads-more t ms (a .from) seen to r (a .shut) (a .low) w)
 
 -- All states
 
-pub at-set-same : (cs : List Count) (s : ℕ) (x : Count) → s < length cs → at-state (set cs s x) s ≡ x .value
+at-set-same : (cs : List Count) (s : ℕ) (x : Count) → s < length cs → at-state (set cs s x) s ≡ x .value
 unfolding at-state
 at-set-same cs s x h = ap (λ (a : Count). a .value) (getD-set-same cs s x (record { value = 0 }) h)
 
-pub at-set-other : (cs : List Count) (s : ℕ) (x : Count) (u : ℕ) → (u ≡ s → ⊥) → at-state (set cs s x) u ≡ at-state cs u
+at-set-other : (cs : List Count) (s : ℕ) (x : Count) (u : ℕ) → (u ≡ s → ⊥) → at-state (set cs s x) u ≡ at-state cs u
 unfolding at-state
 at-set-other cs s x u h = ap (λ (a : Count). a .value) (getD-set-other cs s u x (record { value = 0 }) h)
 
-add-all-same : (t : Transducer) (c d : ℕ → ℕ) (s : ℕ) → ((u : ℕ) → c u ≡ d u) → add-all t c s ≡ add-all t d s
-add-all-same t c d s h =
-    let up : add-all t c s ≤ add-all t d s = add-all-monotone t c d s (λ i b e. omega (arith, h (arc t i .target))) in
-    let down : add-all t d s ≤ add-all t c s = add-all-monotone t d c s (λ i b e. omega (arith, h (arc t i .target))) in
-    omega arith
-
--- The states from s on are swept. Where no arc led back, their counts are the sums whatever comes of the states up to them.
-pub record Sweeping (t : Transducer) (before : List Count) (s : ℕ) (cs : List Count) (changed back : Bool) : Type 0 where
-  pub long : length cs ≡ 1024
-  pub below : s ≤ t .states
-  pub rising : Rising t (at-state cs)
-  pub sums : changed ≡ false → (u : ℕ) → s ≤ u → u < t .states → at-state cs u ≡ add-all t (at-state cs) u
-  pub firm : back ≡ false → (u : ℕ) → s ≤ u → u < t .states → (d : ℕ → ℕ) → ((v : ℕ) → u < v → d v ≡ at-state cs v) → at-state cs u ≡ add-all t d u
-  pub least : total (t .states) (at-state before) ≤ total (t .states) (at-state cs)
-  pub grown : changed ≡ true → total (t .states) (at-state before) < total (t .states) (at-state cs)
-
-pub sweeping-first : (t : Transducer) (cs : List Count) (n : ℕ) → length cs ≡ 1024 → n ≡ t .states → Rising t (at-state cs) → Sweeping t cs n cs false false
-sweeping-first t cs n l e r =
-    record {
-      long = l;
-      below = omega arith;
-      rising = r;
-      sums = λ _ u a b. absurd (omega arith);
-      firm = λ _ u a b. absurd (omega arith);
-      least = omega arith;
-      grown = λ q. clash false q refl;
-    }
-
-pub sweeping-next : (t : Transducer) → Sized t → (before : List Count) (s : ℕ) (cs : List Count) (changed early back : Bool) (old : ℕ) (x : Count) → Sweeping t before (s + 1) cs changed early
-    → (back ≡ false → early ≡ false) → old ≡ at-state cs s → ((d : ℕ → ℕ) → ((v : ℕ) → (back ≡ false → s < v) → d v ≡ at-state cs v) → x .value ≡ add-all t d s)
-    → Sweeping t before s (set cs s x) (changed || not (eqb old (x .value))) back
-sweeping-next t z before s cs changed early back old x w still was is = on changed refl (ℕ-discrete old (x .value))
-  where
-    inside : s < t .states
-    inside = omega (arith, w .below)
-
-    room : s < length cs
-    room = omega (arith, w .long, z .states, inside)
-
-    updated : Updated t (at-state cs) s (at-state (set cs s x))
-    updated = record { here = at-set-same cs s x room ∙ is (at-state cs) (λ v _. refl); others = λ u n. at-set-other cs s x u n }
-
-    rises : Rising t (at-state (set cs s x))
-    rises = rising-next t (z .within) (at-state cs) s (at-state (set cs s x)) (w .rising) inside updated
-
-    kept : old ≡ x .value → (u : ℕ) → at-state (set cs s x) u ≡ at-state cs u
-    kept q u = one (ℕ-discrete u s)
-      where
-        one : Dec (u ≡ s) → at-state (set cs s x) u ≡ at-state cs u
-        one (yes y) = rw y (at-set-same cs s x room ∙ (sym q ∙ was))
-        one (no n) = at-set-other cs s x u n
-
-    same-total : old ≡ x .value → total (t .states) (at-state (set cs s x)) ≡ total (t .states) (at-state cs)
-    same-total q = total-same (t .states) (at-state cs) (at-state (set cs s x)) (λ u _. kept q u)
-
-    more : (old ≡ x .value → ⊥) → total (t .states) (at-state cs) < total (t .states) (at-state (set cs s x))
-    more n =
-        rising-change t (at-state cs) s (at-state (set cs s x)) (w .rising) inside updated
-        (λ q. n (was ∙ (sym q ∙ at-set-same cs s x room)))
-
-    firm : back ≡ false → (u : ℕ) → s ≤ u → u < t .states → Dec (u ≡ s) → (d : ℕ → ℕ) → ((v : ℕ) → u < v → d v ≡ at-state (set cs s x) v)
-        → at-state (set cs s x) u ≡ add-all t d u
-    firm q u l m (yes y) d h =
-        rw y (at-set-same cs s x room ∙ is d (λ v k. let a : s < v = k q in h v (omega arith) ∙ at-set-other cs s x v (λ e. omega arith)))
-    firm q u l m (no n) d h =
-        at-set-other cs s x u n ∙ w .firm (still q) u (omega arith) m d (λ v k. h v k ∙ at-set-other cs s x v (λ e. omega arith))
-
-    on : (b : Bool) → changed ≡ b → Dec (old ≡ x .value) → Sweeping t before s (set cs s x) (changed || not (eqb old (x .value))) back
-    on b q (yes y) =
-        let test : changed || not (eqb old (x .value)) ≡ changed = rw (eq-eqb old (x .value) y) (or-false changed) in
-        rw test (record {
-          long = length-set cs s x ∙ w .long;
-          below = omega arith;
-          rising = rises;
-          sums = λ c u l m. sums c u l m (ℕ-discrete u s);
-          firm = λ q u l m. firm q u l m (ℕ-discrete u s);
-          least = omega (arith, w .least, same-total y);
-          grown = λ c. omega (arith, w .grown c, same-total y);
-        })
-      where
-        or-false : (a : Bool) → a || false ≡ a
-        or-false true = refl
-        or-false false = refl
-
-        sums : changed ≡ false → (u : ℕ) → s ≤ u → u < t .states → Dec (u ≡ s) → at-state (set cs s x) u ≡ add-all t (at-state (set cs s x)) u
-        sums c u l m (yes v) = rw v (updated .here ∙ sym (add-all-same t (at-state (set cs s x)) (at-state cs) s (kept y)))
-        sums c u l m (no n) =
-            kept y u ∙ (w .sums c u (omega arith) m ∙ sym (add-all-same t (at-state (set cs s x)) (at-state cs) u (kept y)))
-    on b q (no n) =
-        let test : changed || not (eqb old (x .value)) ≡ true = rw (ne-eqb old (x .value) n) (or-truth changed) in
-        rw test (record {
-          long = length-set cs s x ∙ w .long;
-          below = omega arith;
-          rising = rises;
-          sums = λ c. clash true refl c;
-          firm = λ q u l m. firm q u l m (ℕ-discrete u s);
-          least = omega (arith, w .least, more n);
-          grown = λ _. omega (arith, w .least, more n);
-        })
-      where
-        or-truth : (a : Bool) → a || true ≡ true
-        or-truth true = refl
-        or-truth false = refl
-
--- The same, counted down.
-pub sweeping-down : (t : Transducer) → Sized t → (before : List Count) (s : ℕ) (cs : List Count) (changed early back : Bool) (old : ℕ) (x : Count) → Sweeping t before s cs changed early
-    → 0 < s → (back ≡ false → early ≡ false) → old ≡ at-state cs (s - 1) → ((d : ℕ → ℕ) → ((v : ℕ) → (back ≡ false → s - 1 < v) → d v ≡ at-state cs v) → x .value ≡ add-all t d (s - 1))
-    → Sweeping t before (s - 1) (set cs (s - 1) x) (changed || not (eqb old (x .value))) back
-sweeping-down t z before s cs changed early back old x w h still was is =
-    let up : s - 1 + 1 ≡ s = omega arith in
-    sweeping-next t z before (s - 1) cs changed early back old x (rw up w) still was is
-
-pub sweeping-stop : (t : Transducer) (before : List Count) (s : ℕ) (cs : List Count) (changed back : Bool) (r : Swept) → r ≡ record { counts = cs; again = changed && back }
-    → Sweeping t before s cs changed back → s ≤ 0 → Swept-says t before r
-sweeping-stop t before s cs changed back r e w h =
-    rw e (record {
-      long = w .long;
-      rising = w .rising;
-      sums = λ q. on changed refl q;
-      grown = λ q. w .grown (and-true changed back q .0);
-    })
-  where
-    on : (b : Bool) → changed ≡ b → b && back ≡ false → (u : ℕ) → u < t .states → at-state cs u ≡ add-all t (at-state cs) u
-    on true c q u b = w .firm q u (omega arith) b (at-state cs) (λ v _. refl)
-    on false c q u b = w .sums c u (omega arith) b
-
--- All sweeps
-
-pub rising-none : (t : Transducer) → Rising t (at-state (replicate 1024 (record { value = 0 })))
+-- At first only the dead states are marked.
+pub tallied-dead : (t : Transducer) → Sized t → (ms : List Bool) → Dead t ms → Tallied t ms (replicate 1024 (record { value = 0 }))
 unfolding at-state
-rising-none t = rising-zero t (at-state (replicate 1024 (record { value = 0 }))) (λ s _. none 1024 s)
+tallied-dead t z ms d =
+    record {
+      long = length-replicate {A = Count} 1024 (record { value = 0 });
+      rounds = 0;
+      tallied = λ s b m k l. zeros 1024 s ∙ sym (dead-tally k t s (λ p a. clash (can-accept (t .states) t s) (can-accept-some t (z .within) s b .1 (p, a)) (not-true (can-accept (t .states) t s) (sym (d .dead s b) ∙ m))));
+    }
   where
-    none : (n s : ℕ) → getD {A = Count} (replicate n (record { value = 0 })) s (record { value = 0 }) .value ≡ 0
-    none zero s = refl
-    none (suc n) zero = refl
-    none (suc n) (suc s) = none n s
+    zeros : (n s : ℕ) → getD {A = Count} (replicate n (record { value = 0 })) s (record { value = 0 }) .value ≡ 0
+    zeros zero s = refl
+    zeros (suc n) zero = refl
+    zeros (suc n) (suc s) = zeros n s
 
--- What is left of the sum of the counts falls with each sweep that changes one.
-pub sweeps-less : (t : Transducer) (cs : List Count) (r : Swept) → Swept-says t cs r → r .again ≡ true
-    → 99 * t .states - total (t .states) (at-state (r .counts)) < 99 * t .states - total (t .states) (at-state cs)
-sweeps-less t cs r w h = omega (arith, w .grown h, rising-total t (at-state (r .counts)) (w .rising))
+-- The count of a state none of whose arcs leads to an unmarked one is a sum of tallies.
+pub tallied-set : (t : Transducer) → Sized t → (ms : List Bool) (cs : List Count) (s : ℕ) (x : Count) → Tallied t ms cs → s < t .states → leads-on t ms s ≡ false
+    → x .value ≡ add-all t (at-state cs) s → Tallied t (set ms s true) (set cs s x)
+unfolding tally
+tallied-set t z ms cs s x w b shut e =
+    record {
+      long = length-set cs s x ∙ w .long;
+      rounds = suc (w .rounds);
+      tallied = λ u l m k h. on u l m k h (ℕ-discrete u s);
+    }
+  where
+    here : (k : ℕ) → suc (w .rounds) ≤ k → at-state (set cs s x) s ≡ tally k t s
+    here zero h = absurd (omega arith)
+    here (suc k) h =
+        at-set-same cs s x (omega (arith, w .long, z .states)) ∙ (e ∙ add-all-same t (at-state cs) (tally k t) s
+        (λ i l q. w .tallied (arc t i .target) (z .within .arrives i l) (shut-marked t ms s shut i l q) k (omega arith)))
 
-pub sweeps-stop : (t : Transducer) (cs : List Count) (r : Swept) → Swept-says t cs r → r .again ≡ false → Settled t (r .counts)
-sweeps-stop t cs r w h = record { long = w .long; rising = w .rising; sums = w .sums h }
+    on : (u : ℕ) → u < t .states → marked (set ms s true) u ≡ true → (k : ℕ) → suc (w .rounds) ≤ k → Dec (u ≡ s) → at-state (set cs s x) u ≡ tally k t u
+    on u l m k h (yes y) = rw y (here k h)
+    on u l m k h (no n) = at-set-other cs s x u n ∙ w .tallied u l (sym (marked-set-other ms s true u n) ∙ m) k (omega arith)
+
+-- In the end each state is marked from which only finitely many accepting paths go.
+pub tallied-settled : (t : Transducer) → Sized t → (ms : List Bool) (cs : List Count) → Marking t ms → ((s : ℕ) → s < t .states → marked ms s ≡ false → leads-on t ms s ≡ true)
+    → Tallied t ms cs → Settled t cs
+tallied-settled t z ms cs m rest w = record { long = w .long; counts = λ s b f. on s b f (marked ms s) refl }
+  where
+    on : (s : ℕ) → s < t .states → goes-on (t .states) t s ≡ false → (c : Bool) → marked ms s ≡ c → at-state cs s ≡ min most-counted (length (paths-from (t .states) t s))
+    on s b f true q =
+        let k : ℕ = w .rounds + t .states in
+        w .tallied s b q k (omega arith) ∙ finite-tally t (z .within) s (record { below = b; stops = f }) k (omega arith)
+    on s b f false q = clash (goes-on (t .states) t s) (marks-goes-on t z ms m rest s b q) f
+
+-- The last sweep.
+pub totals-say : (t : Transducer) → Sized t → (before ms : List Bool) (start : ℕ) (r : Swept) → Marking t before → Swept-says t before ms r → r .again ≡ false → start ≡ t .start
+    → Totals-say t (record { counts = r .counts; endless = not (marked ms start) })
+totals-say t z before ms start r k w h e =
+    let m : Marking t ms = marking-changed t z (w .marks .changed) k in
+    record {
+      endless-is = marks-endless t z ms start m (w .marks .rest h) e;
+      settled = tallied-settled t z ms (r .counts) m (w .marks .rest h) (w .tallied);
+    }

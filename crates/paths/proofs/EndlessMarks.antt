@@ -14,7 +14,7 @@ use Rattle.transducer.proofs.Runs.{Within}
 use Rattle.paths.specs.Count.{some-arc, can-accept, goes-on, endless}
 use Rattle.paths.specs.Sweep.{marked, Dead, Stopping, leads-on, Changed}
 use Rattle.paths.proofs.GoesOn.{Some, some-arc-true, true-some-arc}
-use Rattle.paths.proofs.Stops.{open-arc, stopping-next, settled-endless}
+use Rattle.paths.proofs.Stops.{open-arc, stopping-next, settled-goes-on, settled-endless}
 use Rattle.paths.proofs.Ready.{Sized}
 use Rattle.paths.proofs.MarksInPlace.{clash, not-so, marked-set-same, marked-set-other, changed-keeps}
 
@@ -26,21 +26,25 @@ pub record Marking (t : Transducer) (ms : List Bool) : Type 0 where
 
 -- Where the dead states are marked, arcs to unmarked states are those to unmarked states from which something accepts.
 
+-- From an unmarked state something accepts.
+alive : (t : Transducer) (ms : List Bool) → Marking t ms → (s : ℕ) → s < t .states → marked ms s ≡ false → can-accept (t .states) t s ≡ true
+alive t ms m s b e = on (can-accept (t .states) t s) refl
+  where
+    on : (c : Bool) → can-accept (t .states) t s ≡ c → can-accept (t .states) t s ≡ true
+    on true q = q
+    on false q = clash (marked ms s) (m .dead s b q) e
+
 leads-open : (t : Transducer) → Within t → (ms : List Bool) → Marking t ms → (s : ℕ) → leads-on t ms s ≡ true
     → open-arc t (can-accept (t .states) t) (marked ms) s ≡ true
 unfolding leads-on open-arc arc
 leads-open t w ms m s h = found (some-arc-true (t .arcs) s (λ v. not (marked ms v)) h)
   where
-    alive : (u : ℕ) → u < t .states → marked ms u ≡ false → (b : Bool) → can-accept (t .states) t u ≡ b → can-accept (t .states) t u ≡ true
-    alive u b e true q = q
-    alive u b e false q = clash (marked ms u) (m .dead u b q) e
-
     found : Some (t .arcs) s (λ v. not (marked ms v)) → some-arc (t .arcs) s (λ v. can-accept (t .states) t v && not (marked ms v)) ≡ true
     found a =
         let u : ℕ = arc t (a .number) .target in
         let free : marked ms u ≡ false = not-true (marked ms u) (a .given) in
         true-some-arc (t .arcs) s (λ v. can-accept (t .states) t v && not (marked ms v)) (a .number) (a .below) (a .leaves)
-        (true-and (can-accept (t .states) t u) (not (marked ms u)) (alive u (w .arrives (a .number) (a .below)) free (can-accept (t .states) t u) refl) (a .given))
+        (true-and (can-accept (t .states) t u) (not (marked ms u)) (alive t ms m u (w .arrives (a .number) (a .below)) free) (a .given))
 
 open-leads : (t : Transducer) (ms : List Bool) (s : ℕ) → leads-on t ms s ≡ false → open-arc t (can-accept (t .states) t) (marked ms) s ≡ false
 unfolding leads-on open-arc arc
@@ -84,6 +88,13 @@ pub marking-changed : (t : Transducer) → Sized t → {before after : List Bool
 marking-changed t z k m = changed-keeps t true (Marking t) (λ ms s p b _ shut. marking-more t z ms s p b shut) k m
 
 -- In the end
+
+-- From a state that is left unmarked infinitely many accepting paths go.
+pub marks-goes-on : (t : Transducer) → Sized t → (ms : List Bool) → Marking t ms → ((s : ℕ) → s < t .states → marked ms s ≡ false → leads-on t ms s ≡ true)
+    → (s : ℕ) → s < t .states → marked ms s ≡ false → goes-on (t .states) t s ≡ true
+marks-goes-on t z ms m rest s b e =
+    settled-goes-on t (z .within) (can-accept (t .states) t) (λ u l. refl) (marked ms) (λ u l q. leads-open t (z .within) ms m u (rest u l q))
+    (t .states) s b (alive t ms m s b e) e
 
 pub marks-endless : (t : Transducer) → Sized t → (ms : List Bool) (start : ℕ) → Marking t ms → ((s : ℕ) → s < t .states → marked ms s ≡ false → leads-on t ms s ≡ true)
     → start ≡ t .start → not (marked ms start) ≡ endless t

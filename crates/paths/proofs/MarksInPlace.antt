@@ -1,10 +1,10 @@
--- A sweep over an array of marks: the search among one state's arcs (`Looking`), and the states that are swept (`MarkingOn`). Assumes nothing.
+-- A sweep over an array of marks: the search among one state's arcs (`Leads-says`), and the states that are swept (`MarkingOn`). Assumes nothing.
 use mathlib.Core.Path.{_≡_, refl, sym, ap, _∙_}
-use mathlib.Core.Bool.{Bool, true, false, _&&_, not, cond, Bool·beq}
+use mathlib.Core.Bool.{Bool, true, false, _&&_, not, cond}
 use mathlib.Core.List.{List}
 use Prim.Native.Nat.{ℕ, _+_, _-_, _≤_, _<_}
 use native.Mathlib.Omega.{arith}
-use native.Mathlib.Decide.{ℕ-discrete}
+use native.Mathlib.Decide.{ℕ-discrete, decLe}
 use lib.ListN.{length, set, length-set}
 use lib.Seq.{getD-set-same, getD-set-other}
 use borrow.Author.Tests.{not-true}
@@ -12,7 +12,7 @@ use Rattle.wire.proofs.Places.{and-true}
 use Rattle.transducer.specs.Format.{Transducer}
 use Rattle.transducer.specs.Path.{arc}
 use Rattle.paths.specs.Count.{some-arc}
-use Rattle.paths.specs.Sweep.{total, marked, leads-on, Changed, none, more, unlike, Marked-says}
+use Rattle.paths.specs.Sweep.{total, marked, Open, Shut, Leads-says, leads-on, Changed, none, more, unlike, Marked-says}
 use Rattle.paths.proofs.GoesOn.{Some, some-arc-true, true-some-arc}
 use Rattle.paths.proofs.Sweep.{total-grows}
 use Rattle.paths.proofs.Ready.{Sized, Range, range-leaves, in-range}
@@ -24,66 +24,60 @@ pub not-so : (b : Bool) → (b ≡ true → ⊥) → b ≡ false
 not-so true h = absurd (h refl)
 not-so false h = refl
 
-pub beq-true : (a b : Bool) → Bool·beq a b ≡ true → a ≡ b
-beq-true true true h = refl
-beq-true true false h = clash false h refl
-beq-true false true h = clash false h refl
-beq-true false false h = refl
+-- A run of arcs
 
-pub beq-false : (a b : Bool) → Bool·beq a b ≡ false → a ≡ not b
-beq-false true true h = clash true refl h
-beq-false true false h = refl
-beq-false false true h = refl
-beq-false false false h = clash true refl h
+pub shut-next : (t : Transducer) (ms : List Bool) (from i u : ℕ) → Shut t ms from i → u ≡ arc t i .target → marked ms u ≡ true → Shut t ms from (i + 1)
+shut-next t ms from i u k e m j a b = here (ℕ-discrete j i)
+  where
+    here : Dec (j ≡ i) → marked ms (arc t j .target) ≡ true
+    here (yes y) = rw (y, ← e) m
+    here (no n) = k j a (omega arith)
+
+pub leads-found : (t : Transducer) (ms : List Bool) (from i end u : ℕ) → from ≤ i → i < end → u ≡ arc t i .target → marked ms u ≡ false → Leads-says t ms from end true
+leads-found t ms from i end u a b e m =
+    record { found = λ _. record { number = i; low = a; high = b; unmarked = rw e at m }; none = λ q. clash true refl q }
+
+pub leads-none : (t : Transducer) (ms : List Bool) (from i end : ℕ) → Shut t ms from i → end ≤ i → Leads-says t ms from end false
+leads-none t ms from i end k h = record { found = λ q. clash false q refl; none = λ _ j a b. k j a (omega arith) }
+
+-- With arcs before it that lead to marked states.
+pub leads-more : (t : Transducer) (ms : List Bool) (from i end : ℕ) (r : Bool) → Shut t ms from i → from ≤ i → Leads-says t ms i end r → Leads-says t ms from end r
+leads-more t ms from i end r k h w = record { found = λ q. wider (w .found q); none = λ q j a b. on q j a b (decLe i j) }
+  where
+    wider : Open t ms i end → Open t ms from end
+    wider o = record { number = o .number; low = omega (arith, o .low); high = o .high; unmarked = o .unmarked }
+
+    on : r ≡ false → (j : ℕ) → from ≤ j → j < end → Dec (i ≤ j) → marked ms (arc t j .target) ≡ true
+    on q j a b (yes y) = w .none q j y b
+    on q j a b (no n) = k j a (omega arith)
 
 -- One state
 
--- Each arc before i leads to a marked state.
-pub record Looking (t : Transducer) (ms : List Bool) (s i to : ℕ) : Type 0 where
-  pub from : ℕ
-  pub range : Range t s from to
-  pub low : from ≤ i
-  pub high : i ≤ to
-  pub shut : (j : ℕ) → from ≤ j → j < i → marked ms (arc t j .target) ≡ true
-
-pub looking-first : (t : Transducer) (ms : List Bool) (s from to : ℕ) → Range t s from to → Looking t ms s from to
-looking-first t ms s from to r =
-    record { from = from; range = r; low = omega arith; high = r .order; shut = λ j a b. absurd (omega arith) }
-
-pub looking-next : (t : Transducer) (ms : List Bool) (s i to u : ℕ) → Looking t ms s i to → i < to → u ≡ arc t i .target → marked ms u ≡ true
-    → Looking t ms s (i + 1) to
-looking-next t ms s i to u k h e m =
-    record {
-      from = k .from;
-      range = k .range;
-      low = omega (arith, k .low);
-      high = omega arith;
-      shut = λ j a b. here j a b (ℕ-discrete j i);
-    }
-  where
-    here : (j : ℕ) → k .from ≤ j → j < i + 1 → Dec (j ≡ i) → marked ms (arc t j .target) ≡ true
-    here j a b (yes y) = rw (y, ← e) m
-    here j a b (no n) = k .shut j a (omega arith)
-
-pub looking-below : (t : Transducer) (ms : List Bool) (s i to : ℕ) → Looking t ms s i to → i < to → i < length (t .arcs)
-looking-below t ms s i to k h = omega (arith, k .range .inside)
-
-pub looking-found : (t : Transducer) → Sized t → (ms : List Bool) (s i to u : ℕ) → Looking t ms s i to → i < to → u ≡ arc t i .target → marked ms u ≡ false
-    → leads-on t ms s ≡ true
+pub range-leads : (t : Transducer) → Sized t → (ms : List Bool) (s from to : ℕ) (r : Bool) → Range t s from to → Leads-says t ms from to r → leads-on t ms s ≡ r
 unfolding leads-on arc
-looking-found t z ms s i to u k h e m =
-    true-some-arc (t .arcs) s (λ v. not (marked ms v)) i (looking-below t ms s i to k h)
-    (range-leaves t (z .content) s (k .from) to (k .range) i (k .low) h) (ap not (rw e at m))
-
-pub looking-stop : (t : Transducer) → Sized t → (ms : List Bool) (s i to : ℕ) → Looking t ms s i to → to ≤ i → leads-on t ms s ≡ false
-unfolding leads-on arc
-looking-stop t z ms s i to k h = not-so (some-arc (t .arcs) s (λ v. not (marked ms v))) (λ q. none (some-arc-true (t .arcs) s (λ v. not (marked ms v)) q))
+range-leads t z ms s from to true k w =
+    let o = w .found refl in
+    true-some-arc (t .arcs) s (λ v. not (marked ms v)) (o .number) (omega (arith, o .high, k .inside))
+    (range-leaves t (z .content) s from to k (o .number) (o .low) (o .high)) (ap not (o .unmarked))
+range-leads t z ms s from to false k w =
+    not-so (some-arc (t .arcs) s (λ v. not (marked ms v))) (λ q. none' (some-arc-true (t .arcs) s (λ v. not (marked ms v)) q))
   where
-    none : Some (t .arcs) s (λ v. not (marked ms v)) → ⊥
-    none a =
-        let both = in-range t (z .content) s (k .from) to (k .range) (a .number) (a .below) (a .leaves) in
-        clash (marked ms (arc t (a .number) .target)) (k .shut (a .number) (both .0) (omega (arith, both .1)))
+    none' : Some (t .arcs) s (λ v. not (marked ms v)) → ⊥
+    none' a =
+        let both = in-range t (z .content) s from to k (a .number) (a .below) (a .leaves) in
+        clash (marked ms (arc t (a .number) .target)) (w .none refl (a .number) (both .0) (both .1))
         (not-true (marked ms (arc t (a .number) .target)) (a .given))
+
+-- Each arc of such a state leads to a marked one.
+pub shut-marked : (t : Transducer) (ms : List Bool) (s : ℕ) → leads-on t ms s ≡ false → (i : ℕ) → i < length (t .arcs) → arc t i .source ≡ s
+    → marked ms (arc t i .target) ≡ true
+unfolding leads-on arc
+shut-marked t ms s h i b e = on (marked ms (arc t i .target)) refl
+  where
+    on : (c : Bool) → marked ms (arc t i .target) ≡ c → marked ms (arc t i .target) ≡ true
+    on true q = q
+    on false q =
+        clash (some-arc (t .arcs) s (λ v. not (marked ms v))) (true-some-arc (t .arcs) s (λ v. not (marked ms v)) i b e (ap not q)) h
 
 -- Changes
 

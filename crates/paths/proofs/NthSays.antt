@@ -106,7 +106,7 @@ module _ {bs a b : List ℕ} {k n : ℕ} {r : Told} where
 -- The count that was found at the start.
 pub start-count : (t : Transducer) → Sized t → (cs : List Count) (start : ℕ) {is : Bool} → Settled t cs → start ≡ t .start → is ≡ endless t → is ≡ false
     → at-state cs start ≡ path-count t
-start-count t z cs start k e l q = rw e (settled-path-count t (z .within) (at-state cs) (k .rising) (k .sums) (sym l ∙ q))
+start-count t z cs start k e l q = rw e (settled-path-count t (z .within) cs k (sym l ∙ q))
 
 pub found : (t : Transducer) → Sized t → (k len : ℕ) (a a' : List ℕ) → endless t ≡ false → k < path-count t → 1023 ≤ length a
     → a' ≡ filled (length a) (nth-path t k) → len ≡ length (nth-path t k) → Found t k len a'

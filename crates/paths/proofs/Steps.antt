@@ -46,7 +46,7 @@ module _ (t : Transducer) (k : ℕ) (cs : List Count) (room : ℕ) (sought : Sou
   path-short = omega (arith, nth-path-short t (sought .size .within) (sought .finite) k (sought .there), sought .size .states)
 
   counted : Counts t (at-state cs)
-  counted = settled-counts t (sought .size .within) (at-state cs) (sought .settled .rising) (sought .settled .sums)
+  counted = settled-counts t cs (sought .settled)
 
   pub walked-first : (arcs : List ℕ) (start : ℕ) → length arcs ≡ room → start ≡ t .start → Walked t k room arcs start k 0
   walked-first arcs start long e =

@@ -1,4 +1,4 @@
--- Laws of `add-arcs`, `add-all` and `tally`: the tally is the capped number of paths, and it never falls. Assumes nothing.
+-- Laws of `add-arcs`, `add-all` and `tally`: the tally is the capped number of paths. Assumes nothing.
 use mathlib.Core.Path.{_≡_, refl, sym, ap, _∙_}
 use mathlib.Core.Bool.{Bool, true, false, cond}
 use mathlib.Core.List.{List, [], _∷_, _++_, map}
@@ -147,11 +147,12 @@ add-all-monotone t c d s h =
     let le : sum-arcs (t .arcs) s c ≤ sum-arcs (t .arcs) s d = sum-arcs-monotone (t .arcs) s c d h in
     rw (add-all-sum t c s, add-all-sum t d s) (omega arith)
 
-pub add-all-most : (t : Transducer) (c : ℕ → ℕ) (s : ℕ) → add-all t c s ≤ 99
-add-all-most t c s = rw (add-all-sum t c s) (omega arith)
-
-pub own-add-all : (t : Transducer) (c : ℕ → ℕ) (s : ℕ) → own t s ≤ add-all t c s
-own-add-all t c s = rw (add-all-sum t c s) (omega (arith, own-small t s))
+pub add-all-same : (t : Transducer) (c d : ℕ → ℕ) (s : ℕ)
+    → ((i : ℕ) → i < length (t .arcs) → arc t i .source ≡ s → c (arc t i .target) ≡ d (arc t i .target)) → add-all t c s ≡ add-all t d s
+add-all-same t c d s h =
+    let up : add-all t c s ≤ add-all t d s = add-all-monotone t c d s (λ i b e. omega (arith, h i b e)) in
+    let down : add-all t d s ≤ add-all t c s = add-all-monotone t d c s (λ i b e. omega (arith, h i b e)) in
+    omega arith
 
 -- The number of paths.
 
@@ -195,27 +196,3 @@ tally-length (suc k) t s =
     let whole : length (empty-path t s ++ by-arcs k t s) ≡ own t s + sum-arcs (t .arcs) s len = length-append (empty-path t s) (by-arcs k t s) ∙ (omega arith) in
     let terms : sum-arcs (t .arcs) s (tally k t) ≡ sum-arcs (t .arcs) s (λ u. min 99 (len u)) = sum-arcs-same (t .arcs) s (tally k t) (λ u. min 99 (len u)) (λ u. tally-length k t u) in
     add-all-sum t (tally k t) s ∙ (ap (λ (n : ℕ). min 99 (own t s + n)) terms ∙ (sum-arcs-capped (t .arcs) s len (own t s) ∙ ap (λ (n : ℕ). min 99 n) (sym whole)))
-
--- The tally never falls, and stays at most 99.
-
-pub tally-most : (k : ℕ) (t : Transducer) (s : ℕ) → tally k t s ≤ 99
-tally-most k t s = rw (tally-length k t s) (omega arith)
-
-pub tally-suc : (k : ℕ) (t : Transducer) (s : ℕ) → tally k t s ≤ tally (suc k) t s
-unfolding tally
-tally-suc zero t s = own-add-all t (tally zero t) s
-tally-suc (suc k) t s = add-all-monotone t (tally k t) (tally (suc k) t) s (λ i b e. tally-suc k t (arc t i .target))
-
-pub tally-monotone : (j k : ℕ) (t : Transducer) (s : ℕ) → j ≤ k → tally j t s ≤ tally k t s
-tally-monotone j k t s h = rw (← sum) (by-more (k - j))
-  where
-    sum : j + (k - j) ≡ k
-    sum = omega arith
-
-    by-more : (d : ℕ) → tally j t s ≤ tally (j + d) t s
-    by-more zero = let e : j + 0 ≡ j = omega arith in rw e (omega arith)
-    by-more (suc d) =
-        let e : j + suc d ≡ suc (j + d) = omega arith in
-        let one : tally (j + d) t s ≤ tally (suc (j + d)) t s = tally-suc (j + d) t s in
-        let before : tally j t s ≤ tally (j + d) t s = by-more d in
-        rw e (omega arith)

@@ -1,15 +1,17 @@
--- Counts and marks by state, on their way and settled, and what one sweep over the states leaves of them. Assumes nothing: these are definitions.
+-- Marks and counts by state, on their way and settled, and what one sweep over the states leaves of them. Assumes nothing: these are definitions.
 use mathlib.Core.Path.{_≡_}
 use mathlib.Core.Bool.{Bool, true, false, not, cond}
 use mathlib.Core.List.{List}
-use Prim.Native.Nat.{ℕ, zero, suc, _+_, _≤_, _<_}
+use Prim.Native.Nat.{ℕ, zero, suc, _+_, _≤_, _<_, min}
 use lib.ListN.{length, getD, set}
 use Rattle.transducer.specs.Format.{Transducer, decode}
+use Rattle.transducer.specs.Path.{arc}
 use Rattle.transducer.specs.Leaf.{Opened, Indexed}
 use Rattle.paths.specs.declared.Count.{Count}
 use Rattle.paths.specs.declared.Swept.{Swept}
-use Rattle.paths.specs.Count.{some-arc, can-accept, goes-on}
-use Rattle.paths.specs.Tally.{add-all, tally}
+use Rattle.paths.specs.declared.Totals.{Totals}
+use Rattle.paths.specs.Count.{paths-from, some-arc, can-accept, goes-on, endless, most-counted}
+use Rattle.paths.specs.Tally.{tally}
 
 -- Accepted bytes: where their arcs begin, the number of states, and the first-arc index.
 pub record Ready (bs : List ℕ) (first states : ℕ) (index : List ℕ) : Type 0 where
@@ -21,35 +23,6 @@ pub record Ready (bs : List ℕ) (first states : ℕ) (index : List ℕ) : Type 
 unfoldable pub total : (states : ℕ) → (count : ℕ → ℕ) → ℕ
 total zero c = 0
 total (suc n) c = total n c + c n
-
--- Counts
-
--- A state's count in an array of counts.
-unfoldable pub at-state : List Count → (s : ℕ) → ℕ
-at-state cs s = getD cs s (record { value = 0 }) .value
-
--- Counts on their way: not above a tally, and none falls when it is updated.
-pub record Rising (t : Transducer) (c : ℕ → ℕ) : Type 0 where
-  pub rounds : ℕ
-  pub high : (s : ℕ) → s < t .states → c s ≤ tally rounds t s
-  pub grows : (s : ℕ) → s < t .states → c s ≤ add-all t c s
-
--- Each count is the sum of those where the arcs of its state lead.
-abbrev pub Sums : Transducer → (c : ℕ → ℕ) → Type 0
-Sums t c = (s : ℕ) → s < t .states → c s ≡ add-all t c s
-
--- Counts that no sweep changes any more.
-pub record Settled (t : Transducer) (cs : List Count) : Type 0 where
-  pub long : length cs ≡ 1024
-  pub rising : Rising t (at-state cs)
-  pub sums : Sums t (at-state cs)
-
--- What a sweep over the counts leaves: where no other sweep may change more they are settled, else their sum has grown.
-pub record Swept-says (t : Transducer) (before : List Count) (r : Swept) : Type 0 where
-  pub long : length (r .counts) ≡ 1024
-  pub rising : Rising t (at-state (r .counts))
-  pub sums : r .again ≡ false → Sums t (at-state (r .counts))
-  pub grown : r .again ≡ true → total (t .states) (at-state before) < total (t .states) (at-state (r .counts))
 
 -- Marks
 
@@ -65,6 +38,20 @@ pub record Dead (t : Transducer) (ms : List Bool) : Type 0 where
 pub record Stopping (t : Transducer) (g : ℕ → Bool) : Type 0 where
   pub rounds : ℕ
   pub stops : (s : ℕ) → s < t .states → g s ≡ true → goes-on rounds t s ≡ false
+
+-- An arc of a run of numbers that leads to an unmarked state, and that there is none.
+pub record Open (t : Transducer) (ms : List Bool) (from end : ℕ) : Type 0 where
+  pub number : ℕ
+  pub low : from ≤ number
+  pub high : number < end
+  pub unmarked : marked ms (arc t number .target) ≡ false
+
+abbrev pub Shut : Transducer → List Bool → (from end : ℕ) → Type 0
+Shut t ms from end = (i : ℕ) → from ≤ i → i < end → marked ms (arc t i .target) ≡ true
+
+pub record Leads-says (t : Transducer) (ms : List Bool) (from end : ℕ) (r : Bool) : Type 0 where
+  pub found : r ≡ true → Open t ms from end
+  pub none : r ≡ false → Shut t ms from end
 
 -- Whether some arc of a state leads to an unmarked one.
 unfoldable pub leads-on : Transducer → List Bool → (s : ℕ) → Bool
@@ -86,3 +73,29 @@ pub record Marked-says (t : Transducer) (value : Bool) (before after : List Bool
   pub changed : Changed t value before after
   pub rest : again ≡ false → (s : ℕ) → s < t .states → marked after s ≡ not value → leads-on t after s ≡ value
   pub fewer : again ≡ true → unlike value (t .states) after < unlike value (t .states) before
+
+-- Counts
+
+-- A state's count in an array of counts.
+unfoldable pub at-state : List Count → (s : ℕ) → ℕ
+at-state cs s = getD cs s (record { value = 0 }) .value
+
+-- Counts on their way: that of each marked state is its tally, of so many arcs or more.
+pub record Tallied (t : Transducer) (ms : List Bool) (cs : List Count) : Type 0 where
+  pub long : length cs ≡ 1024
+  pub rounds : ℕ
+  pub tallied : (s : ℕ) → s < t .states → marked ms s ≡ true → (k : ℕ) → rounds ≤ k → at-state cs s ≡ tally k t s
+
+-- What a sweep over marks and counts leaves.
+pub record Swept-says (t : Transducer) (before after : List Bool) (r : Swept) : Type 0 where
+  pub marks : Marked-says t true before after (r .again)
+  pub tallied : Tallied t after (r .counts)
+
+-- In the end: the count of each state from which only finitely many accepting paths go.
+pub record Settled (t : Transducer) (cs : List Count) : Type 0 where
+  pub long : length cs ≡ 1024
+  pub counts : (s : ℕ) → s < t .states → goes-on (t .states) t s ≡ false → at-state cs s ≡ min most-counted (length (paths-from (t .states) t s))
+
+pub record Totals-say (t : Transducer) (r : Totals) : Type 0 where
+  pub endless-is : r .endless ≡ endless t
+  pub settled : Settled t (r .counts)

@@ -1,16 +1,17 @@
-// One running count for each state, updated in place until nothing changes.
+// One running count for each state, set once only finitely many accepting paths are known to go from there.
 ghost use mathlib.Core.Path.{_≡_};
 ghost use mathlib.Core.Bool.{cond};
 ghost use Prim.Native.Nat.{_+_, _<_};
 ghost use lib.Dec.{eqb};
 ghost use lib.ListN.{length};
 ghost use Rattle.transducer.specs.Format.{decode};
-ghost use Rattle.transducer.specs.Path.{arc};
-ghost use Rattle.transducer.specs.Leaf.{Opened, Finals-by-state};
+ghost use Rattle.transducer.specs.Leaf.{Finals-by-state};
 ghost use Rattle.paths.specs.Tally.{add};
-ghost use Rattle.paths.specs.Sweep.{Ready, Rising, at-state, Settled, Swept-says};
+ghost use Rattle.paths.specs.Sweep.{Ready, Dead, Tallied, Swept-says, Totals-say};
 use crate::Count;
 use crate::Swept;
+use crate::Totals;
+use crate::arcs;
 
 const MOST: u32 = 99;
 
@@ -41,15 +42,7 @@ pub fn own(code: u32) -> Count
     Count { value: 1 }
 }
 
-// Where arc `i` leads.
-pub fn target(table: &[u8], first: usize, i: usize) -> usize
-    requires { ⌜ Opened (now table) first × (i < length (decode (now table) .arcs)) ⌝ }
-    ensures { λ r. ⌜ (r ≡ arc (decode (now (table .entry))) i .target) × (r < decode (now (table .entry)) .states) ⌝ }
-{
-    wire::u16_at(table, first + 16 * i + 10) as usize
-}
-
-// The arc to read after arc `i`: none before `end` once the sum is at its most.
+// The arc to add after arc `i`: none before `end` once the sum is at its most.
 fn after(i: usize, end: usize, sum: Count) -> usize
     requires { ⌜ i < end ⌝ }
     ensures { λ r. ⌜ r ≡ cond (eqb (sum .value) 99) end (i + 1) ⌝ }
@@ -60,63 +53,85 @@ fn after(i: usize, end: usize, sum: Count) -> usize
     i + 1
 }
 
-// Each count brought up to date by those where the arcs of its state lead, last state first. Another sweep may change more where this one
-// changed a count and read that of a state which it had yet to come to.
+// Counts and marks each unmarked state none of whose arcs leads to an unmarked one, last state first. Whether another sweep may mark more.
 fn sweep(
     table: &[u8],
     first: usize,
     states: usize,
     index: &[u16; 1025],
     codes: &[u32; 1024],
+    marks: &mut [bool; 1024],
     before: [Count; 1024],
 ) -> Swept
     requires { ⌜ Ready (now table) first states (now index) × Finals-by-state (decode (now table)) (now codes)
-        × Rising (decode (now table)) (at-state before) × (length before ≡ 1024) ⌝ }
-    ensures { λ r. ⌜ Swept-says (decode (now (table .entry))) before r ⌝ }
+        × (length (now marks) ≡ 1024) × Tallied (decode (now table)) (now marks) before ⌝ }
+    ensures { λ r. ⌜ Swept-says (decode (now (table .entry))) (now (marks .entry)) (now (marks .exit)) r ⌝ }
 {
     let mut counts = before;
     let mut changed = false;
-    let mut back = false;
+    let mut left = false;
     let mut s = states;
-    while s > 0 {
+    'states: while s > 0 {
         s -= 1;
+        if marks[s] {
+            continue;
+        }
         let end = index[s + 1] as usize;
         let mut i = index[s] as usize;
+        let mut seen = i;
         let mut sum = own(codes[s]);
         while i < end {
-            let to = target(table, first, i);
+            let to = arcs::target(table, first, i);
+            if !marks[to] {
+                left = true;
+                continue 'states;
+            }
             sum = sum.add(counts[to]);
-            back = back | (to <= s);
+            seen = i + 1;
             i = after(i, end, sum);
         }
-        let old = counts[s];
-        changed = changed | (old.value != sum.value);
+        // A sum at its most is not added to, but the arcs behind it may lead to an unmarked state.
+        if arcs::leads_on(table, first, seen, end, marks) {
+            left = true;
+            continue;
+        }
         counts[s] = sum;
+        marks[s] = true;
+        changed = true;
     }
     Swept {
         counts,
-        again: changed & back,
+        again: changed & left,
     }
 }
 
-// The counts of the accepting paths from each state.
+// The counts of the accepting paths from each state, and whether those from the start are infinitely many: the dead states are marked first,
+// with the count 0, and from a state that stays unmarked paths lead on for ever.
 pub fn counts_of(
     table: &[u8],
     first: usize,
     states: usize,
+    start: usize,
     index: &[u16; 1025],
     codes: &[u32; 1024],
-) -> [Count; 1024]
-    requires { ⌜ Ready (now table) first states (now index) × Finals-by-state (decode (now table)) (now codes) ⌝ }
-    ensures { λ r. ⌜ Settled (decode (now (table .entry))) r ⌝ }
+    dead: [bool; 1024],
+) -> Totals
+    requires { ⌜ Ready (now table) first states (now index) × (start ≡ decode (now table) .start) × Finals-by-state (decode (now table)) (now codes)
+        × Dead (decode (now table)) dead ⌝ }
+    ensures { λ r. ⌜ Totals-say (decode (now (table .entry))) r ⌝ }
 {
+    let mut marks = dead;
     let mut counts = [Count { value: 0 }; 1024];
     loop {
-        let next = sweep(table, first, states, index, codes, counts);
-        let swept = next.counts;
+        let next = sweep(table, first, states, index, codes, &mut marks, counts);
         if !next.again {
-            break swept;
+            let finite = marks[start];
+            let all = next.counts;
+            break Totals {
+                counts: all,
+                endless: !finite,
+            };
         }
-        counts = swept;
+        counts = next.counts;
     }
 }

@@ -29,13 +29,14 @@ pub fn count(table: &[u8]) -> Counted
     let index = transducer::first_arcs(table, first, n, head.arcs as usize);
     let codes = transducer::final_codes(table, f);
     let dead = marks::dead_states(table, first, n, &index, &codes);
-    if marks::is_endless(table, first, n, start, &index, dead) {
+    let totals = counts::counts_of(table, first, n, start, &index, &codes, dead);
+    if totals.endless {
         return Counted {
             refusal: 14,
             count: 0,
         };
     }
-    let counts = counts::counts_of(table, first, n, &index, &codes);
+    let counts = totals.counts;
     let all = counts[start];
     Counted {
         refusal: 0,
@@ -78,10 +79,11 @@ pub fn nth(table: &[u8], k: u32, arcs: &mut [u16], labels: &mut [u16]) -> Told
     let index = transducer::first_arcs(table, first, n, head.arcs as usize);
     let codes = transducer::final_codes(table, f);
     let dead = marks::dead_states(table, first, n, &index, &codes);
-    if marks::is_endless(table, first, n, start, &index, dead) {
+    let totals = counts::counts_of(table, first, n, start, &index, &codes, dead);
+    if totals.endless {
         return refused(14);
     }
-    let counts = counts::counts_of(table, first, n, &index, &codes);
+    let counts = totals.counts;
     let all = counts[start];
     if all.value <= k {
         return refused(15);

@@ -1,4 +1,5 @@
 // Accepting paths: their count, and the k-th path.
+mod arcs;
 mod counts;
 mod entry;
 mod marks;
@@ -23,6 +24,12 @@ pub struct Counted {
 pub struct Swept {
     pub counts: [Count; 1024],
     pub again: bool,
+}
+
+// The counts from each state, and whether accepting paths are infinitely many.
+pub struct Totals {
+    pub counts: [Count; 1024],
+    pub endless: bool,
 }
 
 // What a path's telling answers: the refusal or 0, then the cost and how many arcs and labels it has, 0 on refusal.

@@ -1,59 +1,40 @@
-// Marks by state, changed in place until nothing changes: the states from which nothing accepts, then those from which only finitely many
-// accepting paths go.
+// Marks by state, changed in place until nothing changes: the states from which nothing accepts.
 ghost use mathlib.Core.Path.{_≡_};
-ghost use mathlib.Core.Bool.{true, false};
+ghost use mathlib.Core.Bool.{false};
 ghost use Prim.Native.Nat.{ℕ, _≤_, _<_};
 ghost use lib.Dec.{eqb};
 ghost use lib.ListN.{length, getD};
 ghost use Rattle.transducer.specs.Format.{decode};
-ghost use Rattle.transducer.specs.Leaf.{Opened, Indexed, Finals-by-state};
-ghost use Rattle.paths.specs.Count.{endless};
-ghost use Rattle.paths.specs.Sweep.{Ready, marked, Dead, leads-on, Marked-says};
-use crate::counts;
+ghost use Rattle.transducer.specs.Leaf.{Finals-by-state};
+ghost use Rattle.paths.specs.Sweep.{Ready, marked, Dead, Marked-says};
+use crate::arcs;
 
-// Whether some arc of a state leads to an unmarked one.
-fn leads_on(table: &[u8], first: usize, index: &[u16; 1025], s: usize, marks: &[bool; 1024]) -> bool
-    requires { ⌜ Opened (now table) first × Indexed (decode (now table)) (now index) × (s < decode (now table) .states) ⌝ }
-    ensures { λ r. ⌜ r ≡ leads-on (decode (now (table .entry))) (now (marks .entry)) s ⌝ }
-{
-    let end = index[s + 1] as usize;
-    let mut i = index[s] as usize;
-    while i < end {
-        let to = counts::target(table, first, i);
-        if !marks[to] {
-            return true;
-        }
-        i += 1;
-    }
-    false
-}
-
-// Changes marks to `value`, last state first: a state is marked where none of its arcs leads to an unmarked one, unmarked where one does.
-// Whether another sweep may change more.
-fn mark(
+// Unmarks each marked state of which some arc leads to an unmarked one, last state first. Whether another sweep may unmark more.
+fn unmark(
     table: &[u8],
     first: usize,
     states: usize,
     index: &[u16; 1025],
     marks: &mut [bool; 1024],
-    value: bool,
 ) -> bool
     requires { ⌜ Ready (now table) first states (now index) × (length (now marks) ≡ 1024) ⌝ }
-    ensures { λ r. ⌜ Marked-says (decode (now (table .entry))) value (now (marks .entry)) (now (marks .exit)) r ⌝ }
+    ensures { λ r. ⌜ Marked-says (decode (now (table .entry))) false (now (marks .entry)) (now (marks .exit)) r ⌝ }
 {
     let mut changed = false;
     let mut left = false;
     let mut s = states;
     while s > 0 {
         s -= 1;
-        if marks[s] == value {
+        if !marks[s] {
             continue;
         }
-        if leads_on(table, first, index, s, marks) == value {
+        let from = index[s] as usize;
+        let end = index[s + 1] as usize;
+        if !arcs::leads_on(table, first, from, end, marks) {
             left = true;
             continue;
         }
-        marks[s] = value;
+        marks[s] = false;
         changed = true;
     }
     changed & left
@@ -85,23 +66,6 @@ pub fn dead_states(
     ensures { λ r. ⌜ Dead (decode (now (table .entry))) r ⌝ }
 {
     let mut marks = not_final(states, codes);
-    while mark(table, first, states, index, &mut marks, false) {}
+    while unmark(table, first, states, index, &mut marks) {}
     marks
-}
-
-// Whether accepting paths are infinitely many.
-pub fn is_endless(
-    table: &[u8],
-    first: usize,
-    states: usize,
-    start: usize,
-    index: &[u16; 1025],
-    dead: [bool; 1024],
-) -> bool
-    requires { ⌜ Ready (now table) first states (now index) × (start ≡ decode (now table) .start) × Dead (decode (now table)) dead ⌝ }
-    ensures { λ r. ⌜ r ≡ endless (decode (now (table .entry))) ⌝ }
-{
-    let mut marks = dead;
-    while mark(table, first, states, index, &mut marks, true) {}
-    !marks[start]
 }

@@ -12,6 +12,7 @@ ghost use Rattle.paths.specs.Sweep.{Ready, Settled};
 ghost use Rattle.paths.specs.Entry.{Tells};
 use crate::Count;
 use crate::Told;
+use crate::arcs;
 use crate::counts;
 
 // Puts the arc numbers of the k-th path into `arcs`, zeros behind; how many there are.
@@ -42,7 +43,7 @@ pub fn walk(
         left -= mine.value;
         let mut i = index[s] as usize;
         let next = loop {
-            let to = counts::target(table, first, i);
+            let to = arcs::target(table, first, i);
             let count = all[to];
             if left < count.value {
                 break to;

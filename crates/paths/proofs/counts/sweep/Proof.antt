@@ -1,34 +1,39 @@
--- Two loops. The inner one adds up the counts where the arcs of a state lead (`Adding`), the outer one has swept the states from `s` on (`Sweeping`).
-use borrow.Author.Needs.{needs}
-use mathlib.Core.Path.{refl, _∙_}
+-- Two loops. The inner one adds up the counts where the arcs of a state lead, all of them marked so far (`Adding`); the outer one has swept
+-- the states from `s` on (`MarkingOn`), and each marked state has its count (`Tallied`).
+use mathlib.Core.Path.{_≡_, refl, _∙_}
+use mathlib.Core.Bool.{true}
 use Prim.Native.Nat.{_+_, _-_, _<_}
 use native.Mathlib.Omega.{arith}
 use lib.ListN.{getD}
+use borrow.Author.Tests.{not-true, not-false}
 use Rattle.wire.specs.Bytes.{Bytes}
 use Rattle.transducer.specs.Format.{decode}
-use Rattle.paths.specs.Sweep.{at-state}
+use Rattle.paths.specs.Sweep.{at-state, marked, leads-on, Tallied}
 use Rattle.paths.proofs.Ready.{Sized, Range, sized, range, own-code}
-use Rattle.paths.proofs.CountsInPlace.{Adding, Sweeping, after-less, adding-first, adding-next, adding-stop, adding-below, sweeping-first, sweeping-down, sweeping-stop}
+use Rattle.paths.proofs.MarksInPlace.{MarkingOn, marking-first, marking-kept, marking-left, marking-set, marking-stop}
+use Rattle.paths.proofs.CountsInPlace.{Adding, after-less, adding-first, adding-below, adding-next, adding-stop, adding-found, adding-leads, tallied-set}
 use Rattle.paths.proofs.counts.sweep.Statement.{statement}
 use Rattle.paths.proofs.counts.sweep.Tie as tie
 
-abbrev Inv-loop2 : tie.InvT-loop2
-Inv-loop2 table first states index codes counts changed back₀ s end i₀ sum₀ back i sum = Adding (decode table) (at-state counts) s i end (sum .value) back₀ back
-
-abbrev μ-loop2 : tie.MeasureT-loop2
-μ-loop2 table first states index codes counts changed back₀ s end i₀ sum₀ back i sum = end - i
-
 abbrev Inv-loop : tie.InvT-loop
-Inv-loop table first states index codes counts₀ changed₀ back₀ s₀ counts changed back s = Sweeping (decode table) counts₀ s counts changed back
+Inv-loop table first states index codes marks counts changed left₀ s end i₀ seen₀ sum₀ left i seen sum =
+    Adding (decode table) marks (at-state counts) s i seen end (sum .value) × (left ≡ left₀)
 
 abbrev μ-loop : tie.MeasureT-loop
-μ-loop table first states index codes counts₀ changed₀ back₀ s₀ counts changed back s = s
+μ-loop table first states index codes marks counts changed left₀ s end i₀ seen₀ sum₀ left i seen sum = end - i
+
+abbrev Inv-states : tie.InvT-states
+Inv-states table first states index codes marks₀ counts₀ changed₀ left₀ s₀ marks counts changed left s =
+    MarkingOn (decode table) true marks₀ s marks changed left × Tallied (decode table) marks counts
+
+abbrev μ-states : tie.MeasureT-states
+μ-states table first states index codes marks₀ counts₀ changed₀ left₀ s₀ marks counts changed left s = s
 
 -- A turn of the outer loop: its state, and what is known of the bytes.
 abbrev Turn : Type 0
-Turn = tie.In-loop Inv-loop2 μ-loop2 Inv-loop μ-loop
+Turn = tie.In-states Inv-loop μ-loop Inv-states μ-states
 
-abbrev start : Turn → tie.Start Inv-loop2 μ-loop2 Inv-loop μ-loop
+abbrev start : Turn → tie.Start Inv-loop μ-loop Inv-states μ-states
 start c = c .before .before .before
 
 size : (c : Turn) → Sized (decode (start c .args .table .now))
@@ -37,144 +42,232 @@ size c =
     let bytes : Bytes bs = λ i. omega (arith, c .before .before .shared-slice-known .given i) in
     sized bs bytes (start c .pre .0 .opened .accepted)
 
-is-state : (c : Turn) → c .before .loop .s - 1 < decode (start c .args .table .now) .states
-is-state c = omega (arith, c .before .loop .inv .below, c .loop-test .taken)
+is-state : (c : Turn) → c .before .states .s - 1 < decode (start c .args .table .now) .states
+is-state c = omega (arith, c .before .states .inv .0 .below, c .states-test .taken)
 
-below : (c : Turn) → c .before .loop .s - 1 < 1024
+below : (c : Turn) → c .before .states .s - 1 < 1024
 below c = omega (arith, is-state c, size c .states)
 
-arcs : (c : Turn) → Range (decode (start c .args .table .now)) (c .before .loop .s - 1) (getD (start c .args .index .now) (c .before .loop .s - 1) 0) (getD (start c .args .index .now) (c .before .loop .s - 1 + 1) 0)
-arcs c = range (decode (start c .args .table .now)) (start c .args .index .now) (c .before .loop .s - 1) _ _ (start c .pre .0 .indexed) (is-state c) refl refl
+arcs : (c : Turn) → Range (decode (start c .args .table .now)) (c .before .states .s - 1) (getD (start c .args .index .now) (c .before .states .s - 1) 0) (getD (start c .args .index .now) (c .before .states .s - 1 + 1) 0)
+arcs c = range (decode (start c .args .table .now)) (start c .args .index .now) (c .before .states .s - 1) _ _ (start c .pre .0 .indexed) (is-state c) refl refl
 
--- The turn of the outer loop in which a turn of the inner loop stands.
-abbrev turn : tie.At-loop2 Inv-loop2 μ-loop2 Inv-loop μ-loop → Turn
-turn c = c .before .before .before .before .before
+-- The turn of the outer loop in which an unmarked state stands, and a turn of the inner loop.
+abbrev unmarked : tie.Else1 Inv-loop μ-loop Inv-states μ-states → Turn
+unmarked c = c .before .before
 
-loop-holds : tie.Need-loop-holds Inv-loop2 μ-loop2 Inv-loop μ-loop
-loop-holds c =
+abbrev turn : tie.At-loop Inv-loop μ-loop Inv-states μ-states → Turn
+turn c = unmarked (c .before .before .before .before .before)
+
+abbrev inner : tie.Else2 Inv-loop μ-loop Inv-states μ-states → tie.At-loop Inv-loop μ-loop Inv-states μ-states
+inner c = c .before .before .before .before
+
+states-holds : tie.Need-states-holds Inv-loop μ-loop Inv-states μ-states
+states-holds c =
     let a = c .before .args in
-    sweeping-first (decode (a .table .now)) (a .before) (a .states) (c .before .pre .3) (c .before .pre .0 .states-are) (c .before .pre .2)
+    (marking-first (decode (a .table .now)) true (a .marks .now) (a .states) (c .before .pre .0 .states-are) (c .before .pre .2), c .before .pre .3)
 
-sub-s : tie.Need-sub-s Inv-loop2 μ-loop2 Inv-loop μ-loop
-sub-s c = omega (arith, c .loop-test .taken)
+sub-s : tie.Need-sub-s Inv-loop μ-loop Inv-states μ-states
+sub-s c = omega (arith, c .states-test .taken)
 
-add-end : tie.Need-add-end Inv-loop2 μ-loop2 Inv-loop μ-loop
-add-end c = omega (arith, below c)
+element-copy-out-if1 : tie.Need-element-copy-out-if1 Inv-loop μ-loop Inv-states μ-states
+element-copy-out-if1 c = below c
 
-mul-end : tie.Need-mul-end Inv-loop2 μ-loop2 Inv-loop μ-loop
-mul-end c = omega (arith, below c)
+states-less : tie.Need-states-less Inv-loop μ-loop Inv-states μ-states
+states-less c = omega (arith, c .before .before .states-test .taken)
 
-element-copy-out-end : tie.Need-element-copy-out-end Inv-loop2 μ-loop2 Inv-loop μ-loop
-element-copy-out-end c = omega (arith, below c)
+states-again : tie.Need-states-again Inv-loop μ-loop Inv-states μ-states
+unfolding marked
+states-again c =
+    let t = c .before .before in
+    let at = t .before .states in
+    (marking-kept (decode (start t .args .table .now)) (size t) true (start t .args .marks .now) (at .s) (at .marks) (at .changed) (at .left) (at .inv .0) (t .states-test .taken) (c .if1 .taken), at .inv .1)
 
-cast-end : tie.Need-cast-end Inv-loop2 μ-loop2 Inv-loop μ-loop
-cast-end c = omega (arith, arcs (c .before) .inside, size (c .before) .arcs)
+add-end : tie.Need-add-end Inv-loop μ-loop Inv-states μ-states
+add-end c = omega (arith, below (unmarked c))
 
-mul-i : tie.Need-mul-i Inv-loop2 μ-loop2 Inv-loop μ-loop
-mul-i c = omega (arith, below (c .before))
+mul-end : tie.Need-mul-end Inv-loop μ-loop Inv-states μ-states
+mul-end c = omega (arith, below (unmarked c))
 
-element-copy-out-i : tie.Need-element-copy-out-i Inv-loop2 μ-loop2 Inv-loop μ-loop
-element-copy-out-i c = omega (arith, below (c .before))
+element-copy-out-end : tie.Need-element-copy-out-end Inv-loop μ-loop Inv-states μ-states
+element-copy-out-end c = omega (arith, below (unmarked c))
 
-cast-i : tie.Need-cast-i Inv-loop2 μ-loop2 Inv-loop μ-loop
-cast-i c = omega (arith, arcs (c .before .before) .order, arcs (c .before .before) .inside, size (c .before .before) .arcs)
+cast-end : tie.Need-cast-end Inv-loop μ-loop Inv-states μ-states
+cast-end c = let t = unmarked (c .before) in omega (arith, arcs t .inside, size t .arcs)
 
-mul-own : tie.Need-mul-own Inv-loop2 μ-loop2 Inv-loop μ-loop
-mul-own c = omega (arith, below (c .before .before))
+mul-i : tie.Need-mul-i Inv-loop μ-loop Inv-states μ-states
+mul-i c = omega (arith, below (unmarked (c .before)))
 
-element-copy-out-own : tie.Need-element-copy-out-own Inv-loop2 μ-loop2 Inv-loop μ-loop
-element-copy-out-own c = below (c .before .before)
+element-copy-out-i : tie.Need-element-copy-out-i Inv-loop μ-loop Inv-states μ-states
+element-copy-out-i c = omega (arith, below (unmarked (c .before)))
 
-own-requires : tie.Need-own-requires Inv-loop2 μ-loop2 Inv-loop μ-loop
+cast-i : tie.Need-cast-i Inv-loop μ-loop Inv-states μ-states
+cast-i c = let t = unmarked (c .before .before) in omega (arith, arcs t .order, arcs t .inside, size t .arcs)
+
+mul-own : tie.Need-mul-own Inv-loop μ-loop Inv-states μ-states
+mul-own c = omega (arith, below (unmarked (c .before .before)))
+
+element-copy-out-own : tie.Need-element-copy-out-own Inv-loop μ-loop Inv-states μ-states
+element-copy-out-own c = below (unmarked (c .before .before))
+
+own-requires : tie.Need-own-requires Inv-loop μ-loop Inv-states μ-states
 own-requires c κs = tt
 
-loop2-holds : tie.Need-loop2-holds Inv-loop2 μ-loop2 Inv-loop μ-loop
-loop2-holds c =
-    let t = c .before .before .before .before in
+loop-holds : tie.Need-loop-holds Inv-loop μ-loop Inv-states μ-states
+loop-holds c =
+    let t = unmarked (c .before .before .before .before) in
     let a = start t .args in
-    let s = t .before .loop .s - 1 in
-    adding-first (decode (a .table .now)) (size t) (at-state (t .before .loop .counts)) s (getD (a .index .now) s 0) (getD (a .index .now) (s + 1) 0) (c .own .result .value) (t .before .loop .back) (arcs t)
-    (c .own .ensures ∙ own-code (decode (a .table .now)) (a .codes .now) s (getD (a .codes .now) s 0) (start t .pre .1) (below t) refl)
-
-target-requires : tie.Need-target-requires Inv-loop2 μ-loop2 Inv-loop μ-loop
-target-requires c κs =
-    let t = turn (c .before) in (
-      start t .pre .0 .opened,
-      adding-below (decode (start t .args .table .now)) (at-state (t .before .loop .counts)) (t .before .loop .s - 1) (c .before .loop2 .i)
-          (getD (start t .args .index .now) (t .before .loop .s - 1 + 1) 0) (c .before .loop2 .sum .value) (t .before .loop .back) (c .before .loop2 .back) (c .before .loop2 .inv) (c .loop2-test .taken),
+    let at = t .before .states in
+    let s = at .s - 1 in (
+      adding-first (decode (a .table .now)) (size t) (at .marks) (at-state (at .counts)) s (getD (a .index .now) s 0) (getD (a .index .now) (s + 1) 0) (c .own .result .value) (arcs t)
+          (c .own .ensures ∙ own-code (decode (a .table .now)) (a .codes .now) s (getD (a .codes .now) s 0) (start t .pre .1) (below t) refl),
+      refl,
     )
 
-mul-add : tie.Need-mul-add Inv-loop2 μ-loop2 Inv-loop μ-loop
-mul-add c = omega (arith, c .target .ensures .1, size (turn (c .before .before)) .states)
+target-requires : tie.Need-target-requires Inv-loop μ-loop Inv-states μ-states
+target-requires c κs =
+    let t = turn (c .before) in
+    let at = t .before .states in
+    let arc = c .before .loop in (
+      start t .pre .0 .opened,
+      adding-below (decode (start t .args .table .now)) (size t) (at .marks) (at-state (at .counts)) (at .s - 1) (arc .i) (arc .seen)
+          (getD (start t .args .index .now) (at .s - 1 + 1) 0) (arc .sum .value) (arc .inv .0) (c .loop-test .taken),
+    )
 
-array-copy-out-add : tie.Need-array-copy-out-add Inv-loop2 μ-loop2 Inv-loop μ-loop
-array-copy-out-add c = omega (arith, c .target .ensures .1, size (turn (c .before .before)) .states)
+element-copy-out-if2 : tie.Need-element-copy-out-if2 Inv-loop μ-loop Inv-states μ-states
+element-copy-out-if2 c = omega (arith, c .target .ensures .1, size (turn (c .before .before)) .states)
 
-add-requires : tie.Need-add-requires Inv-loop2 μ-loop2 Inv-loop μ-loop
+states-less-2 : tie.Need-states-less-2 Inv-loop μ-loop Inv-states μ-states
+states-less-2 c = omega (arith, turn (c .before .before .before .before) .states-test .taken)
+
+states-again-2 : tie.Need-states-again-2 Inv-loop μ-loop Inv-states μ-states
+unfolding marked
+states-again-2 c =
+    let arc = c .before .before .before .before in
+    let t = turn arc in
+    let at = t .before .states in
+    let z = decode (start t .args .table .now) in
+    let target = c .before .before .target in
+    let found = adding-found z (size t) (at .marks) (at-state (at .counts)) (at .s - 1) (arc .loop .i) (arc .loop .seen) (getD (start t .args .index .now) (at .s - 1 + 1) 0) (arc .loop .sum .value) (arc .loop .inv .0)
+    (target .result) (c .before .before .before .loop-test .taken) (target .ensures .0) (not-true (marked (at .marks) (target .result)) (c .if2 .taken)) in
+    (marking-left z (size t) true (start t .args .marks .now) (at .s) (at .marks) (at .changed) (at .left) (at .inv .0) (t .states-test .taken) found, at .inv .1)
+
+mul-add : tie.Need-mul-add Inv-loop μ-loop Inv-states μ-states
+mul-add c = omega (arith, c .before .before .target .ensures .1, size (turn (inner c)) .states)
+
+array-copy-out-add : tie.Need-array-copy-out-add Inv-loop μ-loop Inv-states μ-states
+array-copy-out-add c = omega (arith, c .before .before .target .ensures .1, size (turn (inner c)) .states)
+
+add-requires : tie.Need-add-requires Inv-loop μ-loop Inv-states μ-states
 add-requires c κs = tt
 
-after-requires : tie.Need-after-requires Inv-loop2 μ-loop2 Inv-loop μ-loop
-after-requires c κs = c .before .before .before .loop2-test .taken
+add-seen : tie.Need-add-seen Inv-loop μ-loop Inv-states μ-states
+add-seen c =
+    let arc = c .before .before in
+    let t = turn (inner arc) in
+    omega (arith, arc .before .before .before .loop-test .taken, arcs t .inside, size t .arcs)
 
-loop2-less : tie.Need-loop2-less Inv-loop2 μ-loop2 Inv-loop μ-loop
-loop2-less c =
-    let inner = c .before .before .before .before .before in
-    let to = getD (start (turn inner) .args .index .now) (turn inner .before .loop .s - 1 + 1) 0 in
-    after-less (inner .loop2 .i) to (c .before .add .result .value) (c .after .result) (c .before .before .before .before .loop2-test .taken) (c .after .ensures)
+after-requires : tie.Need-after-requires Inv-loop μ-loop Inv-states μ-states
+after-requires c κs = c .before .before .before .before .before .loop-test .taken
 
-loop2-again : tie.Need-loop2-again Inv-loop2 μ-loop2 Inv-loop μ-loop
-unfolding at-state
-loop2-again c =
-    let inner = c .before .before .before .before .before in
-    let t = turn inner in
-    adding-next (decode (start t .args .table .now)) (size t) (at-state (t .before .loop .counts)) (t .before .loop .s - 1) (inner .loop2 .i) (c .after .result)
-    (getD (start t .args .index .now) (t .before .loop .s - 1 + 1) 0) (inner .loop2 .sum .value) (c .before .add .result .value) (c .before .before .before .target .result)
-    (t .before .loop .back) (inner .loop2 .back) (inner .loop2 .inv) (c .before .before .before .before .loop2-test .taken) (c .before .before .before .target .ensures .0) (c .before .add .ensures)
-    (c .after .ensures)
+loop-less : tie.Need-loop-less Inv-loop μ-loop Inv-states μ-states
+loop-less c =
+    let added = c .before in
+    let arc = inner (added .before .before) in
+    let t = turn arc in
+    after-less (arc .loop .i) (getD (start t .args .index .now) (t .before .states .s - 1 + 1) 0) (added .add .result .value) (c .after .result) (added .before .before .before .before .before .loop-test .taken) (c .after .ensures)
 
-mul-old : tie.Need-mul-old Inv-loop2 μ-loop2 Inv-loop μ-loop
-mul-old c = omega (arith, below (turn (c .before)))
-
-array-copy-out-old : tie.Need-array-copy-out-old Inv-loop2 μ-loop2 Inv-loop μ-loop
-array-copy-out-old c = below (turn (c .before))
-
-mul-counts : tie.Need-mul-counts Inv-loop2 μ-loop2 Inv-loop μ-loop
-mul-counts c = omega (arith, below (turn (c .before .before .before .before)))
-
-array-set-from-counts : tie.Need-array-set-from-counts Inv-loop2 μ-loop2 Inv-loop μ-loop
-array-set-from-counts c = below (turn (c .before .before .before .before))
-
-loop-less : tie.Need-loop-less Inv-loop2 μ-loop2 Inv-loop μ-loop
-loop-less c = let t = turn (c .before .before .before .before) in omega (arith, t .loop-test .taken)
-
-loop-again : tie.Need-loop-again Inv-loop2 μ-loop2 Inv-loop μ-loop
-unfolding at-state
+loop-again : tie.Need-loop-again Inv-loop μ-loop Inv-states μ-states
+unfolding at-state marked
 loop-again c =
-    let inner = c .before .before .before .before in
-    let t = turn inner in
-    let cs = t .before .loop .counts in
-    let s = t .before .loop .s in
-    let z = decode (start t .args .table .now) in
-    sweeping-down z (size t) (start t .args .before) s cs (t .before .loop .changed) (t .before .loop .back) (inner .loop2 .back) (at-state cs (s - 1)) (inner .loop2 .sum) (t .before .loop .inv)
-    (t .loop-test .taken) (inner .loop2 .inv .kept) refl
-    (adding-stop z (size t) (at-state cs) (s - 1) (inner .loop2 .i) (getD (start t .args .index .now) (s - 1 + 1) 0) (inner .loop2 .sum .value) (t .before .loop .back) (inner .loop2 .back) (inner .loop2 .inv)
-    (c .before .before .before .loop2-test .left))
+    let added = c .before in
+    let arc = added .before .before in
+    let at-arc = inner arc in
+    let t = turn at-arc in
+    let at = t .before .states in
+    let target = arc .before .before .target in (
+      adding-next (decode (start t .args .table .now)) (size t) (at .marks) (at-state (at .counts)) (at .s - 1) (at-arc .loop .i) (at-arc .loop .seen) (getD (start t .args .index .now) (at .s - 1 + 1) 0)
+          (at-arc .loop .sum .value) (at-arc .loop .inv .0) (c .after .result) (added .add .result .value) (target .result) (arc .before .before .before .loop-test .taken) (target .ensures .0)
+          (not-false (marked (at .marks) (target .result)) (arc .if2 .left)) (added .add .ensures) (c .after .ensures),
+      at-arc .loop .inv .1,
+    )
 
-returns : tie.Need-returns Inv-loop2 μ-loop2 Inv-loop μ-loop
+leads-on-requires : tie.Need-leads-on-requires Inv-loop μ-loop Inv-states μ-states
+leads-on-requires c κs = let t = turn (c .before .before) in (start t .pre .0 .opened, arcs t .inside)
+
+-- What was found among the arcs.
+abbrev searched : tie.After-leads-on Inv-loop μ-loop Inv-states μ-states → tie.At-loop Inv-loop μ-loop Inv-states μ-states
+searched c = c .before .before .before
+
+found : (c : tie.After-leads-on Inv-loop μ-loop Inv-states μ-states) → leads-on (decode (start (turn (searched c)) .args .table .now)) (turn (searched c) .before .states .marks) (turn (searched c) .before .states .s - 1) ≡ c .leads-on .result
+found c =
+    let arc = searched c in
+    let t = turn arc in
+    let at = t .before .states in
+    adding-leads (decode (start t .args .table .now)) (size t) (at .marks) (at-state (at .counts)) (at .s - 1) (arc .loop .i) (arc .loop .seen) (getD (start t .args .index .now) (at .s - 1 + 1) 0)
+    (arc .loop .sum .value) (arc .loop .inv .0) (c .leads-on .result) (c .leads-on .ensures)
+
+states-less-3 : tie.Need-states-less-3 Inv-loop μ-loop Inv-states μ-states
+states-less-3 c = omega (arith, turn (searched (c .before)) .states-test .taken)
+
+states-again-3 : tie.Need-states-again-3 Inv-loop μ-loop Inv-states μ-states
+states-again-3 c =
+    let t = turn (searched (c .before)) in
+    let at = t .before .states in (
+      marking-left (decode (start t .args .table .now)) (size t) true (start t .args .marks .now) (at .s) (at .marks) (at .changed) (at .left) (at .inv .0) (t .states-test .taken)
+          (found (c .before) ∙ c .if3 .taken),
+      at .inv .1,
+    )
+
+mul-counts : tie.Need-mul-counts Inv-loop μ-loop Inv-states μ-states
+mul-counts c = omega (arith, below (turn (searched (c .before))))
+
+array-set-from-counts : tie.Need-array-set-from-counts Inv-loop μ-loop Inv-states μ-states
+array-set-from-counts c = below (turn (searched (c .before)))
+
+element-write-marks : tie.Need-element-write-marks Inv-loop μ-loop Inv-states μ-states
+element-write-marks c = below (turn (searched (c .before)))
+
+states-less-4 : tie.Need-states-less-4 Inv-loop μ-loop Inv-states μ-states
+states-less-4 c = omega (arith, turn (searched (c .before)) .states-test .taken)
+
+states-again-4 : tie.Need-states-again-4 Inv-loop μ-loop Inv-states μ-states
+unfolding marked
+states-again-4 c =
+    let arc = searched (c .before) in
+    let t = turn arc in
+    let at = t .before .states in
+    let s = at .s - 1 in
+    let z = decode (start t .args .table .now) in
+    let end = getD (start t .args .index .now) (s + 1) 0 in
+    let shut = found (c .before) ∙ c .if3 .left in
+    let marks = marking-set z (size t) true (start t .args .marks .now) (at .s) (at .marks) (at .changed) (at .left) (at .inv .0) (t .states-test .taken) (arc .before .before .before .before .before .if1 .left) shut in (
+      rw (arc .loop .inv .1) marks,
+      tallied-set z (size t) (at .marks) (at .counts) s (arc .loop .sum) (at .inv .1) (is-state t) shut
+          (adding-stop z (size t) (at .marks) (at-state (at .counts)) s (arc .loop .i) (arc .loop .seen) end (arc .loop .sum .value) (arc .loop .inv .0) (c .before .before .before .loop-test .left)),
+    )
+
+returns : tie.Need-returns Inv-loop μ-loop Inv-states μ-states
 returns c =
     let a = c .before .before .before .args in
-    sweeping-stop (decode (a .table .now)) (a .before) (c .before .loop .s) (c .before .loop .counts) (c .before .loop .changed) (c .before .loop .back) _ refl (c .before .loop .inv) (c .loop-test .left)
+    let at = c .before .states in
+    record {
+      marks = marking-stop (decode (a .table .now)) true (a .marks .now) (at .s) (at .marks) (at .changed) (at .left) (at .inv .0) (c .states-test .left);
+      tallied = at .inv .1;
+    }
 
 pub sweep-spec : {M : Type 1} → statement M
 sweep-spec =
     tie.close
     (tie.spec
-    Inv-loop2
-    μ-loop2
     Inv-loop
     μ-loop
-    loop-holds
+    Inv-states
+    μ-states
+    states-holds
     sub-s
+    element-copy-out-if1
+    states-less
+    states-again
     add-end
     mul-end
     element-copy-out-end
@@ -185,18 +278,24 @@ sweep-spec =
     mul-own
     element-copy-out-own
     own-requires
-    loop2-holds
+    loop-holds
     target-requires
+    element-copy-out-if2
+    states-less-2
+    states-again-2
     mul-add
     array-copy-out-add
     add-requires
+    add-seen
     after-requires
-    loop2-less
-    loop2-again
-    mul-old
-    array-copy-out-old
-    mul-counts
-    array-set-from-counts
     loop-less
     loop-again
+    leads-on-requires
+    states-less-3
+    states-again-3
+    mul-counts
+    array-set-from-counts
+    element-write-marks
+    states-less-4
+    states-again-4
     returns)

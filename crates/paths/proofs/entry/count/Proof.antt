@@ -32,11 +32,8 @@ at-header c = c .before .before .before .before
 abbrev at-index : tie.After-codes → tie.After-first-arcs
 at-index c = c .before .before .before
 
-abbrev at-codes : tie.After-is-endless → tie.After-codes
-at-codes c = c .before .before .before
-
-abbrev asked : tie.After-codes2 → tie.After-is-endless
-asked c = c .before .before .before
+abbrev at-codes : tie.After-counts-of → tie.After-codes
+at-codes c = c .before .before .before .before
 
 ready : (c : tie.After-first-arcs) → Ready (at-header (c .before) .before .before .before .before .args .table .now) (12 + 10 * at-header (c .before) .header .result .finals) (at-header (c .before) .header .result .states) (c .first-arcs .result)
 ready c =
@@ -79,34 +76,33 @@ final-codes-requires c κs = let known = head (at-header (c .before)) in (known 
 dead-states-requires : tie.Need-dead-states-requires
 dead-states-requires c κs = (ready (at-index c), c .before .before .final-codes .ensures)
 
-is-endless-requires : tie.Need-is-endless-requires
-is-endless-requires c κs =
-    let index = at-index (c .before .before) in
-    (ready index, head (at-header (index .before)) .start-is, c .before .dead-states .ensures)
+counts-of-requires : tie.Need-counts-of-requires
+counts-of-requires c κs =
+    let codes = c .before .before .before in
+    let index = at-index codes in
+    (ready index, head (at-header (index .before)) .start-is, codes .before .before .final-codes .ensures, c .before .before .dead-states .ensures)
 
 returns-2 : tie.Need-returns-2
 returns-2 c =
-    let passed = at-header (at-index (at-codes (c .before)) .before) .before in
-    count-endless (passed .before .refusal .ensures) (passed .if1 .left) (c .before .is-endless .ensures) (c .if2 .taken)
-
-counts-of-requires : tie.Need-counts-of-requires
-counts-of-requires c κs = let codes = at-codes (asked c) in (ready (at-index codes), codes .before .before .final-codes .ensures)
+    let counted = c .before in
+    let passed = at-header (at-index (at-codes counted) .before) .before in
+    count-endless (passed .before .refusal .ensures) (passed .if1 .left) (counted .counts-of .ensures .endless-is) (c .if2 .taken)
 
 mul-all : tie.Need-mul-all
-mul-all c = omega (arith, head (at-header (at-index (at-codes (asked (c .before))) .before)) .start-below)
+mul-all c = omega (arith, head (at-header (at-index (at-codes (c .before .before)) .before)) .start-below)
 
 array-copy-out-all : tie.Need-array-copy-out-all
-array-copy-out-all c = head (at-header (at-index (at-codes (asked (c .before))) .before)) .start-below
+array-copy-out-all c = head (at-header (at-index (at-codes (c .before .before)) .before)) .start-below
 
 returns-3 : tie.Need-returns-3
 unfolding at-state
 returns-3 c =
-    let counted = c .before in
-    let tested = asked (counted .before) in
-    let header = at-header (at-index (at-codes tested) .before) in
-    let passed = header .before in
-    count-found {cs = counted .counts-of .result} {start = header .header .result .start} (size passed) (passed .before .refusal .ensures) (passed .if1 .left)
-    (tested .is-endless .ensures) (counted .before .before .before .if2 .left) (counted .counts-of .ensures) (head header .start-is)
+    let passed = c .before .before in
+    let counted = passed .before in
+    let header = at-header (at-index (at-codes counted) .before) in
+    let accepted = header .before in
+    count-found {cs = counted .counts-of .result .counts} {start = header .header .result .start} (size accepted) (accepted .before .refusal .ensures) (accepted .if1 .left)
+    (counted .counts-of .ensures .endless-is) (passed .if2 .left) (counted .counts-of .ensures .settled) (head header .start-is)
 
 pub count-spec : {M : Type 1} → statement M
 count-spec =
@@ -124,9 +120,8 @@ count-spec =
     first-arcs-requires
     final-codes-requires
     dead-states-requires
-    is-endless-requires
-    returns-2
     counts-of-requires
+    returns-2
     mul-all
     array-copy-out-all
     returns-3)

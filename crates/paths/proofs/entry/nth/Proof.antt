@@ -28,20 +28,17 @@ at-header c = c .before .before .before .before
 abbrev at-index : tie.After-codes → tie.After-first-arcs
 at-index c = c .before .before .before
 
-abbrev at-codes : tie.After-is-endless → tie.After-codes
-at-codes c = c .before .before .before
+abbrev at-codes : tie.After-counts-of → tie.After-codes
+at-codes c = c .before .before .before .before
 
-abbrev header-of : tie.After-is-endless → tie.After-header
+abbrev header-of : tie.After-counts-of → tie.After-header
 header-of c = at-header (at-index (at-codes c) .before)
 
-abbrev not-endless : tie.After-counts-of → tie.Else4
-not-endless c = c .before .before .before
+abbrev not-endless : tie.Else5 → tie.Else4
+not-endless c = c .before .before .before .before
 
-abbrev counting : tie.Else5 → tie.After-counts-of
-counting c = c .before .before .before
-
-abbrev tested : tie.Else5 → tie.After-is-endless
-tested c = not-endless (counting c) .before
+abbrev tested : tie.Else5 → tie.After-counts-of
+tested c = not-endless c .before
 
 -- The bytes are accepted.
 is-bytes : (c : tie.Else3) → Bytes (start c .args .table .now)
@@ -62,22 +59,22 @@ ready c =
     record { opened = known .opened; states-are = known .states-are; indexed = c .first-arcs .ensures }
 
 -- The count at the start.
-counted : (c : tie.After-counts-of) → at-state (c .counts-of .result) (header-of (not-endless c .before) .header .result .start) ≡ path-count (decode (start (header-of (not-endless c .before) .before) .args .table .now))
+counted : (c : tie.Else4) → at-state (c .before .counts-of .result .counts) (header-of (c .before) .header .result .start) ≡ path-count (decode (start (header-of (c .before) .before) .args .table .now))
 counted c =
-    let at = not-endless c in
-    let header = header-of (at .before) in
-    start-count (decode (start (header .before) .args .table .now)) (size (header .before)) (c .counts-of .result) (header .header .result .start)
-    (c .counts-of .ensures) (head header .start-is) (at .before .is-endless .ensures) (at .if4 .left)
+    let totals = c .before .counts-of in
+    let header = header-of (c .before) in
+    start-count (decode (start (header .before) .args .table .now)) (size (header .before)) (totals .result .counts) (header .header .result .start)
+    (totals .ensures .settled) (head header .start-is) (totals .ensures .endless-is) (c .if4 .left)
 
 finite : (c : tie.Else4) → endless (decode (start (header-of (c .before) .before) .args .table .now)) ≡ false
-finite c = sym (c .before .is-endless .ensures) ∙ c .if4 .left
+finite c = sym (c .before .counts-of .ensures .endless-is) ∙ c .if4 .left
 
 there : (c : tie.Else5) → start (header-of (tested c) .before) .args .k < path-count (decode (start (header-of (tested c) .before) .args .table .now))
 unfolding at-state
 there c =
     let header = header-of (tested c) in
-    let below : start (header .before) .args .k < at-state (counting c .counts-of .result) (header .header .result .start) = c .if5 .left in
-    let is : at-state (counting c .counts-of .result) (header .header .result .start) ≡ path-count (decode (start (header .before) .args .table .now)) = counted (counting c) in
+    let below : start (header .before) .args .k < at-state (tested c .counts-of .result .counts) (header .header .result .start) = c .if5 .left in
+    let is : at-state (tested c .counts-of .result .counts) (header .header .result .start) ≡ path-count (decode (start (header .before) .args .table .now)) = counted (not-endless c) in
     omega arith
 
 -- The path that was walked.
@@ -92,7 +89,7 @@ path c =
     let at = walking c in
     let passed = header-of (tested at) .before in
     let a = start passed .args in
-    found (decode (a .table .now)) (size passed) (a .k) (c .walk .result) (a .arcs .now) (walked c) (finite (not-endless (counting at))) (there at) (passed .before .if2 .left)
+    found (decode (a .table .now)) (size passed) (a .k) (c .walk .result) (a .arcs .now) (walked c) (finite (not-endless at)) (there at) (passed .before .if2 .left)
     (c .walk .ensures .0) (c .walk .ensures .1)
 
 refusal-requires : tie.Need-refusal-requires
@@ -147,10 +144,11 @@ final-codes-requires c κs = let known = head (at-header (c .before)) in (known 
 dead-states-requires : tie.Need-dead-states-requires
 dead-states-requires c κs = (ready (at-index c), c .before .before .final-codes .ensures)
 
-is-endless-requires : tie.Need-is-endless-requires
-is-endless-requires c κs =
-    let index = at-index (c .before .before) in
-    (ready index, head (at-header (index .before)) .start-is, c .before .dead-states .ensures)
+counts-of-requires : tie.Need-counts-of-requires
+counts-of-requires c κs =
+    let codes = c .before .before .before in
+    let index = at-index codes in
+    (ready index, head (at-header (index .before)) .start-is, codes .before .before .final-codes .ensures, c .before .before .dead-states .ensures)
 
 refused-requires-4 : tie.Need-refused-requires-4
 refused-requires-4 c κs = tt
@@ -159,16 +157,13 @@ returns-4 : tie.Need-returns-4
 returns-4 c =
     let asked = c .before .before in
     let passed = header-of asked .before in
-    nth-endless (at-refusal passed .refusal .ensures) (passed .before .before .if1 .left) (passed .before .if2 .left) (passed .if3 .left) (asked .is-endless .ensures) (c .before .if4 .taken) (c .refused4 .ensures)
-
-counts-of-requires : tie.Need-counts-of-requires
-counts-of-requires c κs = let codes = at-codes (c .before .before .before) in (ready (at-index codes), codes .before .before .final-codes .ensures)
+    nth-endless (at-refusal passed .refusal .ensures) (passed .before .before .if1 .left) (passed .before .if2 .left) (passed .if3 .left) (asked .counts-of .ensures .endless-is) (c .before .if4 .taken) (c .refused4 .ensures)
 
 mul-all : tie.Need-mul-all
-mul-all c = omega (arith, head (header-of (not-endless c .before)) .start-below)
+mul-all c = omega (arith, head (header-of (c .before .before)) .start-below)
 
 array-copy-out-all : tie.Need-array-copy-out-all
-array-copy-out-all c = head (header-of (not-endless c .before)) .start-below
+array-copy-out-all c = head (header-of (c .before .before)) .start-below
 
 refused-requires-5 : tie.Need-refused-requires-5
 refused-requires-5 c κs = tt
@@ -176,22 +171,21 @@ refused-requires-5 c κs = tt
 returns-5 : tie.Need-returns-5
 unfolding at-state
 returns-5 c =
-    let count = c .before .before .before .before in
-    let at = not-endless count in
+    let at = c .before .before .before .before .before in
     let asked = at .before in
     let header = header-of asked in
     let passed = header .before in
     let a = start passed .args in
-    let most : at-state (count .counts-of .result) (header .header .result .start) ≤ a .k = c .before .if5 .taken in
-    let is : at-state (count .counts-of .result) (header .header .result .start) ≡ path-count (decode (a .table .now)) = counted count in
-    nth-none (at-refusal passed .refusal .ensures) (passed .before .before .if1 .left) (passed .before .if2 .left) (passed .if3 .left) (asked .is-endless .ensures) (at .if4 .left) (omega arith) (c .refused5 .ensures)
+    let most : at-state (asked .counts-of .result .counts) (header .header .result .start) ≤ a .k = c .before .if5 .taken in
+    let is : at-state (asked .counts-of .result .counts) (header .header .result .start) ≡ path-count (decode (a .table .now)) = counted at in
+    nth-none (at-refusal passed .refusal .ensures) (passed .before .before .if1 .left) (passed .before .if2 .left) (passed .if3 .left) (asked .counts-of .ensures .endless-is) (at .if4 .left) (omega arith) (c .refused5 .ensures)
 
 walk-requires : tie.Need-walk-requires
 walk-requires c κs =
     let at = c .before .before .before in
     let asked = tested at in
     let index = at-index (at-codes asked) in
-    (ready index, at-codes asked .before .before .final-codes .ensures, counting at .counts-of .ensures, head (header-of asked) .start-is, finite (not-endless (counting at)), there at, header-of asked .before .before .if2 .left)
+    (ready index, at-codes asked .before .before .final-codes .ensures, asked .counts-of .ensures .settled, head (header-of asked) .start-is, finite (not-endless at), there at, header-of asked .before .before .if2 .left)
 
 tell-requires : tie.Need-tell-requires
 tell-requires c κs =
@@ -212,7 +206,7 @@ returns-6 c =
     let at = walking told in
     let asked = tested at in
     let passed = header-of asked .before in
-    nth-found (at-refusal passed .refusal .ensures) (passed .before .before .if1 .left) (passed .before .if2 .left) (passed .if3 .left) (asked .is-endless .ensures) (not-endless (counting at) .if4 .left) (there at)
+    nth-found (at-refusal passed .refusal .ensures) (passed .before .before .if1 .left) (passed .before .if2 .left) (passed .if3 .left) (asked .counts-of .ensures .endless-is) (not-endless at .if4 .left) (there at)
     (told .walk .ensures .0) (path told) (c .before .before .tell .ensures)
 
 pub nth-spec : {M : Type 1} → statement M
@@ -236,10 +230,9 @@ nth-spec =
     first-arcs-requires
     final-codes-requires
     dead-states-requires
-    is-endless-requires
+    counts-of-requires
     refused-requires-4
     returns-4
-    counts-of-requires
     mul-all
     array-copy-out-all
     refused-requires-5

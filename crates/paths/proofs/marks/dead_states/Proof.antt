@@ -34,23 +34,23 @@ loop-holds c =
     living-first (decode (start .args .table .now)) (size (c .before)) (start .args .codes .now) (start .pre .1) (start .args .states) (c .not-final .result) (start .pre .0 .states-are)
     (record { long = c .not-final .ensures .0; made = c .not-final .ensures .1 })
 
-mark-requires : tie.Need-mark-requires Inv-loop μ-loop
-mark-requires c κs = (c .before .before .before .before .pre .0, c .before .loop .inv .long)
+unmark-requires : tie.Need-unmark-requires Inv-loop μ-loop
+unmark-requires c κs = (c .before .before .before .before .pre .0, c .before .loop .inv .long)
 
 loop-less : tie.Need-loop-less Inv-loop μ-loop
-loop-less c = c .before .mark .ensures .fewer (c .if1 .taken)
+loop-less c = c .before .unmark .ensures .fewer (c .if1 .taken)
 
 loop-again : tie.Need-loop-again Inv-loop μ-loop
 loop-again c =
     let entry = c .before .before .before .before .before in
-    living-changed (decode (entry .before .args .table .now)) (size entry) (c .before .mark .ensures .changed) (c .before .before .before .loop .inv)
+    living-changed (decode (entry .before .args .table .now)) (size entry) (c .before .unmark .ensures .changed) (c .before .before .before .loop .inv)
 
 returns : tie.Need-returns Inv-loop μ-loop
 returns c =
     let entry = c .before .before .before .before .before in
     let t = decode (entry .before .args .table .now) in
-    let says = c .before .mark .ensures in
-    living-stop t (size entry) (c .before .mark .last .1 .1 .1 .1 .0) (living-changed t (size entry) (says .changed) (c .before .before .before .loop .inv)) (says .rest (c .if1 .left))
+    let says = c .before .unmark .ensures in
+    living-stop t (size entry) (c .before .unmark .last .1 .1 .1 .1 .0) (living-changed t (size entry) (says .changed) (c .before .before .before .loop .inv)) (says .rest (c .if1 .left))
 
 pub dead-states-spec : {M : Type 1} → statement M
 dead-states-spec =
@@ -60,7 +60,7 @@ dead-states-spec =
     μ-loop
     not-final-requires
     loop-holds
-    mark-requires
+    unmark-requires
     loop-less
     loop-again
     returns)

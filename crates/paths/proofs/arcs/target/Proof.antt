@@ -10,8 +10,8 @@ use Rattle.transducer.specs.Path.{arc}
 use Rattle.transducer.specs.declared.Arc.{Arc}
 use Rattle.transducer.proofs.Offsets.{arc-offset, arc-inside}
 use Rattle.transducer.proofs.Accept.{content-range, accepted-content}
-use Rattle.paths.proofs.counts.target.Statement.{statement}
-use Rattle.paths.proofs.counts.target.Tie as tie
+use Rattle.paths.proofs.arcs.target.Statement.{statement}
+use Rattle.paths.proofs.arcs.target.Tie as tie
 
 inside : (c : tie.After-shared-slice-known) → c .before .args .first + 16 * c .before .args .i + 16 ≤ length (c .before .args .table .now)
 inside c =
