@@ -26,7 +26,7 @@ pub fn count(table: &[u8]) -> Counted
     let f = head.finals as usize;
     let start = head.start as usize;
     let first = 12 + 10 * f;
-    let index = transducer::first_arcs(table, first, n, head.arcs as usize);
+    let index = transducer::first_arcs_by_blocks(table, first, n, head.arcs as usize);
     let codes = transducer::final_codes(table, f);
     let dead = marks::dead_states(table, first, n, &index, &codes);
     let totals = counts::counts_of(table, first, n, start, &index, &codes, dead);
@@ -76,7 +76,7 @@ pub fn nth(table: &[u8], k: u32, arcs: &mut [u16], labels: &mut [u16]) -> Told
     let f = head.finals as usize;
     let start = head.start as usize;
     let first = 12 + 10 * f;
-    let index = transducer::first_arcs(table, first, n, head.arcs as usize);
+    let index = transducer::first_arcs_by_blocks(table, first, n, head.arcs as usize);
     let codes = transducer::final_codes(table, f);
     let dead = marks::dead_states(table, first, n, &index, &codes);
     let totals = counts::counts_of(table, first, n, start, &index, &codes, dead);

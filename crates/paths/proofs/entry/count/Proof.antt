@@ -29,16 +29,16 @@ head c = headed (c .before .before .before .before .args .table .now) (is-bytes 
 abbrev at-header : tie.After-struct-known4 → tie.After-header
 at-header c = c .before .before .before .before
 
-abbrev at-index : tie.After-codes → tie.After-first-arcs
+abbrev at-index : tie.After-codes → tie.After-first-arcs-by-blocks
 at-index c = c .before .before .before
 
 abbrev at-codes : tie.After-counts-of → tie.After-codes
 at-codes c = c .before .before .before .before
 
-ready : (c : tie.After-first-arcs) → Ready (at-header (c .before) .before .before .before .before .args .table .now) (12 + 10 * at-header (c .before) .header .result .finals) (at-header (c .before) .header .result .states) (c .first-arcs .result)
+ready : (c : tie.After-first-arcs-by-blocks) → Ready (at-header (c .before) .before .before .before .before .args .table .now) (12 + 10 * at-header (c .before) .header .result .finals) (at-header (c .before) .header .result .states) (c .first-arcs-by-blocks .result)
 ready c =
     let known = head (at-header (c .before)) in
-    record { opened = known .opened; states-are = known .states-are; indexed = c .first-arcs .ensures }
+    record { opened = known .opened; states-are = known .states-are; indexed = c .first-arcs-by-blocks .ensures }
 
 refusal-requires : tie.Need-refusal-requires
 refusal-requires c κs = tt
@@ -64,11 +64,11 @@ mul-first c = omega (arith, head (c .before .before .before) .few-finals)
 add-first : tie.Need-add-first
 add-first c = omega (arith, head (c .before .before .before) .few-finals)
 
-cast-first-arcs : tie.Need-cast-first-arcs
-cast-first-arcs c = search needs
+cast-first-arcs-by-blocks : tie.Need-cast-first-arcs-by-blocks
+cast-first-arcs-by-blocks c = search needs
 
-first-arcs-requires : tie.Need-first-arcs-requires
-first-arcs-requires c κs = let known = head (at-header c) in (known .opened, known .states-are, known .arcs-are)
+first-arcs-by-blocks-requires : tie.Need-first-arcs-by-blocks-requires
+first-arcs-by-blocks-requires c κs = let known = head (at-header c) in (known .opened, known .states-are, known .arcs-are)
 
 final-codes-requires : tie.Need-final-codes-requires
 final-codes-requires c κs = let known = head (at-header (c .before)) in (known .opened .accepted, known .finals-are)
@@ -116,8 +116,8 @@ count-spec =
     cast-start
     mul-first
     add-first
-    cast-first-arcs
-    first-arcs-requires
+    cast-first-arcs-by-blocks
+    first-arcs-by-blocks-requires
     final-codes-requires
     dead-states-requires
     counts-of-requires
