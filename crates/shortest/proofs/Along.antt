@@ -1,4 +1,4 @@
--- The walk along the first arcs, with the arc numbers put into a buffer: what is walked, then the path from the state reached, is the path sought.
+-- The walk along an arc for each state, with the arc numbers put into a buffer: what is walked, then the path from the state reached, is the path sought.
 -- Assumes nothing.
 use mathlib.Core.Path.{_≡_, refl, sym, ap, _∙_}
 use mathlib.Core.Bool.{true}
@@ -46,16 +46,16 @@ module _ (t : Transducer) (w : Within t) (v : ℕ → ℕ) (start len room : ℕ
   unfolding follow
   walked-arc = runs-cons t s (v s) (follow left t v (arc t (v s) .target)) (rw more at (k .rest))
 
-  pub walked-next : (a : Arc) → a ≡ arc t (v s) → Walked t v start len room (set out n (v s)) (a .target) (n + 1)
+  pub walked-next : (i : ℕ) (a : Arc) → i ≡ v s → a ≡ arc t i → Walked t v start len room (set out n i) (a .target) (n + 1)
   unfolding follow
-  walked-next a is =
+  walked-next i a along is =
       let u : ℕ = arc t (v s) .target in
       let one : n + 1 ≡ suc n = omega arith in
       let put : take (suc n) (set out n (v s)) ≡ take n out ++ (v s ∷ []) = take-suc-set out n (v s) (omega (arith, k .long, k .enough)) in
       let all : take n out ++ (v s ∷ follow left t v u) ≡ follow len t v start = rw more at (k .whole) in
       let next : take (suc n) (set out n (v s)) ++ follow left t v u ≡ follow len t v start =
       ap (λ (x : List ℕ). x ++ follow left t v u) put ∙ (append-assoc (take n out) (v s ∷ []) (follow left t v u) ∙ all) in
-      rw is (record {
+      rw (is, along) (record {
         few = omega arith;
         enough = k .enough;
         long = length-set out n (v s) ∙ k .long;

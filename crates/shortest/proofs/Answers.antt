@@ -19,7 +19,7 @@ use Rattle.paths.specs.Count.{can-accept}
 use Rattle.paths.specs.Entry.{Tells}
 use Rattle.paths.proofs.Ready.{Sized}
 use Rattle.shortest.specs.Shortest.{shortest, no-path}
-use Rattle.shortest.specs.Nearest.{by-state, Settled, Settled-says, follow}
+use Rattle.shortest.specs.Nearest.{by-state, Settled, Settled-says, first-tight, follow}
 use Rattle.shortest.specs.Entry.{shortest-refusal, Shortest-says}
 use Rattle.shortest.proofs.Settled.{Followed, followed, follow-shortest, few-arcs, reached-accepting, no-path-none}
 
@@ -39,7 +39,7 @@ says-refused bs number n r a b e nonzero h =
       labels = rw test;
     })
 
--- The shortest path along the first arcs.
+-- The shortest path along an arc for each state.
 pub record Found (t : Transducer) (v : ℕ → ℕ) (start len : ℕ) : Type 0 where
   pub some : can-accept (t .states) t (t .start) ≡ true
   pub goes : runs t start (follow len t v start) ≡ true
@@ -48,26 +48,26 @@ pub record Found (t : Transducer) (v : ℕ → ℕ) (start len : ℕ) : Type 0 w
   pub is : follow len t v start ≡ shortest t
   pub accepted : accepts t (follow len t v start) ≡ true
 
-pub found : (t : Transducer) → Sized t → (cs ls vs : List ℕ) (start len : ℕ) → Settled-says t cs ls vs → start ≡ t .start → (by-state cs start ≡ no-path → ⊥)
-    → len ≡ by-state ls start → Found t (by-state vs) start len
-found t z cs ls vs start len says e there l =
+pub found : (t : Transducer) → Sized t → (cs ls : List ℕ) (start len : ℕ) → Settled-says t cs ls → start ≡ t .start → (by-state cs start ≡ no-path → ⊥)
+    → len ≡ by-state ls start → Found t (first-tight t (by-state cs) (by-state ls)) start len
+found t z cs ls start len says e there l =
     let c : ℕ → ℕ = by-state cs in
     let m : ℕ → ℕ = by-state ls in
-    let v : ℕ → ℕ = by-state vs in
-    let k : Settled t c m v = says .settled in
+    let v : ℕ → ℕ = first-tight t c m in
+    let k : Settled t c m = says .settled in
     let s : ℕ = t .start in
     let below : s < t .states = z .within .starts in
     let apart : by-state cs s ≡ no-path → ⊥ = rw e at there in
     let some : c s < no-path = omega (arith, apart, k .nearing .high s below) in
-    let few : m s < t .states = few-arcs t z c m v k s below some in
-    let f : Followed t z c m v k s (m s) = followed t z c m v k (m s) s below some refl in
+    let few : m s < t .states = few-arcs t z c m k s below some in
+    let f : Followed t z c m k s (m s) = followed t z c m k (m s) s below some refl in
     let most : t .states ≤ 1024 = z .states in
     rw (l, e) (record {
-      some = reached-accepting t z c m v k s below some;
+      some = reached-accepting t z c m k s below some;
       goes = f .accepting .goes;
       few = omega arith;
       many = f .arcs;
-      is = follow-shortest t z c m v k some;
+      is = follow-shortest t z c m k some;
       accepted = accepting-accepts t (follow (m s) t v s) (f .accepting);
     })
 
@@ -112,13 +112,13 @@ module _ {bs a b : List ℕ} {n : ℕ} {r : Told} where
 
   module _ (e : n ≡ refusal bs) (z : n ≡ 0) (la : 1023 ≤ length a) (lb : 1023 ≤ length b) where
     -- 16
-    pub shortest-none : {cs ls vs : List ℕ} {start : ℕ} → Sized (decode bs) → Settled-says (decode bs) cs ls vs → start ≡ decode bs .start → by-state cs start ≡ no-path
+    pub shortest-none : {cs ls : List ℕ} {start : ℕ} → Sized (decode bs) → Settled-says (decode bs) cs ls → start ≡ decode bs .start → by-state cs start ≡ no-path
         → r ≡ refused-told 16 → Shortest-says bs (shortest-refusal bs (length a) (length b)) r a a b b
     unfolding shortest-refusal or-else
-    shortest-none {cs} {ls} {vs} size says s q h =
+    shortest-none {cs} {ls} size says s q h =
         let ok : refusal bs ≡ 0 = sym e ∙ z in
         let none : can-accept (decode bs .states) (decode bs) (decode bs .start) ≡ false =
-        no-path-none (decode bs) size (by-state cs) (by-state ls) (by-state vs) (says .settled) (decode bs .start) (size .within .starts) (rw s at q) in
+        no-path-none (decode bs) size (by-state cs) (by-state ls) (says .settled) (decode bs .start) (size .within .starts) (rw s at q) in
         says-refused bs (shortest-refusal bs (length a) (length b)) 16 r a b (rw (ok, le-ltb (length a) 1023 la, le-ltb (length b) 1023 lb, none)) (λ q'. omega arith) h
 
     pub shortest-told : {v : ℕ → ℕ} {start len : ℕ} {a' b' : List ℕ} → Found (decode bs) v start len → a' ≡ filled (length a) (follow len (decode bs) v start)

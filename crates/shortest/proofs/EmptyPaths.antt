@@ -7,7 +7,7 @@ use native.Mathlib.Omega.{arith}
 use native.Mathlib.Decide.{ℕ-discrete}
 use native.Mathlib.Nat.{not-suc-le-zero}
 use lib.Dec.{eqb}
-use lib.ListN.{length, getD, set, replicate, length-set, length-replicate}
+use lib.ListN.{length, getD, set, replicate, length-set}
 use lib.Seq.{getD-set-same, getD-set-other}
 use borrow.Author.Tests.{eq-eqb, ne-eqb}
 use Rattle.transducer.specs.Format.{Transducer}
@@ -77,8 +77,8 @@ pub record Made (codes : List ℕ) (states s : ℕ) (costs : List ℕ) : Type 0 
   pub long : length costs ≡ 1024
   pub made : (u : ℕ) → u < s → getD costs u 0 ≡ code-cost (getD codes u 0)
 
-pub made-first : (codes : List ℕ) (states x : ℕ) → Made codes states 0 (replicate 1024 x)
-made-first codes states x = record { few = omega arith; long = length-replicate {A = ℕ} 1024 x; made = λ u h. absurd (not-suc-le-zero h) }
+pub made-first : (codes : List ℕ) (states : ℕ) (costs : List ℕ) → length costs ≡ 1024 → Made codes states 0 costs
+made-first codes states costs long = record { few = omega arith; long = long; made = λ u h. absurd (not-suc-le-zero h) }
 
 pub made-next : (codes : List ℕ) (states s x : ℕ) (costs : List ℕ) → Made codes states s costs → s < states → states ≤ 1024 → x ≡ code-cost (getD codes s 0)
     → Made codes states (s + 1) (set costs s x)

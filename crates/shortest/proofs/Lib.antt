@@ -1,6 +1,7 @@
 pub mod Best
 pub mod Cheaper
 pub mod Cheapest
+pub mod Tight
 pub mod Settled
 pub mod InPlace
 pub mod EmptyPaths

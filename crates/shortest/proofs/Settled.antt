@@ -1,5 +1,5 @@
--- What settled costs, numbers of arcs and first arcs are: no accepting path from a state is cheaper or at that cost has fewer arcs, and the path
--- along the first arcs from the start is the shortest. Assumes nothing.
+-- What settled costs and numbers of arcs are: no accepting path from a state is cheaper or at that cost has fewer arcs, and the path along the
+-- first tight arcs from the start is the shortest. Assumes nothing.
 use mathlib.Core.Path.{_≡_, refl, sym, ap, _∙_}
 use mathlib.Core.Bool.{Bool, true, false}
 use mathlib.Core.Logic.{_⊎_, inl, inr}
@@ -23,10 +23,11 @@ use Rattle.paths.proofs.GoesOn.{can-accept-some}
 use Rattle.paths.proofs.Ready.{Sized}
 use Rattle.paths.proofs.Telling.{final-weight-low}
 use Rattle.shortest.specs.Shortest.{better, shortest, cost-from, no-path, least-of, least-to-come}
-use Rattle.shortest.specs.Nearest.{No-worse, cost-by, arcs-by, own-cost, Reached, Tight, First, Settled, follow}
+use Rattle.shortest.specs.Nearest.{No-worse, cost-by, arcs-by, own-cost, Reached, Tight, First, Settled, first-tight, follow}
 use Rattle.shortest.proofs.Best.{not-better, clash}
 use Rattle.shortest.proofs.Cheaper.{cost-start, cost-nil, cost-cons, Shorter, cheap-and-short}
 use Rattle.shortest.proofs.Cheapest.{shortest-is}
+use Rattle.shortest.proofs.Tight.{tight-first}
 
 -- A path costs at most 1,000,000 for each arc and for its end.
 
@@ -66,7 +67,10 @@ unfolding least-of
 least-of-above t s x [] h k = h
 least-of-above t s x (p ∷ l) h k = omega (arith, k p (first refl), least-of-above t s x l h (λ q m. k q (later m)))
 
-module _ (t : Transducer) (z : Sized t) (c l v : ℕ → ℕ) (k : Settled t c l v) where
+module _ (t : Transducer) (z : Sized t) (c l : ℕ → ℕ) (k : Settled t c l) where
+  abbrev pub next-arc : ℕ → ℕ
+  next-arc = first-tight t c l
+
   -- No accepting path from a state is better than its cost and number of arcs.
   pub none-nearer : (s : ℕ) (p : List ℕ) → s < t .states → Accepting t s p → No-worse (c s) (l s) (cost-from t s p) (length p)
   unfolding own-cost cost-by arcs-by
@@ -77,7 +81,7 @@ module _ (t : Transducer) (z : Sized t) (c l v : ℕ → ℕ) (k : Settled t c l
       let by : AcceptingBy t s i p = accepting-cons t s i p a in
       let u : ℕ = arc t i .target in
       let rest : No-worse (c u) (l u) (cost-from t u p) (length p) = none-nearer u p (z .within .arrives i (by .below)) (by .rest) in
-      let here : No-worse (c (arc t i .source)) (l (arc t i .source)) (cost-by t c i) (arcs-by t l i) = k .all .by-arc i (omega arith) (by .below) in
+      let here : No-worse (c (arc t i .source)) (l (arc t i .source)) (cost-by t c i) (arcs-by t l i) = k .by-arc i (by .below) in
       let here' : No-worse (c s) (l s) (cost-by t c i) (arcs-by t l i) = rw (by .leaves) at here in
       rw (cost-cons t s i p) (record {
         cost = omega (arith, here' .cost, rest .cost);
@@ -118,7 +122,7 @@ module _ (t : Transducer) (z : Sized t) (c l v : ℕ → ℕ) (k : Settled t c l
       let by : AcceptingBy t s i p = accepting-cons t s i p a in
       let u : ℕ = arc t i .target in
       let rest : No-worse (c u) (l u) (cost-from t u p) (length p) = none-nearer u p (z .within .arrives i (by .below)) (by .rest) in
-      let here : No-worse (c (arc t i .source)) (l (arc t i .source)) (cost-by t c i) (arcs-by t l i) = k .all .by-arc i (omega arith) (by .below) in
+      let here : No-worse (c (arc t i .source)) (l (arc t i .source)) (cost-by t c i) (arcs-by t l i) = k .by-arc i (by .below) in
       let here' : No-worse (c s) (l s) (cost-by t c i) (arcs-by t l i) = rw (by .leaves) at here in
       let sum : plus (arc t i .weight) (cost-from t u p) ≡ c s = sym (cost-cons t s i p) ∙ e in
       let few : l s ≤ arcs-by t l i = here' .arcs (omega (arith, rest .cost)) in
@@ -134,23 +138,23 @@ module _ (t : Transducer) (z : Sized t) (c l v : ℕ → ℕ) (k : Settled t c l
 
   -- The first arc of a state from which arcs are left.
   pub record Next (s n : ℕ) : Type 0 where
-    pub below : v s < length (t .arcs)
-    pub leaves : arc t (v s) .source ≡ s
-    pub costs : plus (arc t (v s) .weight) (c (arc t (v s) .target)) ≡ c s
-    pub arcs : l (arc t (v s) .target) ≡ n
-    pub there : c (arc t (v s) .target) < no-path
+    pub below : next-arc s < length (t .arcs)
+    pub leaves : arc t (next-arc s) .source ≡ s
+    pub costs : plus (arc t (next-arc s) .weight) (c (arc t (next-arc s) .target)) ≡ c s
+    pub arcs : l (arc t (next-arc s) .target) ≡ n
+    pub there : c (arc t (next-arc s) .target) < no-path
 
-  tight-next : (s n : ℕ) → s < t .states → c s < no-path → l s ≡ suc n → arc t (v s) .source ≡ s → Tight t c l (v s) → Next s n
+  tight-next : (s n : ℕ) → s < t .states → c s < no-path → l s ≡ suc n → arc t (next-arc s) .source ≡ s → Tight t c l (next-arc s) → Next s n
   unfolding cost-by arcs-by
   tight-next s n b h e leaves tight =
-      let costs : cost-by t c (v s) ≡ c s = tight .costs ∙ ap c leaves in
-      let arcs : arcs-by t l (v s) ≡ l s = tight .arcs ∙ ap l leaves in
+      let costs : cost-by t c (next-arc s) ≡ c s = tight .costs ∙ ap c leaves in
+      let arcs : arcs-by t l (next-arc s) ≡ l s = tight .arcs ∙ ap l leaves in
       let small : l s < t .states = few-arcs s b h in
       let most : t .states ≤ 1024 = z .states in
       record { below = tight .below; leaves = leaves; costs = omega arith; arcs = omega arith; there = omega arith }
 
-  first-of : (s i : ℕ) (p : List ℕ) → s < t .states → Step s i p → First t c l (v s) i
-  first-of s i p b st = rw (st .leaves) at (k .all .first i (omega arith) (st .tight))
+  first-of : (s i : ℕ) (p : List ℕ) → s < t .states → Step s i p → First t c l (next-arc s) i
+  first-of s i p b st = rw (st .leaves) at (tight-first t (z .content) c l i (st .tight))
 
   pub next : (s n : ℕ) → s < t .states → c s < no-path → l s ≡ suc n → Next s n
   next s n b h e = on (reached s b h .path) (reached-accepts s b h) (reached s b h .costs) (reached-arcs s b h)
@@ -159,18 +163,18 @@ module _ (t : Transducer) (z : Sized t) (c l v : ℕ → ℕ) (k : Settled t c l
       on [] a g f = absurd (omega arith)
       on (i ∷ p) a g f =
           let st : Step s i p = step s i p b h a g f in
-          let fi : First t c l (v s) i = first-of s i p b st in
+          let fi : First t c l (next-arc s) i = first-of s i p b st in
           tight-next s n b h e (fi .leaves ∙ st .leaves) (fi .tight)
 
-  next-below : (s n : ℕ) → s < t .states → Next s n → arc t (v s) .target < t .states
-  next-below s n b x = z .within .arrives (v s) (x .below)
+  next-below : (s n : ℕ) → s < t .states → Next s n → arc t (next-arc s) .target < t .states
+  next-below s n b x = z .within .arrives (next-arc s) (x .below)
 
   -- The path along the first arcs.
 
   pub record Followed (s n : ℕ) : Type 0 where
-    pub accepting : Accepting t s (follow n t v s)
-    pub costs : cost-from t s (follow n t v s) ≡ c s
-    pub arcs : length (follow n t v s) ≡ n
+    pub accepting : Accepting t s (follow n t next-arc s)
+    pub costs : cost-from t s (follow n t next-arc s) ≡ c s
+    pub arcs : length (follow n t next-arc s) ≡ n
 
   pub followed : (n s : ℕ) → s < t .states → c s < no-path → l s ≡ n → Followed s n
   unfolding follow
@@ -181,56 +185,56 @@ module _ (t : Transducer) (z : Sized t) (c l v : ℕ → ℕ) (k : Settled t c l
       on (i ∷ p) a g f = absurd (omega arith)
   followed (suc n) s b h e =
       let x : Next s n = next s n b h e in
-      let u : ℕ = arc t (v s) .target in
+      let u : ℕ = arc t (next-arc s) .target in
       let rest : Followed u n = followed n u (next-below s n b x) (x .there) (x .arcs) in
       record {
-        accepting = cons-accepting t s (v s) (follow n t v u) (record { below = x .below; leaves = x .leaves; rest = rest .accepting });
-        costs = cost-cons t s (v s) (follow n t v u) ∙ (ap (λ (y : ℕ). plus (arc t (v s) .weight) y) (rest .costs) ∙ x .costs);
+        accepting = cons-accepting t s (next-arc s) (follow n t next-arc u) (record { below = x .below; leaves = x .leaves; rest = rest .accepting });
+        costs = cost-cons t s (next-arc s) (follow n t next-arc u) ∙ (ap (λ (y : ℕ). plus (arc t (next-arc s) .weight) y) (rest .costs) ∙ x .costs);
         arcs = ap suc (rest .arcs);
       }
 
   -- None of the same cost and number of arcs comes before it.
   pub follow-first : (n s : ℕ) → s < t .states → c s < no-path → l s ≡ n → (q : List ℕ) → Accepting t s q → cost-from t s q ≡ c s → length q ≡ n
-      → before q (follow n t v s) ≡ false
+      → before q (follow n t next-arc s) ≡ false
   unfolding follow before
   follow-first zero s b h e q a g f = refl
   follow-first (suc n) s b h e [] a g f = absurd (omega arith)
   follow-first (suc n) s b h e (i ∷ q) a g f =
-      on (before (i ∷ q) (v s ∷ follow n t v u)) refl (λ g' f'. follow-first n u (next-below s n b x) (x .there) (x .arcs) q g' f')
+      on (before (i ∷ q) (next-arc s ∷ follow n t next-arc u)) refl (λ g' f'. follow-first n u (next-below s n b x) (x .there) (x .arcs) q g' f')
     where
       x : Next s n
       x = next s n b h e
 
       u : ℕ
-      u = arc t (v s) .target
+      u = arc t (next-arc s) .target
 
       st : Step s i q
       st = step s i q b h a g (f ∙ sym e)
 
-      low : v s ≤ i
+      low : next-arc s ≤ i
       low = first-of s i q b st .first
 
-      on : (d : Bool) → before (i ∷ q) (v s ∷ follow n t v u) ≡ d → (Accepting t u q → cost-from t u q ≡ c u → length q ≡ n → before q (follow n t v u) ≡ false)
-          → before (i ∷ q) (v s ∷ follow n t v u) ≡ false
+      on : (d : Bool) → before (i ∷ q) (next-arc s ∷ follow n t next-arc u) ≡ d → (Accepting t u q → cost-from t u q ≡ c u → length q ≡ n → before q (follow n t next-arc u) ≡ false)
+          → before (i ∷ q) (next-arc s ∷ follow n t next-arc u) ≡ false
       on false d below = d
-      on true d below = two (before-cons i (v s) q (follow n t v u) d)
+      on true d below = two (before-cons i (next-arc s) q (follow n t next-arc u) d)
         where
-          two : (i < v s) ⊎ ((i ≡ v s) × (before q (follow n t v u) ≡ true)) → before (i ∷ q) (v s ∷ follow n t v u) ≡ false
+          two : (i < next-arc s) ⊎ ((i ≡ next-arc s) × (before q (follow n t next-arc u) ≡ true)) → before (i ∷ q) (next-arc s ∷ follow n t next-arc u) ≡ false
           two (inl less) = absurd (omega (arith, low))
           two (inr (is, d')) =
-              clash (before q (follow n t v u)) d'
+              clash (before q (follow n t next-arc u)) d'
               (below (rw is at (accepting-cons t s i q a .rest)) (rw is at (st .costs)) (omega arith))
 
   -- From the start.
 
-  pub follow-shortest : c (t .start) < no-path → follow (l (t .start)) t v (t .start) ≡ shortest t
+  pub follow-shortest : c (t .start) < no-path → follow (l (t .start)) t next-arc (t .start) ≡ shortest t
   follow-shortest h = shortest-is t (z .within) p (accepting-accepts t p (f .accepting)) least
     where
       s : ℕ
       s = t .start
 
       p : List ℕ
-      p = follow (l s) t v s
+      p = follow (l s) t next-arc s
 
       f : Followed s (l s)
       f = followed (l s) s (z .within .starts) h refl

@@ -1,14 +1,15 @@
--- By state, the least cost to come, the fewest arcs at that cost and the first arc of such a path: on their way, and settled.
+-- By state, the least cost to come and the fewest arcs at that cost: on their way, and settled; and the path along the first arcs that give them.
 -- Assumes nothing: these are definitions.
 use mathlib.Core.Path.{_≡_}
-use mathlib.Core.Bool.{Bool, true, false, cond}
+use mathlib.Core.Bool.{Bool, true, false, _&&_, cond}
 use mathlib.Core.List.{List, [], _∷_}
 use Prim.Native.Nat.{ℕ, zero, suc, _+_, _-_, _*_, _≤_, _<_, min}
-use lib.Dec.{eqb}
+use lib.Dec.{eqb, leb}
 use lib.ListN.{length, getD}
 use Rattle.transducer.specs.Format.{Transducer}
 use Rattle.transducer.specs.Path.{arc, is-final, final-weight, runs, ends}
 use Rattle.transducer.specs.Weight.{plus}
+use Rattle.transducer.specs.Leaf.{arcs-below}
 use Rattle.paths.specs.Sweep.{total}
 use Rattle.shortest.specs.Shortest.{no-path, cost-from, least-to-come}
 
@@ -36,6 +37,10 @@ cost-by t c i = min no-path (plus (arc t i .weight) (c (arc t i .target)))
 
 unfoldable pub arcs-by : Transducer → (lens : ℕ → ℕ) → (i : ℕ) → ℕ
 arcs-by t l i = min most-arcs (l (arc t i .target) + 1)
+
+-- A cost and a number of arcs that no arc makes better: no cost is below 0, and each arc is one more.
+unfoldable pub is-nearest : (cost arcs : ℕ) → Bool
+is-nearest x k = eqb x 0 && leb k 1
 
 -- The cost of the empty path from a state, and the same by its final code.
 unfoldable pub own-cost : Transducer → (s : ℕ) → ℕ
@@ -70,37 +75,45 @@ pub record First (t : Transducer) (c l : ℕ → ℕ) (v i : ℕ) : Type 0 where
   pub tight : Tight t c l v
   pub first : v ≤ i
 
--- Arcs from one on that make nothing better, of which the first tight ones are known.
-pub record Settled-from (t : Transducer) (c l v : ℕ → ℕ) (from : ℕ) : Type 0 where
-  pub by-arc : (i : ℕ) → from ≤ i → i < length (t .arcs) → No-worse (c (arc t i .source)) (l (arc t i .source)) (cost-by t c i) (arcs-by t l i)
-  pub first : (i : ℕ) → from ≤ i → Tight t c l i → First t c l (v (arc t i .source)) i
-
--- Costs, numbers of arcs and first arcs that no sweep changes any more.
-pub record Settled (t : Transducer) (c l v : ℕ → ℕ) : Type 0 where
+-- Costs and numbers of arcs that no arc makes better.
+pub record Settled (t : Transducer) (c l : ℕ → ℕ) : Type 0 where
   pub nearing : Nearing t c l
-  pub all : Settled-from t c l v 0
+  pub by-arc : (i : ℕ) → i < length (t .arcs) → No-worse (c (arc t i .source)) (l (arc t i .source)) (cost-by t c i) (arcs-by t l i)
 
 -- Cost and number of arcs as one number, which falls where they get better.
 unfoldable pub height : (c l : ℕ → ℕ) → (s : ℕ) → ℕ
 height c l s = 65536 * c s + l s
 
 -- Arrays with a number for each state.
-pub record Long (cs ls vs : List ℕ) : Type 0 where
+pub record Long (cs ls : List ℕ) : Type 0 where
   pub costs : length cs ≡ 1024
   pub lens : length ls ≡ 1024
-  pub firsts : length vs ≡ 1024
 
--- What a sweep over the arcs leaves: where it changed nothing all is settled, where it changed something the sum has fallen.
-pub record Swept-says (t : Transducer) (cs ls cs' ls' vs' : List ℕ) (changed : Bool) : Type 0 where
-  pub long : Long cs' ls' vs'
+-- What a sweep over the arcs leaves: where no other sweep may change more all is settled, else the sum has fallen.
+pub record Swept-says (t : Transducer) (cs ls cs' ls' : List ℕ) (again : Bool) : Type 0 where
+  pub long : Long cs' ls'
   pub nearing : Nearing t (by-state cs') (by-state ls')
-  pub settled : changed ≡ false → Settled t (by-state cs') (by-state ls') (by-state vs')
-  pub fallen : changed ≡ true → total (t .states) (height (by-state cs') (by-state ls')) < total (t .states) (height (by-state cs) (by-state ls))
+  pub settled : again ≡ false → Settled t (by-state cs') (by-state ls')
+  pub fallen : again ≡ true → total (t .states) (height (by-state cs') (by-state ls')) < total (t .states) (height (by-state cs) (by-state ls))
 
--- What all sweeps leave: the least cost to come from each state, with the fewest arcs and the first arcs by which it comes.
-pub record Settled-says (t : Transducer) (cs ls vs : List ℕ) : Type 0 where
-  pub settled : Settled t (by-state cs) (by-state ls) (by-state vs)
+-- What all sweeps leave: the least cost to come from each state, with the fewest arcs at that cost.
+pub record Settled-says (t : Transducer) (cs ls : List ℕ) : Type 0 where
+  pub settled : Settled t (by-state cs) (by-state ls)
   pub least : (s : ℕ) → s < t .states → getD cs s 0 ≡ least-to-come t s
+
+-- Whether an arc gives a state's cost and number of arcs.
+unfoldable pub gives : Transducer → (c l : ℕ → ℕ) → (s i : ℕ) → Bool
+gives t c l s i = eqb (cost-by t c i) (c s) && eqb (arcs-by t l i) (l s)
+
+-- The first of so many arcs from one on that gives them, or the arc behind these where none does.
+unfoldable pub first-giving : (arcs : ℕ) → Transducer → (c l : ℕ → ℕ) → (s i : ℕ) → ℕ
+first-giving zero t c l s i = i
+first-giving (suc n) t c l s i = cond (gives t c l s i) i (first-giving n t c l s (suc i))
+
+-- A state's first tight arc.
+unfoldable pub first-tight : Transducer → (c l : ℕ → ℕ) → (s : ℕ) → ℕ
+first-tight t c l s =
+    first-giving (arcs-below (s + 1) (t .arcs) - arcs-below s (t .arcs)) t c l s (arcs-below s (t .arcs))
 
 -- The path of so many arcs from a state along the first arcs.
 unfoldable pub follow : (arcs : ℕ) → Transducer → (first-arcs : ℕ → ℕ) → (s : ℕ) → List ℕ

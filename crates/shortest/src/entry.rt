@@ -37,22 +37,17 @@ pub fn shortest_path(table: &[u8], arcs: &mut [u16], labels: &mut [u16]) -> Told
     let f = head.finals as usize;
     let start = head.start as usize;
     let first = 12 + 10 * f;
+    let m = head.arcs as usize;
+    let index = transducer::first_arcs(table, first, n, m);
     let codes = transducer::final_codes(table, f);
-    let mut costs = near::own_costs(n, &codes);
+    let mut costs = [near::NO_PATH; 1024];
+    near::own_costs(n, &codes, &mut costs);
     let mut lens = [0u16; 1024];
-    let mut firsts = [0u16; 1024];
-    near::settle(
-        table,
-        first,
-        head.arcs as usize,
-        &mut costs,
-        &mut lens,
-        &mut firsts,
-    );
+    near::settle(table, first, m, &index, &mut costs, &mut lens);
     if costs[start] == near::NO_PATH {
         return refused(16);
     }
     let len = lens[start] as usize;
-    near::walk(table, first, start, len, &firsts, arcs);
+    near::walk(table, first, start, len, &index, &costs, &lens, arcs);
     paths::tell(table, first, start, &codes, arcs, len, labels)
 }

@@ -1,19 +1,22 @@
-// By state, the least cost to come, the fewest arcs at that cost and the first arc of such a path, updated in place until nothing changes.
+// By state, the least cost to come and the fewest arcs at that cost, updated in place until nothing changes, and the path along them.
 ghost use mathlib.Core.Path.{_≡_};
-ghost use Prim.Native.Nat.{ℕ, _+_, _≤_, _<_, min};
+ghost use Prim.Native.Nat.{ℕ, _+_, _-_, _≤_, _<_, min};
 ghost use mathlib.Core.Bool.{true};
 ghost use lib.ListN.{length, getD};
 ghost use Rattle.wire.specs.Bytes.{filled};
 ghost use Rattle.transducer.specs.Format.{decode};
-ghost use Rattle.transducer.specs.Leaf.{Opened};
+ghost use Rattle.transducer.specs.Leaf.{Opened, Indexed};
 ghost use Rattle.transducer.specs.Path.{runs};
 ghost use Rattle.transducer.specs.Weight.{plus};
 ghost use Rattle.shortest.specs.Shortest.{no-path, nearer};
-ghost use Rattle.shortest.specs.Nearest.{by-state, most-arcs, code-cost, Nearing, Long, Swept-says, Settled-says, follow};
+ghost use Rattle.shortest.specs.Nearest.{by-state, most-arcs, cost-by, arcs-by, is-nearest, code-cost, Nearing, Long, Swept-says, Settled-says, first-giving, first-tight, follow};
 
 pub const NO_PATH: u32 = 4294967295;
 
 const MOST_ARCS: u16 = 65535;
+
+// No state has a higher number.
+const LAST: u16 = 65535;
 
 // A weight and the cost to come behind it.
 fn sum(weight: u32, cost: u32) -> u32
@@ -44,6 +47,41 @@ fn comes_first(cost: u32, arcs: u16, other: u32, most: u16) -> bool
     cost < other
 }
 
+// The lower of two numbers.
+fn lower(a: u16, b: u16) -> u16
+    ensures { λ r. ⌜ r ≡ min a b ⌝ }
+{
+    if b < a {
+        return b;
+    }
+    a
+}
+
+// Whether no arc makes a cost and a number of arcs better.
+fn is_nearest(cost: u32, arcs: u16) -> bool
+    ensures { λ r. ⌜ r ≡ is-nearest cost arcs ⌝ }
+{
+    (cost == 0) & (arcs <= 1)
+}
+
+// The cost to come by way of arc `i`.
+fn cost_by(table: &[u8], first: usize, i: usize, costs: &[u32; 1024]) -> u32
+    requires { ⌜ Opened (now table) first × (i < length (decode (now table) .arcs)) ⌝ }
+    ensures { λ r. ⌜ r ≡ cost-by (decode (now (table .entry))) (by-state (now (costs .entry))) i ⌝ }
+{
+    let a = transducer::arc_of(table, first, i);
+    sum(a.weight, costs[a.target as usize])
+}
+
+// The number of arcs by way of arc `i`.
+fn arcs_by(table: &[u8], first: usize, i: usize, lens: &[u16; 1024]) -> u16
+    requires { ⌜ Opened (now table) first × (i < length (decode (now table) .arcs)) ⌝ }
+    ensures { λ r. ⌜ r ≡ arcs-by (decode (now (table .entry))) (by-state (now (lens .entry))) i ⌝ }
+{
+    let a = transducer::arc_of(table, first, i);
+    one_more(lens[a.target as usize])
+}
+
 // The cost of the empty path, by a state's final code.
 fn own(code: u32) -> u32
     ensures { λ r. ⌜ r ≡ code-cost code ⌝ }
@@ -54,33 +92,69 @@ fn own(code: u32) -> u32
     code - 1
 }
 
-// The cost of the empty path from each state.
-pub fn own_costs(states: usize, codes: &[u32; 1024]) -> [u32; 1024]
-    requires { ⌜ states ≤ 1024 ⌝ }
-    ensures { λ r. ⌜ (length r ≡ 1024) × ((s : ℕ) → s < states → getD r s 0 ≡ code-cost (getD (now (codes .entry)) s 0)) ⌝ }
+// Puts the cost of the empty path from each state into `costs`.
+pub fn own_costs(states: usize, codes: &[u32; 1024], costs: &mut [u32; 1024])
+    requires { ⌜ (states ≤ 1024) × (length (now costs) ≡ 1024) ⌝ }
+    ensures { λ _. ⌜ (length (now (costs .exit)) ≡ 1024)
+        × ((s : ℕ) → s < states → getD (now (costs .exit)) s 0 ≡ code-cost (getD (now (codes .entry)) s 0)) ⌝ }
 {
-    let mut costs = [NO_PATH; 1024];
     let mut s = 0;
     while s < states {
         costs[s] = own(codes[s]);
         s += 1;
     }
-    costs
 }
 
-// Brings each arc's source up to date by its target, last arc first; whether something changed.
+// Brings each arc's source up to date by its target, last arc first; once no arc makes a state better the rest of its arcs are passed over.
+// Another sweep may change more where a state changed after an arc was read that leads to it or to one before it.
+fn first_sweep(
+    table: &[u8],
+    first: usize,
+    arcs: usize,
+    index: &[u16; 1025],
+    costs: &mut [u32; 1024],
+    lens: &mut [u16; 1024],
+) -> bool
+    requires { ⌜ Opened (now table) first × (arcs ≡ length (decode (now table) .arcs)) × Indexed (decode (now table)) (now index)
+        × Nearing (decode (now table)) (by-state (now costs)) (by-state (now lens)) × Long (now costs) (now lens) ⌝ }
+    ensures { λ r. ⌜ Swept-says (decode (now (table .entry))) (now (costs .entry)) (now (lens .entry)) (now (costs .exit)) (now (lens .exit)) r ⌝ }
+{
+    let mut again = false;
+    let mut low = LAST;
+    let mut i = arcs;
+    while i > 0 {
+        i -= 1;
+        let a = transducer::arc_of(table, first, i);
+        let s = a.source as usize;
+        if is_nearest(costs[s], lens[s]) {
+            i = index[s] as usize;
+            continue;
+        }
+        let to = a.target as usize;
+        let cost = sum(a.weight, costs[to]);
+        let len = one_more(lens[to]);
+        low = lower(low, a.target);
+        if !comes_first(cost, len, costs[s], lens[s]) {
+            continue;
+        }
+        costs[s] = cost;
+        lens[s] = len;
+        again = again | (low <= a.source);
+    }
+    again
+}
+
+// The same with no arc passed over; whether something changed. It tests less at each arc, so it is the one that is repeated.
 fn sweep(
     table: &[u8],
     first: usize,
     arcs: usize,
     costs: &mut [u32; 1024],
     lens: &mut [u16; 1024],
-    firsts: &mut [u16; 1024],
 ) -> bool
     requires { ⌜ Opened (now table) first × (arcs ≡ length (decode (now table) .arcs))
-        × Nearing (decode (now table)) (by-state (now costs)) (by-state (now lens)) × Long (now costs) (now lens) (now firsts) ⌝ }
-    ensures { λ r. ⌜ Swept-says (decode (now (table .entry))) (now (costs .entry)) (now (lens .entry))
-        (now (costs .exit)) (now (lens .exit)) (now (firsts .exit)) r ⌝ }
+        × Nearing (decode (now table)) (by-state (now costs)) (by-state (now lens)) × Long (now costs) (now lens) ⌝ }
+    ensures { λ r. ⌜ Swept-says (decode (now (table .entry))) (now (costs .entry)) (now (lens .entry)) (now (costs .exit)) (now (lens .exit)) r ⌝ }
 {
     let mut changed = false;
     let mut i = arcs;
@@ -91,10 +165,6 @@ fn sweep(
         let to = a.target as usize;
         let cost = sum(a.weight, costs[to]);
         let len = one_more(lens[to]);
-        if comes_first(costs[s], lens[s], cost, len) {
-            continue;
-        }
-        firsts[s] = i as u16;
         if !comes_first(cost, len, costs[s], lens[s]) {
             continue;
         }
@@ -105,41 +175,76 @@ fn sweep(
     changed
 }
 
-// The least cost to come from each state, with the fewest arcs and the first arcs by which it comes; `costs` begins with the empty paths' costs.
+// The least cost to come from each state, with the fewest arcs at that cost; `costs` begins with the empty paths' costs.
 pub fn settle(
     table: &[u8],
     first: usize,
     arcs: usize,
+    index: &[u16; 1025],
     costs: &mut [u32; 1024],
     lens: &mut [u16; 1024],
-    firsts: &mut [u16; 1024],
 )
-    requires { ⌜ Opened (now table) first × (arcs ≡ length (decode (now table) .arcs))
-        × Nearing (decode (now table)) (by-state (now costs)) (by-state (now lens)) × Long (now costs) (now lens) (now firsts) ⌝ }
-    ensures { λ _. ⌜ Settled-says (decode (now (table .entry))) (now (costs .exit)) (now (lens .exit)) (now (firsts .exit)) ⌝ }
+    requires { ⌜ Opened (now table) first × (arcs ≡ length (decode (now table) .arcs)) × Indexed (decode (now table)) (now index)
+        × Nearing (decode (now table)) (by-state (now costs)) (by-state (now lens)) × Long (now costs) (now lens) ⌝ }
+    ensures { λ _. ⌜ Settled-says (decode (now (table .entry))) (now (costs .exit)) (now (lens .exit)) ⌝ }
 {
-    while sweep(table, first, arcs, costs, lens, firsts) {}
+    if !first_sweep(table, first, arcs, index, costs, lens) {
+        return;
+    }
+    while sweep(table, first, arcs, costs, lens) {}
 }
 
-// Puts the path of `len` arcs along the first arcs into `out`, zeros behind.
+// The first of the arcs from `from` to below `to` that gives the cost and number of arcs of state `s`, or `to` where none does.
+fn first_giving(
+    table: &[u8],
+    first: usize,
+    s: usize,
+    from: usize,
+    to: usize,
+    costs: &[u32; 1024],
+    lens: &[u16; 1024],
+) -> usize
+    requires { ⌜ Opened (now table) first × (s < 1024) × (from ≤ to) × (to ≤ length (decode (now table) .arcs)) ⌝ }
+    ensures { λ r. ⌜ r ≡ first-giving (to - from) (decode (now (table .entry))) (by-state (now (costs .entry))) (by-state (now (lens .entry))) s from ⌝ }
+{
+    let cost = costs[s];
+    let len = lens[s];
+    let mut i = from;
+    while i < to {
+        let x = cost_by(table, first, i, costs);
+        let k = arcs_by(table, first, i, lens);
+        if (x == cost) & (k == len) {
+            return i;
+        }
+        i += 1;
+    }
+    to
+}
+
+// Puts the path of `len` arcs along the first tight arcs into `out`, zeros behind.
 pub fn walk(
     table: &[u8],
     first: usize,
     start: usize,
     len: usize,
-    firsts: &[u16; 1024],
+    index: &[u16; 1025],
+    costs: &[u32; 1024],
+    lens: &[u16; 1024],
     out: &mut [u16],
 )
-    requires { ⌜ Opened (now table) first × (start < decode (now table) .states) × (len ≤ length (now out))
-        × (runs (decode (now table)) start (follow len (decode (now table)) (by-state (now firsts)) start) ≡ true) ⌝ }
-    ensures { λ _. ⌜ now (out .exit) ≡ filled (length (now (out .entry))) (follow len (decode (now (table .entry))) (by-state (now (firsts .entry))) start) ⌝ }
+    requires { ⌜ Opened (now table) first × Indexed (decode (now table)) (now index) × (start < decode (now table) .states) × (len ≤ length (now out))
+        × (runs (decode (now table)) start (follow len (decode (now table)) (first-tight (decode (now table)) (by-state (now costs)) (by-state (now lens))) start) ≡ true) ⌝ }
+    ensures { λ _. ⌜ now (out .exit) ≡ filled (length (now (out .entry)))
+        (follow len (decode (now (table .entry))) (first-tight (decode (now (table .entry))) (by-state (now (costs .entry))) (by-state (now (lens .entry)))) start) ⌝ }
 {
     let mut s = start;
     let mut n: usize = 0;
     while n < len {
-        let i = firsts[s];
-        let a = transducer::arc_of(table, first, i as usize);
-        out[n] = i;
+        let from = index[s] as usize;
+        let to = index[s + 1] as usize;
+        let i = first_giving(table, first, s, from, to, costs, lens);
+        let a = transducer::arc_of(table, first, i);
+        out[n] = i as u16;
         n += 1;
         s = a.target as usize;
     }

@@ -9,7 +9,8 @@ use Rattle.wire.specs.Bytes.{Bytes}
 use Rattle.transducer.specs.Format.{refusal, decode}
 use Rattle.transducer.proofs.Offsets.{length-accepted}
 use Rattle.paths.proofs.Ready.{Sized, Headed, sized, headed}
-use Rattle.shortest.specs.Nearest.{by-state}
+use Rattle.shortest.specs.Shortest.{no-path}
+use Rattle.shortest.specs.Nearest.{by-state, first-tight}
 use Rattle.shortest.proofs.EmptyPaths.{nearing-first, getD-zeros}
 use Rattle.shortest.proofs.Answers.{Found, found, Stored, stored, shortest-bad, shortest-short-arcs, shortest-short-labels, shortest-none, shortest-told}
 use Rattle.shortest.proofs.entry.shortest_path.Statement.{statement}
@@ -28,11 +29,17 @@ at-header c = c .before .before .before
 abbrev at-codes : tie.After-codes → tie.After-final-codes
 at-codes c = c .before
 
+abbrev at-index : tie.After-codes → tie.After-first-arcs
+at-index c = at-codes c .before
+
 abbrev at-own : tie.After-settle → tie.After-own-costs
-at-own c = c .before .before .before .before .before
+at-own c = c .before .before .before .before
+
+abbrev codes-of : tie.After-own-costs → tie.After-codes
+codes-of c = c .before .before
 
 abbrev header-of : tie.After-settle → tie.After-header
-header-of c = at-header (at-codes (at-own c .before) .before)
+header-of c = at-header (at-index (codes-of (at-own c)) .before .before)
 
 -- The bytes are accepted.
 is-bytes : (c : tie.Else3) → Bytes (start c .args .table .now)
@@ -47,32 +54,32 @@ size c = sized (start c .args .table .now) (is-bytes c) (accepted c)
 head : (c : tie.After-header) → Headed (start (c .before) .args .table .now) (c .header .result)
 head c = headed (start (c .before) .args .table .now) (is-bytes (c .before)) (accepted (c .before)) (c .header .result) (c .header .ensures)
 
--- What is settled, and the path along the first arcs.
+-- What is settled, and the path along the first tight arcs.
 abbrev costs : tie.After-settle → List ℕ
-costs c = c .settle .last .1 .1 .1 .0
+costs c = c .settle .last .1 .1 .1 .1 .0
 
 abbrev lens : tie.After-settle → List ℕ
-lens c = c .settle .last .1 .1 .1 .1 .0
+lens c = c .settle .last .1 .1 .1 .1 .1 .0
 
-abbrev firsts : tie.After-settle → List ℕ
-firsts c = c .settle .last .1 .1 .1 .1 .1 .0
+abbrev firsts : tie.After-settle → ℕ → ℕ
+firsts c = first-tight (decode (start (header-of c .before) .args .table .now)) (by-state (costs c)) (by-state (lens c))
 
-path : (c : tie.Else4) → Found (decode (start (header-of (c .before) .before) .args .table .now)) (by-state (firsts (c .before))) (header-of (c .before) .header .result .start) (getD (lens (c .before)) (header-of (c .before) .header .result .start) 0)
+path : (c : tie.Else4) → Found (decode (start (header-of (c .before) .before) .args .table .now)) (firsts (c .before)) (header-of (c .before) .header .result .start) (getD (lens (c .before)) (header-of (c .before) .header .result .start) 0)
 path c =
     let at = c .before in
     let header = header-of at in
-    found (decode (start (header .before) .args .table .now)) (size (header .before)) (costs at) (lens at) (firsts at) (header .header .result .start)
+    found (decode (start (header .before) .args .table .now)) (size (header .before)) (costs at) (lens at) (header .header .result .start)
     (getD (lens at) (header .header .result .start) 0) (at .settle .ensures) (head header .start-is) (c .if4 .left) refl
 
 abbrev walking : tie.After-walk → tie.Else4
-walking c = c .before .before .before
+walking c = c .before .before .before .before .before
 
-put : (c : tie.After-walk) → Stored (decode (start (header-of (walking c .before) .before) .args .table .now)) (getD (lens (walking c .before)) (header-of (walking c .before) .header .result .start) 0) (c .walk .last .1 .1 .1 .1 .1 .0)
+put : (c : tie.After-walk) → Stored (decode (start (header-of (walking c .before) .before) .args .table .now)) (getD (lens (walking c .before)) (header-of (walking c .before) .header .result .start) 0) (c .walk .last .1 .1 .1 .1 .1 .1 .1 .0)
 put c =
     let at = walking c .before in
     let header = header-of at in
     let a = start (header .before) .args in
-    stored (decode (a .table .now)) (by-state (firsts at)) (header .header .result .start) (getD (lens at) (header .header .result .start) 0) (a .arcs .now) (c .walk .last .1 .1 .1 .1 .1 .0)
+    stored (decode (a .table .now)) (firsts at) (header .header .result .start) (getD (lens at) (header .header .result .start) 0) (a .arcs .now) (c .walk .last .1 .1 .1 .1 .1 .1 .1 .0)
     (path (walking c)) (header .before .before .if2 .left) (c .walk .ensures)
 
 refusal-requires : tie.Need-refusal-requires
@@ -115,28 +122,33 @@ mul-first c = omega (arith, head (at-header c) .few-finals)
 add-first : tie.Need-add-first
 add-first c = omega (arith, head (at-header c) .few-finals)
 
+cast-m : tie.Need-cast-m
+cast-m c = search needs
+
+first-arcs-requires : tie.Need-first-arcs-requires
+first-arcs-requires c κs = let known = head (at-header (c .before)) in (known .opened, known .states-are, known .arcs-are)
+
 final-codes-requires : tie.Need-final-codes-requires
-final-codes-requires c κs = let known = head (at-header c) in (known .opened .accepted, known .finals-are)
+final-codes-requires c κs = let known = head (at-header (c .before .before)) in (known .opened .accepted, known .finals-are)
 
 own-costs-requires : tie.Need-own-costs-requires
 own-costs-requires c κs =
-    let header = at-header (at-codes c .before) in
-    omega (arith, head header .states-are, size (header .before) .states)
-
-cast-settle : tie.Need-cast-settle
-cast-settle c = search needs
+    let header = at-header (at-index (c .before) .before .before) in
+    (omega (arith, head header .states-are, size (header .before) .states), length-replicate {A = ℕ} 1024 no-path)
 
 settle-requires : tie.Need-settle-requires
 settle-requires c κs =
-    let own = c .before .before .before .before in
-    let codes = at-codes (own .before) in
-    let header = at-header (codes .before) in
+    let own = c .before .before .before in
+    let codes = at-codes (codes-of own) in
+    let index = at-index (codes-of own) in
+    let header = at-header (index .before .before) in
     let known = head header in (
       known .opened,
       known .arcs-are,
-      nearing-first (decode (start (header .before) .args .table .now)) (size (header .before)) (codes .final-codes .result) (own .own-costs .result) (replicate 1024 0)
+      index .first-arcs .ensures,
+      nearing-first (decode (start (header .before) .args .table .now)) (size (header .before)) (codes .final-codes .result) (own .own-costs .last .1 .1 .0) (replicate 1024 0)
           (codes .final-codes .ensures) (λ s h. own .own-costs .ensures .1 s (omega (arith, known .states-are))) (getD-zeros 1024),
-      record { costs = own .own-costs .ensures .0; lens = length-replicate {A = ℕ} 1024 0; firsts = length-replicate {A = ℕ} 1024 0 },
+      record { costs = own .own-costs .ensures .0; lens = length-replicate {A = ℕ} 1024 0 },
     )
 
 mul-if4 : tie.Need-mul-if4
@@ -167,10 +179,10 @@ cast-len c = omega (arith, path c .few)
 
 walk-requires : tie.Need-walk-requires
 walk-requires c κs =
-    let at = c .before .before in
+    let at = c .before .before .before .before in
     let header = header-of (at .before) in
     let known = head header in
-    (known .opened, omega (arith, known .start-is, size (header .before) .within .starts), omega (arith, path at .few, header .before .before .if2 .left), path at .goes)
+    (known .opened, at-index (codes-of (at-own (at .before))) .first-arcs .ensures, omega (arith, known .start-is, size (header .before) .within .starts), omega (arith, path at .few, header .before .before .if2 .left), path at .goes)
 
 tell-requires : tie.Need-tell-requires
 tell-requires c κs =
@@ -178,7 +190,7 @@ tell-requires c κs =
     let at = walking walked .before in
     let header = header-of at in
     let known = head header in
-    (known .opened, known .start-is, at-codes (at-own at .before) .final-codes .ensures, put walked .inside, path (walking walked) .few, put walked .accepted, header .before .if3 .left)
+    (known .opened, known .start-is, at-codes (codes-of (at-own at)) .final-codes .ensures, put walked .inside, path (walking walked) .few, put walked .accepted, header .before .if3 .left)
 
 same-length : tie.Need-same-length
 same-length c = search needs
@@ -209,9 +221,10 @@ shortest-path-spec =
     cast-start
     mul-first
     add-first
+    cast-m
+    first-arcs-requires
     final-codes-requires
     own-costs-requires
-    cast-settle
     settle-requires
     mul-if4
     array-read-if4

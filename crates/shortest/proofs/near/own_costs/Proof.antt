@@ -12,25 +12,25 @@ abbrev μ-loop : tie.MeasureT-loop
 μ-loop states codes costs₀ s₀ costs s = states - s
 
 loop-holds : tie.Need-loop-holds Inv-loop μ-loop
-loop-holds c = made-first (c .args .codes .now) (c .args .states) 4294967295
+loop-holds c = made-first (c .args .codes .now) (c .args .states) (c .args .costs .now) (c .pre .1)
 
 mul-own : tie.Need-mul-own Inv-loop μ-loop
-mul-own c = omega (arith, c .loop-test .taken, c .before .before .pre)
+mul-own c = omega (arith, c .loop-test .taken, c .before .before .pre .0)
 
 element-copy-out-own : tie.Need-element-copy-out-own Inv-loop μ-loop
-element-copy-out-own c = omega (arith, c .loop-test .taken, c .before .before .pre)
+element-copy-out-own c = omega (arith, c .loop-test .taken, c .before .before .pre .0)
 
 own-requires : tie.Need-own-requires Inv-loop μ-loop
 own-requires c κs = tt
 
 mul-costs : tie.Need-mul-costs Inv-loop μ-loop
-mul-costs c = let turn = c .before .before in omega (arith, turn .loop-test .taken, turn .before .before .pre)
+mul-costs c = let turn = c .before .before in omega (arith, turn .loop-test .taken, turn .before .before .pre .0)
 
-array-write-costs : tie.Need-array-write-costs Inv-loop μ-loop
-array-write-costs c = let turn = c .before .before in omega (arith, turn .loop-test .taken, turn .before .before .pre)
+element-write-costs : tie.Need-element-write-costs Inv-loop μ-loop
+element-write-costs c = let turn = c .before .before in omega (arith, turn .loop-test .taken, turn .before .before .pre .0)
 
 add-s : tie.Need-add-s Inv-loop μ-loop
-add-s c = let turn = c .before .before in omega (arith, turn .loop-test .taken, turn .before .before .pre)
+add-s c = let turn = c .before .before in omega (arith, turn .loop-test .taken, turn .before .before .pre .0)
 
 loop-less : tie.Need-loop-less Inv-loop μ-loop
 loop-less c = let turn = c .before .before in omega (arith, turn .loop-test .taken)
@@ -40,7 +40,7 @@ loop-again c =
     let turn = c .before .before in
     let start = turn .before .before in
     let now' = turn .before .loop in
-    made-next (start .args .codes .now) (start .args .states) (now' .s) (c .own .result) (now' .costs) (now' .inv) (turn .loop-test .taken) (start .pre) (c .own .ensures)
+    made-next (start .args .codes .now) (start .args .states) (now' .s) (c .own .result) (now' .costs) (now' .inv) (turn .loop-test .taken) (start .pre .0) (c .own .ensures)
 
 returns : tie.Need-returns Inv-loop μ-loop
 returns c = let k = c .before .loop .inv in (k .long, λ s h. k .made s (omega (arith, c .loop-test .left)))
@@ -56,7 +56,7 @@ own-costs-spec =
     element-copy-out-own
     own-requires
     mul-costs
-    array-write-costs
+    element-write-costs
     add-s
     loop-less
     loop-again

@@ -1,24 +1,26 @@
 -- The invariant: `n` arcs are walked (`Walked`).
 use borrow.Author.Needs.{needs}
-use mathlib.Core.Path.{_∙_}
-use Prim.Native.Nat.{_-_, _<_}
+use mathlib.Core.Path.{_≡_, refl, _∙_}
+use Prim.Native.Nat.{_+_, _-_, _<_}
 use native.Mathlib.Omega.{arith}
-use lib.ListN.{length}
+use lib.ListN.{length, getD}
 use Rattle.wire.specs.Bytes.{Bytes}
 use Rattle.transducer.specs.Format.{decode}
-use Rattle.paths.proofs.Ready.{Sized, sized}
-use Rattle.shortest.specs.Nearest.{by-state}
+use Rattle.paths.proofs.Ready.{Sized, Range, sized, range}
+use Rattle.shortest.specs.Nearest.{by-state, first-tight}
+use Rattle.shortest.proofs.Tight.{giving-tight}
 use Rattle.shortest.proofs.Along.{Walked, walked-first, walked-arc, walked-next, walked-done}
 use Rattle.shortest.proofs.near.walk.Statement.{statement}
 use Rattle.shortest.proofs.near.walk.Tie as tie
 
 abbrev Inv-loop : tie.InvT-loop
-Inv-loop table first start len firsts out₀ s₀ n₀ out s n = Walked (decode table) (by-state firsts) start len (length out₀) out s n
+Inv-loop table first start len index costs lens out₀ s₀ n₀ out s n =
+    Walked (decode table) (first-tight (decode table) (by-state costs) (by-state lens)) start len (length out₀) out s n
 
 abbrev μ-loop : tie.MeasureT-loop
-μ-loop table first start len firsts out₀ s₀ n₀ out s n = len - n
+μ-loop table first start len index costs lens out₀ s₀ n₀ out s n = len - n
 
--- A turn of the loop.
+-- A turn of the loop: its state, and the arcs of that.
 abbrev Turn : Type 0
 Turn = tie.In-loop Inv-loop μ-loop
 
@@ -34,35 +36,78 @@ size c =
 below : (c : Turn) → c .before .loop .s < 1024
 below c = omega (arith, c .before .loop .inv .inside, size c .states)
 
-is-arc : (c : Turn) → by-state (start c .args .firsts .now) (c .before .loop .s) < length (decode (start c .args .table .now) .arcs)
+arcs : (c : Turn) → Range (decode (start c .args .table .now)) (c .before .loop .s) (getD (start c .args .index .now) (c .before .loop .s) 0) (getD (start c .args .index .now) (c .before .loop .s + 1) 0)
+arcs c =
+    range (decode (start c .args .table .now)) (start c .args .index .now) (c .before .loop .s) _ _ (start c .pre .1) (c .before .loop .inv .inside) refl refl
+
+-- The arc that was found.
+abbrev Sought : Type 0
+Sought = tie.After-first-giving Inv-loop μ-loop
+
+abbrev turn : Sought → Turn
+turn c = c .before .before .before
+
+is-first : (c : Sought) → c .first-giving .result ≡ first-tight (decode (start (turn c) .args .table .now)) (by-state (start (turn c) .args .costs .now)) (by-state (start (turn c) .args .lens .now)) (turn c .before .loop .s)
+is-first c =
+    let a = start (turn c) .args in
+    let s = turn c .before .loop .s in
+    giving-tight (decode (a .table .now)) (by-state (a .costs .now)) (by-state (a .lens .now)) s (getD (a .index .now) s 0) (getD (a .index .now) (s + 1) 0) (c .first-giving .result)
+    (arcs (turn c) .from-is) (arcs (turn c) .to-is) (c .first-giving .ensures)
+
+is-arc : (c : Sought) → c .first-giving .result < length (decode (start (turn c) .args .table .now) .arcs)
 is-arc c =
-    let a = start c .args in
-    let now' = c .before .loop in
-    walked-arc (decode (a .table .now)) (size c .within) (by-state (a .firsts .now)) (a .start) (a .len) (length (a .out .now)) (now' .out) (now' .s) (now' .n) (now' .inv) (c .loop-test .taken) .below
+    let a = start (turn c) .args in
+    let t = decode (a .table .now) in
+    let now' = turn c .before .loop in
+    let there = walked-arc t (size (turn c) .within) (first-tight t (by-state (a .costs .now)) (by-state (a .lens .now))) (a .start) (a .len) (length (a .out .now)) (now' .out) (now' .s) (now' .n) (now' .inv) (turn c .loop-test .taken) in
+    omega (arith, is-first c, there .below)
 
 loop-holds : tie.Need-loop-holds Inv-loop μ-loop
 loop-holds c =
     let start' = c .before .before in
     let a = start' .args in
-    walked-first (decode (a .table .now)) (by-state (a .firsts .now)) (a .start) (a .len) (a .out .now) (start' .pre .2) (start' .pre .1) (start' .pre .3)
+    let t = decode (a .table .now) in
+    walked-first t (first-tight t (by-state (a .costs .now)) (by-state (a .lens .now))) (a .start) (a .len) (a .out .now) (start' .pre .3) (start' .pre .2) (start' .pre .4)
 
-mul-i : tie.Need-mul-i Inv-loop μ-loop
-mul-i c = omega (arith, below c)
+mul-from : tie.Need-mul-from Inv-loop μ-loop
+mul-from c = omega (arith, below c)
 
-element-copy-out-i : tie.Need-element-copy-out-i Inv-loop μ-loop
-element-copy-out-i c = below c
+element-copy-out-from : tie.Need-element-copy-out-from Inv-loop μ-loop
+element-copy-out-from c = omega (arith, below c)
 
-cast-arc-of : tie.Need-cast-arc-of Inv-loop μ-loop
-cast-arc-of c = omega (arith, is-arc (c .before), size (c .before) .arcs)
+cast-from : tie.Need-cast-from Inv-loop μ-loop
+cast-from c = omega (arith, arcs (c .before) .order, arcs (c .before) .inside, size (c .before) .arcs)
+
+add-to : tie.Need-add-to Inv-loop μ-loop
+add-to c = omega (arith, below (c .before))
+
+mul-to : tie.Need-mul-to Inv-loop μ-loop
+mul-to c = omega (arith, below (c .before))
+
+element-copy-out-to : tie.Need-element-copy-out-to Inv-loop μ-loop
+element-copy-out-to c = omega (arith, below (c .before))
+
+cast-to : tie.Need-cast-to Inv-loop μ-loop
+cast-to c = omega (arith, arcs (c .before .before) .inside, size (c .before .before) .arcs)
+
+first-giving-requires : tie.Need-first-giving-requires Inv-loop μ-loop
+first-giving-requires c κs =
+    let at = c .before .before in
+    (start at .pre .0, below at, arcs at .order, arcs at .inside)
 
 arc-of-requires : tie.Need-arc-of-requires Inv-loop μ-loop
-arc-of-requires c κs = (start (c .before) .pre .0, is-arc (c .before))
+arc-of-requires c κs = (start (turn c) .pre .0, is-arc c)
+
+cast-out : tie.Need-cast-out Inv-loop μ-loop
+cast-out c = let found = c .before in omega (arith, is-arc found, size (turn found) .arcs)
 
 mul-out : tie.Need-mul-out Inv-loop μ-loop
 mul-out c = search needs
 
 slice-write-out : tie.Need-slice-write-out Inv-loop μ-loop
-slice-write-out c = let turn = c .before .before in omega (arith, turn .loop-test .taken, turn .before .loop .inv .long, turn .before .loop .inv .enough)
+slice-write-out c =
+    let at = turn (c .before) in
+    omega (arith, at .loop-test .taken, at .before .loop .inv .long, at .before .loop .inv .enough)
 
 add-n : tie.Need-add-n Inv-loop μ-loop
 add-n c = search needs
@@ -71,15 +116,17 @@ cast-s : tie.Need-cast-s Inv-loop μ-loop
 cast-s c = search needs
 
 loop-less : tie.Need-loop-less Inv-loop μ-loop
-loop-less c = let turn = c .before .before .before in omega (arith, turn .loop-test .taken)
+loop-less c = omega (arith, turn (c .before .before) .loop-test .taken)
 
 loop-again : tie.Need-loop-again Inv-loop μ-loop
 loop-again c =
-    let turn = c .before .before .before in
-    let a = start turn .args in
-    let now' = turn .before .loop in
-    walked-next (decode (a .table .now)) (size turn .within) (by-state (a .firsts .now)) (a .start) (a .len) (length (a .out .now)) (now' .out) (now' .s) (now' .n) (now' .inv) (turn .loop-test .taken)
-    (c .before .arc-of .result) (c .before .arc-of .ensures)
+    let found = c .before .before in
+    let at = turn found in
+    let a = start at .args in
+    let t = decode (a .table .now) in
+    let now' = at .before .loop in
+    walked-next t (size at .within) (first-tight t (by-state (a .costs .now)) (by-state (a .lens .now))) (a .start) (a .len) (length (a .out .now)) (now' .out) (now' .s) (now' .n) (now' .inv)
+    (at .loop-test .taken) (found .first-giving .result) (c .before .arc-of .result) (is-first found) (c .before .arc-of .ensures)
 
 clear16-requires : tie.Need-clear16-requires Inv-loop μ-loop
 clear16-requires c κs = let k = c .before .before .loop .inv in omega (arith, k .few, k .enough, k .long)
@@ -93,7 +140,7 @@ returns c =
     let at = ended .before in
     let a = at .before .before .before .args in
     c .before .before .clear16 .ensures
-    ∙ walked-done (decode (a .table .now)) (by-state (a .firsts .now)) (a .start) (a .len) (length (a .out .now)) (at .loop .out) (at .loop .s) (at .loop .n) (at .loop .inv) (ended .loop-test .left)
+    ∙ walked-done (decode (a .table .now)) (first-tight (decode (a .table .now)) (by-state (a .costs .now)) (by-state (a .lens .now))) (a .start) (a .len) (length (a .out .now)) (at .loop .out) (at .loop .s) (at .loop .n) (at .loop .inv) (ended .loop-test .left)
 
 pub walk-spec : {M : Type 1} → statement M
 walk-spec =
@@ -102,10 +149,16 @@ walk-spec =
     Inv-loop
     μ-loop
     loop-holds
-    mul-i
-    element-copy-out-i
-    cast-arc-of
+    mul-from
+    element-copy-out-from
+    cast-from
+    add-to
+    mul-to
+    element-copy-out-to
+    cast-to
+    first-giving-requires
     arc-of-requires
+    cast-out
     mul-out
     slice-write-out
     add-n

@@ -1,0 +1,106 @@
+-- A state's first tight arc: where some arc is tight, the first that gives its source's cost and number of arcs is tight and leaves the same state.
+-- Assumes nothing.
+use mathlib.Core.Path.{_≡_, refl, ap, _∙_}
+use mathlib.Core.Bool.{Bool, true, false, _&&_, cond}
+use Prim.Native.Nat.{ℕ, zero, suc, _+_, _-_, _≤_, _<_}
+use native.Mathlib.Omega.{arith}
+use native.Mathlib.Decide.{ℕ-discrete}
+use lib.Dec.{eqb}
+use lib.ListN.{length}
+use borrow.Author.Tests.{eqb-true, eq-eqb}
+use Rattle.wire.proofs.Places.{and-true, true-and}
+use Rattle.transducer.specs.Format.{Transducer}
+use Rattle.transducer.specs.Path.{arc}
+use Rattle.transducer.specs.Leaf.{arcs-below}
+use Rattle.transducer.proofs.Good.{Content}
+use Rattle.transducer.proofs.Index.{arcs-of-state, state-of-arcs}
+use Rattle.shortest.specs.Nearest.{cost-by, arcs-by, Tight, First, gives, first-giving, first-tight}
+use Rattle.shortest.proofs.Best.{clash}
+
+module _ (t : Transducer) (c l : ℕ → ℕ) (s : ℕ) where
+  -- The first arc that gives them, no later than any other.
+  pub record Found-first (i j v : ℕ) : Type 0 where
+    pub gives-them : gives t c l s v ≡ true
+    pub low : i ≤ v
+    pub high : v ≤ j
+
+  pub first-found : (n i j : ℕ) → i ≤ j → j < i + n → gives t c l s j ≡ true → Found-first i j (first-giving n t c l s i)
+  unfolding first-giving
+  first-found zero i j a b g = absurd (omega arith)
+  first-found (suc n) i j a b g = on (gives t c l s i) refl (λ a' b'. first-found n (suc i) j a' b' g)
+    where
+      on : (d : Bool) → gives t c l s i ≡ d → (suc i ≤ j → j < suc i + n → Found-first (suc i) j (first-giving n t c l s (suc i)))
+          → Found-first i j (cond d i (first-giving n t c l s (suc i)))
+      on true e below = record { gives-them = e; low = omega arith; high = a }
+      on false e below = behind (ℕ-discrete i j)
+        where
+          behind : Dec (i ≡ j) → Found-first i j (first-giving n t c l s (suc i))
+          behind (yes q) = clash (gives t c l s i) (rw q g) e
+          behind (no q) =
+              let f : Found-first (suc i) j (first-giving n t c l s (suc i)) = below (omega arith) (omega arith) in
+              record { gives-them = f .gives-them; low = omega (arith, f .low); high = f .high }
+
+  -- The arcs from `from` to below i do not give them.
+  pub record Seeking (from to i : ℕ) : Type 0 where
+    pub low : from ≤ i
+    pub high : i ≤ to
+    pub whole : first-giving (to - i) t c l s i ≡ first-giving (to - from) t c l s from
+
+  pub seeking-first : (from to : ℕ) → from ≤ to → Seeking from to from
+  seeking-first from to h = record { low = omega arith; high = h; whole = refl }
+
+  pub seeking-stop : (from to i : ℕ) → Seeking from to i → to ≤ i → to ≡ first-giving (to - from) t c l s from
+  unfolding first-giving
+  seeking-stop from to i k h =
+      let none : to - i ≡ 0 = omega arith in
+      let all : i ≡ first-giving (to - from) t c l s from = rw none at (k .whole) in
+      omega (arith, k .high, all)
+
+  module _ (from to i x m : ℕ) (k : Seeking from to i) (h : i < to) (ex : x ≡ cost-by t c i) (em : m ≡ arcs-by t l i) where
+    more : to - i ≡ suc (to - (i + 1))
+    more = omega arith
+
+    test : (b : Bool) → eqb x (c s) && eqb m (l s) ≡ b → gives t c l s i ≡ b
+    unfolding gives
+    test b e = rw (ex, em) at e
+
+    pub seeking-here : eqb x (c s) && eqb m (l s) ≡ true → i ≡ first-giving (to - from) t c l s from
+    unfolding first-giving
+    seeking-here e =
+        let all : cond (gives t c l s i) i (first-giving (to - (i + 1)) t c l s (suc i)) ≡ first-giving (to - from) t c l s from = rw more at (k .whole) in
+        rw (test true e) at all
+
+    pub seeking-next : eqb x (c s) && eqb m (l s) ≡ false → Seeking from to (i + 1)
+    unfolding first-giving
+    seeking-next e =
+        let all : cond (gives t c l s i) i (first-giving (to - (i + 1)) t c l s (suc i)) ≡ first-giving (to - from) t c l s from = rw more at (k .whole) in
+        let one : i + 1 ≡ suc i = omega arith in
+        record {
+          low = omega (arith, k .low);
+          high = omega arith;
+          whole = ap (λ (j : ℕ). first-giving (to - (i + 1)) t c l s j) one ∙ (rw (test false e) at all);
+        }
+
+  pub giving-tight : (from to r : ℕ) → from ≡ arcs-below s (t .arcs) → to ≡ arcs-below (s + 1) (t .arcs) → r ≡ first-giving (to - from) t c l s from → r ≡ first-tight t c l s
+  unfolding first-tight
+  giving-tight from to r e f q = rw (e, f) at q
+
+pub tight-first : (t : Transducer) → Content t → (c l : ℕ → ℕ) (i : ℕ) → Tight t c l i → First t c l (first-tight t c l (arc t i .source)) i
+unfolding first-tight gives
+tight-first t good c l i d =
+    let s : ℕ = arc t i .source in
+    let from : ℕ = arcs-below s (t .arcs) in
+    let to : ℕ = arcs-below (s + 1) (t .arcs) in
+    let mine = arcs-of-state t i s good (d .below) refl in
+    let f : Found-first t c l s from i (first-giving (to - from) t c l s from) =
+    first-found t c l s (to - from) from i (mine .0) (omega (arith, mine .0, mine .1))
+    (true-and (eqb (cost-by t c i) (c s)) (eqb (arcs-by t l i) (l s)) (eq-eqb (cost-by t c i) (c s) (d .costs)) (eq-eqb (arcs-by t l i) (l s) (d .arcs))) in
+    let v : ℕ = first-giving (to - from) t c l s from in
+    let both = and-true (eqb (cost-by t c v) (c s)) (eqb (arcs-by t l v) (l s)) (f .gives-them) in
+    let below : v < length (t .arcs) = omega (arith, f .high, d .below) in
+    let leaves : arc t v .source ≡ s = state-of-arcs t v s good below (f .low) (omega (arith, f .high, mine .1)) in
+    record {
+      leaves = leaves;
+      tight = record { below = below; costs = rw leaves (eqb-true (cost-by t c v) (c s) (both .0)); arcs = rw leaves (eqb-true (arcs-by t l v) (l s) (both .1)) };
+      first = f .high;
+    }
