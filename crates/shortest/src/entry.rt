@@ -38,7 +38,7 @@ pub fn shortest_path(table: &[u8], arcs: &mut [u16], labels: &mut [u16]) -> Told
     let start = head.start as usize;
     let first = 12 + 10 * f;
     let m = head.arcs as usize;
-    let index = transducer::first_arcs(table, first, n, m);
+    let index = transducer::first_arcs_by_blocks(table, first, n, m);
     let codes = transducer::final_codes(table, f);
     let mut costs = [near::NO_PATH; 1024];
     near::own_costs(n, &codes, &mut costs);

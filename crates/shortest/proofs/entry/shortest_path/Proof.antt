@@ -29,7 +29,7 @@ at-header c = c .before .before .before
 abbrev at-codes : tie.After-codes → tie.After-final-codes
 at-codes c = c .before
 
-abbrev at-index : tie.After-codes → tie.After-first-arcs
+abbrev at-index : tie.After-codes → tie.After-first-arcs-by-blocks
 at-index c = at-codes c .before
 
 abbrev at-own : tie.After-settle → tie.After-own-costs
@@ -125,8 +125,8 @@ add-first c = omega (arith, head (at-header c) .few-finals)
 cast-m : tie.Need-cast-m
 cast-m c = search needs
 
-first-arcs-requires : tie.Need-first-arcs-requires
-first-arcs-requires c κs = let known = head (at-header (c .before)) in (known .opened, known .states-are, known .arcs-are)
+first-arcs-by-blocks-requires : tie.Need-first-arcs-by-blocks-requires
+first-arcs-by-blocks-requires c κs = let known = head (at-header (c .before)) in (known .opened, known .states-are, known .arcs-are)
 
 final-codes-requires : tie.Need-final-codes-requires
 final-codes-requires c κs = let known = head (at-header (c .before .before)) in (known .opened .accepted, known .finals-are)
@@ -145,7 +145,7 @@ settle-requires c κs =
     let known = head header in (
       known .opened,
       known .arcs-are,
-      index .first-arcs .ensures,
+      index .first-arcs-by-blocks .ensures,
       nearing-first (decode (start (header .before) .args .table .now)) (size (header .before)) (codes .final-codes .result) (own .own-costs .last .1 .1 .0) (replicate 1024 0)
           (codes .final-codes .ensures) (λ s h. own .own-costs .ensures .1 s (omega (arith, known .states-are))) (getD-zeros 1024),
       record { costs = own .own-costs .ensures .0; lens = length-replicate {A = ℕ} 1024 0 },
@@ -182,7 +182,7 @@ walk-requires c κs =
     let at = c .before .before .before .before in
     let header = header-of (at .before) in
     let known = head header in
-    (known .opened, at-index (codes-of (at-own (at .before))) .first-arcs .ensures, omega (arith, known .start-is, size (header .before) .within .starts), omega (arith, path at .few, header .before .before .if2 .left), path at .goes)
+    (known .opened, at-index (codes-of (at-own (at .before))) .first-arcs-by-blocks .ensures, omega (arith, known .start-is, size (header .before) .within .starts), omega (arith, path at .few, header .before .before .if2 .left), path at .goes)
 
 tell-requires : tie.Need-tell-requires
 tell-requires c κs =
@@ -222,7 +222,7 @@ shortest-path-spec =
     mul-first
     add-first
     cast-m
-    first-arcs-requires
+    first-arcs-by-blocks-requires
     final-codes-requires
     own-costs-requires
     settle-requires
