@@ -304,7 +304,12 @@ fn apply_into(
     let head = transducer::head_of(bytes);
     let f = head.finals as usize;
     let first = 12 + 10 * f;
-    let index = transducer::first_arcs(bytes, first, head.states as usize, head.arcs as usize);
+    let index = transducer::first_arcs_by_blocks(
+        bytes,
+        first,
+        head.states as usize,
+        head.arcs as usize,
+    );
     let mut table = [0u8; 59404];
     let mut arcs = [0u16; 3072];
     let w = walk_all(

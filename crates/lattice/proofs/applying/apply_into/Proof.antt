@@ -61,14 +61,14 @@ mul-first c = search needs
 add-first : tie.Need-add-first
 add-first c = search needs
 
-cast-first-arcs : tie.Need-cast-first-arcs
-cast-first-arcs c = search needs
+cast-first-arcs-by-blocks : tie.Need-cast-first-arcs-by-blocks
+cast-first-arcs-by-blocks c = search needs
 
-cast-first-arcs-2 : tie.Need-cast-first-arcs-2
-cast-first-arcs-2 c = search needs
+cast-first-arcs-by-blocks-2 : tie.Need-cast-first-arcs-by-blocks-2
+cast-first-arcs-by-blocks-2 c = search needs
 
-first-arcs-requires : tie.Need-first-arcs-requires
-first-arcs-requires c κs =
+first-arcs-by-blocks-requires : tie.Need-first-arcs-by-blocks-requires
+first-arcs-by-blocks-requires c κs =
     let o = c .before .before .before in
     let h = head-is o in
     (record { accepted = entry (lent o) .pre .accepted; first-is = omega (arith, h .head-finals-are) }, h .states-are, h .arcs-are)
@@ -88,7 +88,7 @@ walk-all-requires c κs =
         record {
           good = pre .good;
           opened = record { accepted = pre .accepted; first-is = omega (arith, h .head-finals-are) };
-          indexed = c .before .before .before .before .first-arcs .ensures;
+          indexed = c .before .before .before .before .first-arcs-by-blocks .ensures;
         },
         h .start-is,
       ),
@@ -274,9 +274,9 @@ apply-into-spec =
     cast-f
     mul-first
     add-first
-    cast-first-arcs
-    cast-first-arcs-2
-    first-arcs-requires
+    cast-first-arcs-by-blocks
+    cast-first-arcs-by-blocks-2
+    first-arcs-by-blocks-requires
     slice-aggregate-walk-all
     slice-aggregate-walk-all-2
     walk-all-requires
