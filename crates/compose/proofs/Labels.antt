@@ -15,27 +15,8 @@ use Rattle.compose.specs.declared.Origin.{Origin}
 use Rattle.compose.specs.declared.State.{State}
 use Rattle.compose.specs.Compose.{left-alone, right-alone, both-step, steps}
 use Rattle.transducer.proofs.Fits.{passed-output}
+use Rattle.transducer.proofs.Labels.{Unbarred, arc-unbarred}
 use Rattle.compose.proofs.Moves.{Move, by-left, by-right, by-both, step-move}
-
-pub record Unbarred (input output : ℕ) : Type 0 where
-  pub read : input < barred
-  pub written : output < barred
-
-pub good-unbarred : (input output : ℕ) → labels-good input output ≡ true → Unbarred input output
-unfolding labels-good
-good-unbarred input output h =
-    let p : (ltb input barred ≡ true) × (ltb output barred ≡ true) = and-true (ltb input barred) (ltb output barred) h in
-    record { read = ltb-true input barred (p .0); written = ltb-true output barred (p .1) }
-
-pub unbarred-good : (input output : ℕ) → Unbarred input output → labels-good input output ≡ true
-unfolding labels-good
-unbarred-good input output r =
-    true-and (ltb input barred) (ltb output barred) (lt-ltb input barred (r .read)) (lt-ltb output barred (r .written))
-
-pub arc-unbarred : (t : Transducer) (i : ℕ) → all-labels-good t ≡ true → i < length (t .arcs) → Unbarred (arc t i .input) (arc t i .output)
-unfolding all-labels-good arc
-arc-unbarred t i good below =
-    good-unbarred (arc t i .input) (arc t i .output) (every-getD (λ a. labels-good (a .input) (a .output)) (t .arcs) i no-arc good below)
 
 pub step-unbarred : (t u : Transducer) (x : State) (s : Step State Origin) → all-labels-good t ≡ true → all-labels-good u ≡ true → Mem s (steps t u x)
     → Unbarred (s .input) (s .output)

@@ -6,7 +6,7 @@ use native.Mathlib.Nat.{div-eq-of-lt-le, mul-add-mod-self-right, mod-eq-of-lt}
 use native.Mathlib.Omega.{arith}
 use lib.ListN.{length}
 use Rattle.transducer.specs.Format.{Transducer, Good}
-use Rattle.transducer.proofs.Accept.{Head-range, head-range, Content-range, content-range}
+use Rattle.transducer.proofs.RoundTrip.{good-range, good-content}
 use Rattle.explore.specs.Explore.{Step}
 use Rattle.compose.specs.declared.Origin.{Origin}
 use Rattle.compose.specs.declared.State.{State}
@@ -47,22 +47,16 @@ pub record Within (t u : Transducer) (x : State) : Type 0 where
   pub right : x .right < u .states
   pub filter : x .filter < 2
 
-pub good-head : (t : Transducer) → Good t → Head-range (t .states) (length (t .arcs)) (length (t .finals)) (t .start)
-good-head t g = head-range (t .states) (length (t .arcs)) (length (t .finals)) (t .start) (g .head)
-
-pub good-content : (t : Transducer) → Good t → Content-range t
-good-content t g = content-range t (g .content)
-
 module _ (t u : Transducer) (tg : Good t) (ug : Good u) where
   pub within-bounded : (x : State) → Within t u x → Bounded x
   within-bounded x w =
-      let p : t .states ≤ 1024 = good-head t tg .states in
-      let q : u .states ≤ 1024 = good-head u ug .states in
+      let p : t .states ≤ 1024 = good-range t tg .states in
+      let q : u .states ≤ 1024 = good-range u ug .states in
       record { left = omega (arith, w .left); right = omega (arith, w .right); filter = w .filter }
 
   pub first-within : Within t u (first-state t u)
   unfolding first-state
-  first-within = record { left = good-head t tg .start; right = good-head u ug .start; filter = omega arith }
+  first-within = record { left = good-range t tg .start; right = good-range u ug .start; filter = omega arith }
 
   pub step-within : (x : State) (s : Step State Origin) → Within t u x → In s (steps t u x) → Within t u (s .target)
   unfolding left-alone right-alone both-step

@@ -21,7 +21,7 @@ use Rattle.compose.specs.declared.State.{State}
 use Rattle.compose.specs.declared.Step.{Step}
 use Rattle.compose.specs.Walk.{run-step, run-steps, reading-from, begin-from, run-at}
 use Rattle.compose.specs.Taking.{Ready, In-both}
-use Rattle.compose.proofs.Pack.{good-head, good-content}
+use Rattle.transducer.proofs.RoundTrip.{good-range, good-content}
 use Rattle.compose.proofs.RunSteps.{
   run-none,
   run-skip,
@@ -197,7 +197,7 @@ module _ (t u : Transducer) (tg : Good t) (ug : Good u) (x : State) (inside : In
   here-right last =
       let j : ℕ = reading-from u 0 (right-to u x - right-from u x) (right-from u x) in
       let first : First-reading u 0 (right-from u x) (right-to u x) j = first-reading u 0 (right-from u x) (right-to u x) right-order in
-      let few : t .states ≤ 1024 = good-head t tg .states in
+      let few : t .states ≤ 1024 = good-range t tg .states in
       record {
         at-least = omega arith;
         at-most = omega arith;
@@ -218,8 +218,8 @@ module _ (t u : Transducer) (tg : Good t) (ug : Good u) (x : State) (inside : In
   here-alone : (i last : ℕ) → i < last → last ≤ length (t .arcs) → arc t i .output ≡ 0 → x .filter ≡ 0
       → Run-here t u x i last (right-to u x) (record { alone = true; i = i; j = 0 }) (alone-run x i (arc t i))
   here-alone i last l within silent free =
-      let few : t .states ≤ 1024 = good-head t tg .states in
-      let many : u .states ≤ 1024 = good-head u ug .states in
+      let few : t .states ≤ 1024 = good-range t tg .states in
+      let many : u .states ≤ 1024 = good-range u ug .states in
       let target : arc t i .target < t .states = good-content t tg .target i (omega arith) in
       record {
         at-least = omega arith;
@@ -247,7 +247,7 @@ module _ (t u : Transducer) (tg : Good t) (ug : Good u) (x : State) (inside : In
       let label : ℕ = arc t i .output in
       let j : ℕ = reading-from u label (right-to u x - right-from u x) (right-from u x) in
       let first : First-reading u label (right-from u x) (right-to u x) j = first-reading u label (right-from u x) (right-to u x) right-order in
-      let few : t .states ≤ 1024 = good-head t tg .states in
+      let few : t .states ≤ 1024 = good-range t tg .states in
       let target : arc t i .target < t .states = good-content t tg .target i (omega arith) in
       record {
         at-least = omega arith;

@@ -23,7 +23,7 @@ use Rattle.compose.specs.declared.State.{State}
 use Rattle.compose.specs.declared.Step.{Step}
 use Rattle.compose.specs.Compose.{left-alone, right-alone, both-step, left-steps, right-steps, steps}
 use Rattle.compose.specs.Walk.{pack, coded, run-step, run-steps}
-use Rattle.compose.proofs.Pack.{good-head, good-content}
+use Rattle.transducer.proofs.RoundTrip.{good-range, good-content}
 
 -- run-steps
 
@@ -242,5 +242,5 @@ pub good-runs : (t u : Transducer) (x : State) → Good t → Good u
     → map coded (steps t u x)
     ≡ runs-from t u x (arcs-below (suc (x .left)) (t .arcs) - arcs-below (x .left) (t .arcs)) (arcs-below (x .left) (t .arcs))
 good-runs t u x tg ug =
-    let few : length (t .arcs) ≤ 3072 = good-head t tg .arcs in
+    let few : length (t .arcs) ≤ 3072 = good-range t tg .arcs in
     steps-runs t u x (good-content u ug .stay) (good-content t tg .stay) (omega arith)

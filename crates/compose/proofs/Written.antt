@@ -12,7 +12,8 @@ use Rattle.explore.specs.Explore.{built-refusal}
 use Rattle.explore.proofs.Member.{mem-in}
 use Rattle.explore.proofs.Built.{Labelled, good-built}
 use Rattle.compose.specs.Compose.{same-state, steps, first-state, final-state, state-weight, composed}
-use Rattle.compose.proofs.Labels.{Unbarred, step-unbarred}
+use Rattle.transducer.proofs.Labels.{Unbarred}
+use Rattle.compose.proofs.Labels.{step-unbarred}
 use Rattle.compose.proofs.SameState.{same-state-decides}
 
 pub good-labels : (t : Transducer) → Good t → all-labels-good t ≡ true

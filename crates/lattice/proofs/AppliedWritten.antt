@@ -15,7 +15,7 @@ use Rattle.transducer.specs.Format.{Transducer, Good, refusal, decode}
 use Rattle.transducer.specs.Encode.{head-record, encode}
 use Rattle.transducer.specs.Leaf.{Finals-by-state}
 use Rattle.transducer.proofs.Encode.{length-encode}
-use Rattle.transducer.proofs.RoundTrip.{accepted-good, refusal-encode, decode-encode, length-encode-below}
+use Rattle.transducer.proofs.RoundTrip.{accepted-good, good-range, refusal-encode, decode-encode, length-encode-below}
 use Rattle.transducer.proofs.Runs.{good-within}
 use Rattle.explore.specs.declared.Walk.{Walk}
 use Rattle.explore.specs.Explore.{built-refusal}
@@ -37,7 +37,7 @@ use Rattle.lattice.proofs.BuiltReached.{built-reached}
 use Rattle.lattice.proofs.Closing.{told-finals}
 use Rattle.lattice.proofs.FoundBuilt.{found-explored, found-length, found-arcs, found-origins}
 use Rattle.lattice.proofs.KeyFinals.{key-final, key-weight, pack-final, pack-weight}
-use Rattle.lattice.proofs.KeyParts.{keying, good-head}
+use Rattle.lattice.proofs.KeyParts.{keying}
 use Rattle.lattice.proofs.LatticeGood.{state-weight, applied-light, good-applied}
 use Rattle.lattice.proofs.SameState.{same-state-decides}
 use Rattle.lattice.proofs.Tracing.{refilled, map-same}
@@ -170,7 +170,7 @@ module _ (cs bs : List ℕ) (bytes : Bytes bs) (ok : refusal bs ≡ 0) (string :
                 ∙ length-filled (length out) (encode (trimmed z)) (omega (arith, length-encode-below (trimmed z) trimmed-fine))
 
             few-kept : length (trimmed z .arcs) ≤ 3072
-            few-kept = good-head (trimmed z) trimmed-fine .arcs
+            few-kept = good-range (trimmed z) trimmed-fine .arcs
 
             origins-long : length origins' ≡ length origins
             origins-long = ap length (trims .origins-are) ∙ length-filled (length origins) ks (omega (arith, length-origins z, few-kept))

@@ -12,7 +12,7 @@ use Rattle.wire.specs.Bytes.{every}
 use Rattle.wire.proofs.Places.{and-true}
 use Rattle.transducer.specs.Format.{Transducer, Good, barred}
 use Rattle.transducer.specs.Path.{arc}
-use Rattle.transducer.proofs.Accept.{Head-range, head-range, Content-range, content-range}
+use Rattle.transducer.proofs.RoundTrip.{good-range, good-content}
 use Rattle.explore.specs.Explore.{Step}
 use Rattle.explore.proofs.Member.{Mem, mem-in}
 use Rattle.explore.proofs.ExploredKeys.{Keying}
@@ -22,12 +22,6 @@ use Rattle.lattice.specs.Applying.{pack, unpacked, one, next, Key-in}
 use Rattle.lattice.proofs.AppliedSteps.{empty-step, symbol-step, OfArc, of-empty, of-symbol, Move, step-move}
 use Rattle.lattice.proofs.AppliedTrails.{first}
 use Rattle.lattice.proofs.SameState.{same-state-decides}
-
-pub good-head : (t : Transducer) → Good t → Head-range (t .states) (length (t .arcs)) (length (t .finals)) (t .start)
-good-head t g = head-range (t .states) (length (t .arcs)) (length (t .finals)) (t .start) (g .head)
-
-pub good-content : (t : Transducer) → Good t → Content-range t
-good-content t g = content-range t (g .content)
 
 -- Keys
 
@@ -65,10 +59,10 @@ pub record State-in (cs : List ℕ) (t : Transducer) (x : State) : Type 0 where
 
 module _ (cs : List ℕ) (t : Transducer) (good : Good t) where
   pub state-small : (x : State) → State-in cs t x → x .state < 1024
-  state-small x w = omega (arith, w .state-in, good-head t good .states)
+  state-small x w = omega (arith, w .state-in, good-range t good .states)
 
   pub first-in : State-in cs t (first t)
-  first-in = record { position-in = omega arith; state-in = good-head t good .start }
+  first-in = record { position-in = omega arith; state-in = good-range t good .start }
 
   pub step-in : (x : State) (s : Step State ℕ) → State-in cs t x → Mem s (steps cs t x) → State-in cs t (s .target)
   unfolding empty-step symbol-step step

@@ -23,7 +23,7 @@ use Rattle.explore.proofs.Cases.{by-test, is-false}
 use Rattle.explore.proofs.Walking.{Taking, taking-state, taking-over, taking-part, taking-full, taking-stop}
 use Rattle.lattice.specs.Apply.{State, step, arc-steps, steps}
 use Rattle.lattice.specs.Applying.{pack, unpacked, one, next, arc-keyed, Key-in}
-use Rattle.lattice.proofs.KeyParts.{good-content}
+use Rattle.transducer.proofs.RoundTrip.{good-content}
 
 -- The origin of a step is written where there is room for its arc.
 

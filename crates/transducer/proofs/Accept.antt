@@ -18,6 +18,7 @@ use Rattle.transducer.specs.declared.Final.{Final}
 use Rattle.transducer.specs.Format.{Transducer, framed, records, kinds-good, decode, head-states, head-arcs, head-finals, head-start, head-good, states-good, finals-rise, sources-stay, order-good, labels-good, all-labels-good, weight-good, weights-good, first-of, content-refusal, refusal}
 use Rattle.transducer.specs.Path.{no-arc, arc}
 use Rattle.transducer.specs.Check.{walked}
+use Rattle.transducer.proofs.Good.{Head-range, head-range, passed}
 use Rattle.transducer.proofs.Laid.{Laid, laid-framed, laid-kinds, laid-finals-count, laid-arcs-count, kinds-laid}
 
 -- Refusal 3's test and refusal 4's, of bytes.
@@ -71,11 +72,6 @@ laid-refusal {bs} b l hd =
     (eq-eqb (length (decode bs .arcs)) (head-arcs bs) (laid-arcs-count b l)) in
     rw (laid-framed b l, laid-kinds b l, hd, cs)
 
--- A test of a chain that ends in 0 has passed.
-passed : (t : Bool) (k r : ℕ) → cond (not t) (suc k) r ≡ 0 → (t ≡ true) × (r ≡ 0)
-passed true k r h = (refl, h)
-passed false k r h = absurd (omega arith)
-
 record Passed (bs : List ℕ) : Type 0 where
   framing : framed bs ≡ true
   kinds : kinds-good (records bs) ≡ true
@@ -103,29 +99,6 @@ accepted-head bs h = all-passed bs h .head
 
 pub accepted-content : (bs : List ℕ) → refusal bs ≡ 0 → content-refusal (decode bs) ≡ 0
 accepted-content bs h = all-passed bs h .content
-
--- The head's numbers in range.
-pub record Head-range (n m f s : ℕ) : Type 0 where
-  pub some : 1 ≤ n
-  pub states : n ≤ 1024
-  pub arcs : m ≤ 3072
-  pub finals : f ≤ n
-  pub start : s < n
-
-pub head-range : (n m f s : ℕ) → head-good n m f s ≡ true → Head-range n m f s
-unfolding head-good
-head-range n m f s h =
-    let a = and-true (leb 1 n && leb n 1024) (leb m 3072 && (leb f n && ltb s n)) h in
-    let b = and-true (leb 1 n) (leb n 1024) (a .0) in
-    let c = and-true (leb m 3072) (leb f n && ltb s n) (a .1) in
-    let d = and-true (leb f n) (ltb s n) (c .1) in
-    record {
-      some = leb-true 1 n (b .0);
-      states = leb-true n 1024 (b .1);
-      arcs = leb-true m 3072 (c .0);
-      finals = leb-true f n (d .0);
-      start = ltb-true s n (d .1);
-    }
 
 -- What no refusal of 5 to 8 gives, arc by arc and final by final.
 pub record Content-range (t : Transducer) : Type 0 where

@@ -162,11 +162,11 @@ module _ (bs : List ℕ) (bytes : Bytes bs) (ok : refusal bs ≡ 0) where
       let there : 12 + 10 * head-finals bs + 16 * (i + j) + 4 ≡ place + 16 * j = omega arith in
       ap (λ (a : Arc). a .source) (arc-offset bs bytes ok (i + j) (omega (arith, length-arcs bs bytes ok))) ∙ ap (two bs) there
 
-  pub marking-block : {i place : ℕ} {index : List ℕ} (source : ℕ) → i + 32 ≤ head-arcs bs → source ≡ two bs place → source ≡ two bs (place + 496) →
-      Marking bs i place index → Marking bs (i + 32) (place + 512) (set index (source + 1) (i + 32))
-  marking-block {i} {place} source h first last m = marking-run 31 source h same m
+  pub marking-block : {i place : ℕ} {index : List ℕ} (source : ℕ) → i + 128 ≤ head-arcs bs → source ≡ two bs place → source ≡ two bs (place + 2032) →
+      Marking bs i place index → Marking bs (i + 128) (place + 2048) (set index (source + 1) (i + 128))
+  marking-block {i} {place} source h first last m = marking-run 127 source h same m
     where
-      rises : (j k : ℕ) → j ≤ k → k ≤ 31 → two bs (place + 16 * j) ≤ two bs (place + 16 * k)
+      rises : (j k : ℕ) → j ≤ k → k ≤ 127 → two bs (place + 16 * j) ≤ two bs (place + 16 * k)
       rises j k p q =
           omega (
             arith,
@@ -176,11 +176,11 @@ module _ (bs : List ℕ) (bytes : Bytes bs) (ok : refusal bs ≡ 0) where
                 (omega (arith, length-arcs bs bytes ok)),
           )
 
-      same : (j : ℕ) → j ≤ 31 → source ≡ two bs (place + 16 * j)
+      same : (j : ℕ) → j ≤ 127 → source ≡ two bs (place + 16 * j)
       same j p =
           let none : place + 16 * 0 ≡ place = omega arith in
           let low : two bs place ≤ two bs (place + 16 * j) = rw none at (rises 0 j (omega arith) p) in
-          omega (arith, low, rises j 31 p (omega arith))
+          omega (arith, low, rises j 127 p (omega arith))
 
 -- Once all arcs are marked.
 pub marked-all : (xs : List Arc) {arcs : ℕ} {index : List ℕ} → arcs ≡ length xs → Marked (take arcs xs) index → Marked xs index

@@ -1,4 +1,4 @@
--- What the tests 3 and 5 to 8 say, as plain facts: `Within` of the head's numbers, `Content` of a transducer. Assumes nothing.
+-- What the tests 3 and 5 to 8 say, as plain facts: `Head-range` of the head's numbers, `Content` of a transducer. Assumes nothing.
 use mathlib.Core.Path.{_≡_, refl}
 use mathlib.Core.Bool.{Bool, true, false, _&&_, not, cond}
 use Prim.Native.Nat.{ℕ, suc, _≤_, _<_}
@@ -12,16 +12,16 @@ use Rattle.transducer.specs.declared.Arc.{Arc}
 use Rattle.transducer.specs.declared.Final.{Final}
 use Rattle.transducer.specs.Format.{Transducer, head-good, states-good, order-good, all-labels-good, weights-good, weight-good, labels-good, first-of, content-refusal, finals-rise, sources-stay}
 
-pub record Within (n m f s : ℕ) : Type 0 where
+pub record Head-range (n m f s : ℕ) : Type 0 where
   pub some : 1 ≤ n
   pub states : n ≤ 1024
   pub arcs : m ≤ 3072
   pub finals : f ≤ n
   pub start : s < n
 
-pub head-within : (n m f s : ℕ) → head-good n m f s ≡ true → Within n m f s
+pub head-range : (n m f s : ℕ) → head-good n m f s ≡ true → Head-range n m f s
 unfolding head-good
-head-within n m f s h =
+head-range n m f s h =
     let a = and-true (leb 1 n && leb n 1024) (leb m 3072 && (leb f n && ltb s n)) h in
     let b = and-true (leb 1 n) (leb n 1024) (a .0) in
     let d = and-true (leb m 3072) (leb f n && ltb s n) (a .1) in

@@ -13,6 +13,7 @@ pub mod Index
 pub mod Labels
 pub mod Laid
 pub mod Members
+pub mod Most
 pub mod Offsets
 pub mod Paths
 pub mod Ranges

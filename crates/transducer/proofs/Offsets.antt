@@ -11,7 +11,7 @@ use Rattle.transducer.specs.Format.{Transducer, decode, refusal, head-st
 use Rattle.transducer.specs.Path.{arc, no-arc}
 use Rattle.transducer.proofs.Laid.{laid-decode}
 use Rattle.transducer.proofs.Accept.{accepted-laid, accepted-head, accepted-content}
-use Rattle.transducer.proofs.Good.{Within, Content, head-within, content-good}
+use Rattle.transducer.proofs.Good.{Head-range, Content, head-range, content-good}
 
 module _ (bs : List ℕ) (bytes : Bytes bs) (ok : refusal bs ≡ 0) where
   pub length-accepted : length bs ≡ 12 + 10 * head-finals bs + 16 * head-arcs bs
@@ -54,8 +54,8 @@ module _ (bs : List ℕ) (bytes : Bytes bs) (ok : refusal bs ≡ 0) where
   pub final-inside : (i : ℕ) → i < length (decode bs .finals) → 12 + 10 * i + 10 ≤ length bs
   final-inside i h = omega (arith, length-accepted, length-finals)
 
-  pub accepted-within : Within (head-states bs) (head-arcs bs) (head-finals bs) (head-start bs)
-  accepted-within = head-within (head-states bs) (head-arcs bs) (head-finals bs) (head-start bs) (accepted-head bs ok)
+  pub accepted-within : Head-range (head-states bs) (head-arcs bs) (head-finals bs) (head-start bs)
+  accepted-within = head-range (head-states bs) (head-arcs bs) (head-finals bs) (head-start bs) (accepted-head bs ok)
 
   pub accepted-good : Content (decode bs)
   accepted-good = content-good (decode bs) (accepted-content bs ok)

@@ -26,7 +26,8 @@ use Rattle.transducer.specs.Encode.{encode, head-record, final-record, a
 use Rattle.transducer.specs.Check.{head-word, final-word, arc-word}
 use Rattle.transducer.proofs.Laid.{Laid, laid-decode}
 use Rattle.transducer.proofs.WriteBack.{encode-laid}
-use Rattle.transducer.proofs.Accept.{accepted-laid, accepted-head, accepted-content, laid-refusal}
+use Rattle.transducer.proofs.Accept.{accepted-laid, accepted-head, accepted-content, laid-refusal, Content-range, content-range}
+use Rattle.transducer.proofs.Good.{Head-range, head-range}
 
 -- What is written: each element is a byte, and how many there are
 
@@ -91,28 +92,11 @@ length-encode t =
 
 -- What a good transducer's numbers and tests are
 
-pub record Head-range (n m f s : ℕ) : Type 0 where
-  pub states : n ≤ 1024
-  pub arcs : m ≤ 3072
-  pub finals : f ≤ n
-  pub start : s < n
-
-pub head-range : (n m f s : ℕ) → head-good n m f s ≡ true → Head-range n m f s
-unfolding head-good
-head-range n m f s h =
-    let parts : (leb 1 n && leb n 1024 ≡ true) × (leb m 3072 && (leb f n && ltb s n) ≡ true) = and-true _ _ h in
-    let one : (leb 1 n ≡ true) × (leb n 1024 ≡ true) = and-true _ _ (parts .0) in
-    let two' : (leb m 3072 ≡ true) × (leb f n && ltb s n ≡ true) = and-true _ _ (parts .1) in
-    let three : (leb f n ≡ true) × (ltb s n ≡ true) = and-true _ _ (two' .1) in
-    record {
-      states = leb-true _ _ (one .1);
-      arcs = leb-true _ _ (two' .0);
-      finals = leb-true _ _ (three .0);
-      start = ltb-true _ _ (three .1);
-    }
-
 pub good-range : (t : Transducer) → Good t → Head-range (t .states) (length (t .arcs)) (length (t .finals)) (t .start)
 good-range t g = head-range _ _ _ _ (g .head)
+
+pub good-content : (t : Transducer) → Good t → Content-range t
+good-content t g = content-range t (g .content)
 
 pub length-encode-below : (t : Transducer) → Good t → length (encode t) ≤ max-bytes
 length-encode-below t g =

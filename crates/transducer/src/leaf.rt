@@ -56,18 +56,18 @@ fn mark_each(bytes: &[u8], first: usize, from: usize, to: usize, index: &mut [u1
     }
 }
 
-// Marks thirty-two arcs. Sources never fall: where the first and the last have the same, so have all between, and the last mark stays.
+// Marks 128 arcs. Sources never fall: where the first and the last have the same, so have all between, and the last mark stays.
 fn mark_block(bytes: &[u8], first: usize, from: usize, index: &mut [u16; 1025])
-    requires { ⌜ Opened (now bytes) first × (from + 32 ≤ length (decode (now bytes) .arcs)) × Marked (take from (decode (now bytes) .arcs)) (now index) ⌝ }
-    ensures { λ _. ⌜ Marked (take (from + 32) (decode (now (bytes .entry)) .arcs)) (now (index .exit)) ⌝ }
+    requires { ⌜ Opened (now bytes) first × (from + 128 ≤ length (decode (now bytes) .arcs)) × Marked (take from (decode (now bytes) .arcs)) (now index) ⌝ }
+    ensures { λ _. ⌜ Marked (take (from + 128) (decode (now (bytes .entry)) .arcs)) (now (index .exit)) ⌝ }
 {
     let place = first + 16 * from + 4;
     let source = wire::u16_at(bytes, place) as usize;
-    if source != wire::u16_at(bytes, place + 496) as usize {
-        mark_each(bytes, first, from, from + 32, index);
+    if source != wire::u16_at(bytes, place + 2032) as usize {
+        mark_each(bytes, first, from, from + 128, index);
         return;
     }
-    index[source + 1] = (from + 32) as u16;
+    index[source + 1] = (from + 128) as u16;
 }
 
 // Takes the running maximum of the marks.
@@ -102,9 +102,9 @@ pub fn first_arcs_by_blocks(bytes: &[u8], first: usize, states: usize, arcs: usi
 {
     let mut index = [0u16; 1025];
     let mut i = 0;
-    while i + 32 <= arcs {
+    while i + 128 <= arcs {
         mark_block(bytes, first, i, &mut index);
-        i += 32;
+        i += 128;
     }
     mark_each(bytes, first, i, arcs, &mut index);
     raise(states, &mut index);

@@ -7,13 +7,12 @@ use Prim.Native.Nat.{_+_, _-_, _≤_, _<_}
 use native.Mathlib.Omega.{arith}
 use lib.ListN.{length, getD}
 use Rattle.transducer.specs.Format.{decode, Good}
-use Rattle.transducer.proofs.RoundTrip.{accepted-good}
+use Rattle.transducer.proofs.RoundTrip.{accepted-good, good-range}
 use Rattle.explore.specs.Walk.{Sofar, all-taken, state-served, Walked, Went}
 use Rattle.compose.specs.declared.Run.{Run}
 use Rattle.compose.specs.declared.State.{State}
 use Rattle.compose.specs.Walk.{key-steps, run-at}
 use Rattle.compose.specs.Taking.{In-both}
-use Rattle.compose.proofs.Pack.{good-head}
 use Rattle.compose.proofs.Marks.{placed-leaving}
 use Rattle.compose.proofs.Reading.{Run-here, next-run-here}
 use Rattle.compose.proofs.WalkCode.{run-left, Placed, placed, placed-left, placed-right, Serving, serving-first, serving-next, serving-full, serving-stop}
@@ -66,8 +65,8 @@ parts : (c : tie.After-unpack Inv-loop μ-loop) → (c .unpack .result .left < 1
 parts c =
     let a = c .before .before .before .before .before .before .before .args in
     let i = inside c in
-    let m = good-head (decode (a .left .now)) (left-good (c .before .before .before .before .before .before)) .states in
-    let n = good-head (decode (a .right .now)) (right-good (c .before .before .before .before .before)) .states in
+    let m = good-range (decode (a .left .now)) (left-good (c .before .before .before .before .before .before)) .states in
+    let n = good-range (decode (a .right .now)) (right-good (c .before .before .before .before .before)) .states in
     (omega (arith, i .left-in, m), omega (arith, i .right-in, n))
 
 -- The bounds of the arcs of the state's parts.
@@ -86,7 +85,7 @@ left-most : (c : tie.After-unpack Inv-loop μ-loop)
 left-most c =
     let a = c .before .before .before .before .before .before .before .args in
     let p = placed-left (bounds c) in
-    let m = good-head (decode (a .left .now)) (left-good (c .before .before .before .before .before .before)) .arcs in
+    let m = good-range (decode (a .left .now)) (left-good (c .before .before .before .before .before .before)) .arcs in
     (omega (arith, p .0, p .1, m), omega (arith, p .1, m))
 
 right-most : (c : tie.After-unpack Inv-loop μ-loop)
@@ -94,7 +93,7 @@ right-most : (c : tie.After-unpack Inv-loop μ-loop)
 right-most c =
     let a = c .before .before .before .before .before .before .before .args in
     let p = placed-right (bounds c) in
-    let m = good-head (decode (a .right .now)) (right-good (c .before .before .before .before .before)) .arcs in
+    let m = good-range (decode (a .right .now)) (right-good (c .before .before .before .before .before)) .arcs in
     (omega (arith, p .0, p .1, m), omega (arith, p .1, m))
 
 cast-p : tie.Need-cast-p Inv-loop μ-loop

@@ -8,11 +8,11 @@ use Prim.Native.Nat.{ℕ, _+_, _*_, _-_, _/_, _%_, _≤_, _<_}
 use native.Mathlib.Omega.{arith}
 use lib.ListN.{length, getD}
 use Rattle.transducer.specs.Format.{decode, Good}
-use Rattle.transducer.proofs.RoundTrip.{accepted-good}
+use Rattle.transducer.proofs.RoundTrip.{accepted-good, good-range, good-content}
 use Rattle.explore.specs.Walk.{Sofar, state-served, Walked}
 use Rattle.explore.proofs.Walking.{Taking}
 use Rattle.lattice.specs.Applying.{next, arc-keyed}
-use Rattle.lattice.proofs.KeyParts.{good-head, good-content, key-small}
+use Rattle.lattice.proofs.KeyParts.{key-small}
 use Rattle.lattice.proofs.ServedArcs.{index-within, arc-next, arcs-left, key-symbol, leaving, empty-taken, symbol-taken, none-taken, serving-first, serving-skip, serving-next, serving-full, serving-stop}
 use Rattle.lattice.proofs.applying.serve.Statement.{statement}
 use Rattle.lattice.proofs.applying.serve.Tie as tie
@@ -54,7 +54,7 @@ within c =
     index-within (decode (a .bytes .now)) (a .index .now) (pre .0 .0 .indexed) (getD (a .states .now) (a .source) 0 % 1024) (pre .0 .2 .state-in)
 
 few-arcs : (c : tie.After-shared-slice-known2 Inv-loop μ-loop) → length (decode (c .before .before .args .bytes .now) .arcs) ≤ 3072
-few-arcs c = good-head (decode (c .before .before .args .bytes .now)) (good c) .arcs
+few-arcs c = good-range (decode (c .before .before .args .bytes .now)) (good c) .arcs
 
 mul-key : tie.Need-mul-key Inv-loop μ-loop
 mul-key c = omega (arith, source-lt (c .before .before .before))
@@ -166,7 +166,7 @@ target-lt c =
     let t = decode (c .before .before .before .before .before .before .before .before .before .before .before .before .args .bytes .now) in
     let g = good (c .before .before .before .before .before .before .before .before .before .before) in
     let i = c .before .before .loop .i in
-    rw (c .arc-of .ensures) (omega (arith, good-content t g .target i (below (c .before)), good-head t g .states))
+    rw (c .arc-of .ensures) (omega (arith, good-content t g .target i (below (c .before)), good-range t g .states))
 
 add-to : tie.Need-add-to Inv-loop μ-loop
 add-to c = omega (arith, place-le (c .before))

@@ -14,7 +14,7 @@ is-bytes c = λ i. omega (arith, c .shared-slice-known .given i)
 small : (c : tie.After-shared-slice-known) → Small (c .before .args .bytes .now) (c .before .args .first)
 small c = opened-small (c .before .args .bytes .now) (is-bytes c) (c .before .pre .0 .accepted) (c .before .pre .0)
 
-are-arcs : (c : tie.After-shared-slice-known) → c .before .args .from + 32 ≤ head-arcs (c .before .args .bytes .now)
+are-arcs : (c : tie.After-shared-slice-known) → c .before .args .from + 128 ≤ head-arcs (c .before .args .bytes .now)
 are-arcs c = omega (arith, c .before .pre .1, small c)
 
 marking : (c : tie.After-shared-slice-known) →
