@@ -1,5 +1,5 @@
 /* The calls of libreader.a (rt staticlib reader). A slice goes as a pointer and a number of cells; each call returns the refusal, 0 on
-   success, and touches nothing outside what it is lent. docs/MAP.md says what each promises; crates/reader/src/lib.rt has the contracts. */
+   success, and touches nothing outside what it is lent. Buffers that are lent to one call must not overlap. docs/MAP.md says what each promises; crates/reader/src/lib.rt has the contracts. */
 #ifndef FORTHWN_H
 #define FORTHWN_H
 
