@@ -4,6 +4,7 @@ pub mod Cheapest
 pub mod Tight
 pub mod Settled
 pub mod InPlace
+pub mod InTurn
 pub mod EmptyPaths
 pub mod Along
 pub mod Answers

@@ -1,7 +1,7 @@
 // By state, the least cost to come and the fewest arcs at that cost, updated in place until nothing changes, and the path along them.
 ghost use mathlib.Core.Path.{_≡_};
 ghost use Prim.Native.Nat.{ℕ, _+_, _-_, _≤_, _<_, min};
-ghost use mathlib.Core.Bool.{true};
+ghost use mathlib.Core.Bool.{true, cond};
 ghost use lib.ListN.{length, getD};
 ghost use Rattle.wire.specs.Bytes.{filled};
 ghost use Rattle.transducer.specs.Format.{decode};
@@ -105,6 +105,17 @@ pub fn own_costs(states: usize, codes: &[u32; 1024], costs: &mut [u32; 1024])
     }
 }
 
+// The number of the arc that a sweep takes at its turn `k`: in order, or the last arc first.
+fn arc_at_turn(arcs: usize, k: usize, down: bool) -> usize
+    requires { ⌜ k < arcs ⌝ }
+    ensures { λ r. ⌜ r ≡ cond down (arcs - (k + 1)) k ⌝ }
+{
+    if down {
+        return arcs - (k + 1);
+    }
+    k
+}
+
 // Brings each arc's source up to date by its target, last arc first; once no arc makes a state better the rest of its arcs are passed over.
 // Another sweep may change more where a state changed after an arc was read that leads to it or to one before it.
 fn first_sweep(
@@ -144,11 +155,13 @@ fn first_sweep(
     again
 }
 
-// The same with no arc passed over; whether something changed. It tests less at each arc, so it is the one that is repeated.
+// The same with no arc passed over, in order or the last arc first; whether something changed. It tests less at each arc, so it is the one
+// that is repeated.
 fn sweep(
     table: &[u8],
     first: usize,
     arcs: usize,
+    down: bool,
     costs: &mut [u32; 1024],
     lens: &mut [u16; 1024],
 ) -> bool
@@ -157,9 +170,10 @@ fn sweep(
     ensures { λ r. ⌜ Swept-says (decode (now (table .entry))) (now (costs .entry)) (now (lens .entry)) (now (costs .exit)) (now (lens .exit)) r ⌝ }
 {
     let mut changed = false;
-    let mut i = arcs;
-    while i > 0 {
-        i -= 1;
+    let mut k = 0;
+    while k < arcs {
+        let i = arc_at_turn(arcs, k, down);
+        k += 1;
         let a = transducer::arc_of(table, first, i);
         let s = a.source as usize;
         let to = a.target as usize;
@@ -176,6 +190,8 @@ fn sweep(
 }
 
 // The least cost to come from each state, with the fewest arcs at that cost; `costs` begins with the empty paths' costs.
+// Arcs most often lead to higher numbers, so the first three sweeps take the last arc first; from then on each turns round, so that a line
+// numbered backwards takes five.
 pub fn settle(
     table: &[u8],
     first: usize,
@@ -191,7 +207,12 @@ pub fn settle(
     if !first_sweep(table, first, arcs, index, costs, lens) {
         return;
     }
-    while sweep(table, first, arcs, costs, lens) {}
+    let mut down = true;
+    let mut turns = false;
+    while sweep(table, first, arcs, down, costs, lens) {
+        down = down ^ turns;
+        turns = true;
+    }
 }
 
 // The first of the arcs from `from` to below `to` that gives the cost and number of arcs of state `s`, or `to` where none does.

@@ -11,10 +11,10 @@ use Rattle.shortest.proofs.near.settle.Statement.{statement}
 use Rattle.shortest.proofs.near.settle.Tie as tie
 
 abbrev Inv-loop : tie.InvT-loop
-Inv-loop table first arcs index costs₀ lens₀ costs lens = Nearing (decode table) (by-state costs) (by-state lens) × Long costs lens
+Inv-loop table first arcs index costs₀ lens₀ down₀ turns₀ costs lens down turns = Nearing (decode table) (by-state costs) (by-state lens) × Long costs lens
 
 abbrev μ-loop : tie.MeasureT-loop
-μ-loop table first arcs index costs₀ lens₀ costs lens = total (decode table .states) (height (by-state costs) (by-state lens))
+μ-loop table first arcs index costs₀ lens₀ down₀ turns₀ costs lens down turns = total (decode table .states) (height (by-state costs) (by-state lens))
 
 -- The entry, with what is known of the bytes.
 abbrev Entry : Type 0

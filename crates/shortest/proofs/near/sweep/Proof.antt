@@ -1,24 +1,21 @@
--- The invariant: the arcs from `i` on are swept (`Sweeping`). A turn leaves its arc as no better or as better.
+-- The invariant: the arcs of the first `k` turns are swept (`InTurn`), in either order. A turn leaves its arc as no better or as better.
 use borrow.Author.Needs.{needs}
 use borrow.Author.Tests.{not-true, not-false}
-use mathlib.Core.Path.{refl}
-use mathlib.Core.Bool.{true}
 use Prim.Native.Nat.{_-_, _<_}
 use native.Mathlib.Omega.{arith}
 use lib.ListN.{length}
 use Rattle.wire.specs.Bytes.{Bytes}
 use Rattle.transducer.specs.Format.{decode}
 use Rattle.paths.proofs.Ready.{Sized, sized}
-use Rattle.shortest.proofs.Best.{clash}
-use Rattle.shortest.proofs.InPlace.{Sweeping, sweeping-first, sweeping-stop, sweeping-arc, sweeping-state, sweeping-kept, sweeping-better}
+use Rattle.shortest.proofs.InTurn.{InTurn, in-turn-first, in-turn-stop, in-turn-arc, in-turn-states, in-turn-kept, in-turn-better}
 use Rattle.shortest.proofs.near.sweep.Statement.{statement}
 use Rattle.shortest.proofs.near.sweep.Tie as tie
 
 abbrev Inv-loop : tie.InvT-loop
-Inv-loop table first arcs costs₀ lens₀ changed₀ i₀ costs lens changed i = Sweeping (decode table) costs₀ lens₀ 0 i costs lens changed
+Inv-loop table first arcs down costs₀ lens₀ changed₀ k₀ costs lens changed k = InTurn (decode table) costs₀ lens₀ arcs down k costs lens changed
 
 abbrev μ-loop : tie.MeasureT-loop
-μ-loop table first arcs costs₀ lens₀ changed₀ i₀ costs lens changed i = i
+μ-loop table first arcs down costs₀ lens₀ changed₀ k₀ costs lens changed k = arcs - k
 
 -- A turn of the loop.
 abbrev Turn : Type 0
@@ -33,11 +30,17 @@ size c =
     let bytes : Bytes bs = λ i. omega (arith, c .before .before .shared-slice-known .given i) in
     sized bs bytes (start c .pre .0 .accepted)
 
-is-arc : (c : Turn) → c .before .loop .i - 1 < length (decode (start c .args .table .now) .arcs)
+-- Its arc.
+abbrev Taken : Type 0
+Taken = tie.After-arc-at-turn Inv-loop μ-loop
+
+is-arc : (c : Taken) → c .arc-at-turn .result < length (decode (start (c .before) .args .table .now) .arcs)
 is-arc c =
-    let now' = c .before .loop in
-    let a = start c .args in
-    sweeping-arc (decode (a .table .now)) (size c) (a .costs .now) (a .lens .now) 0 (now' .i) (now' .costs) (now' .lens) (now' .changed) (now' .inv) (c .loop-test .taken)
+    let t = c .before in
+    let now' = t .before .loop in
+    let a = start t .args in
+    in-turn-arc (decode (a .table .now)) (size t) (a .costs .now) (a .lens .now) (a .arcs) (a .down) (now' .k) (now' .costs) (now' .lens) (now' .changed) (now' .inv) (t .loop-test .taken) (c .arc-at-turn .result)
+    (c .arc-at-turn .ensures)
 
 -- The arc that was read, and the sums made of it.
 abbrev Read : Type 0
@@ -45,11 +48,12 @@ Read = tie.After-arc-of Inv-loop μ-loop
 
 below : (c : Read) → (c .arc-of .result .source < 1024) × (c .arc-of .result .target < 1024)
 below c =
-    let t = c .before in
+    let g = c .before in
+    let t = g .before in
     let now' = t .before .loop in
     let a = start t .args in
     let most = size t .states in
-    let both = sweeping-state (decode (a .table .now)) (size t) (a .costs .now) (a .lens .now) 0 (now' .i) (now' .costs) (now' .lens) (now' .changed) (now' .inv) (t .loop-test .taken) in
+    let both = in-turn-states (decode (a .table .now)) (size t) (a .costs .now) (a .lens .now) (a .arcs) (a .down) (now' .k) (now' .costs) (now' .lens) (now' .changed) (now' .inv) (t .loop-test .taken) (g .arc-at-turn .result) (g .arc-at-turn .ensures) in
     rw (c .arc-of .ensures) (omega (arith, both .0, most), omega (arith, both .1, most))
 
 abbrev Summed : Type 0
@@ -64,13 +68,16 @@ summed c = c .before .before .before
 loop-holds : tie.Need-loop-holds Inv-loop μ-loop
 loop-holds c =
     let a = c .before .args in
-    sweeping-first (decode (a .table .now)) (a .costs .now) (a .lens .now) 0 (a .arcs) (c .before .pre .1) (c .before .pre .3) (c .before .pre .2)
+    in-turn-first (decode (a .table .now)) (a .costs .now) (a .lens .now) (a .arcs) (a .down) (c .before .pre .1) (c .before .pre .3) (c .before .pre .2)
 
-sub-i : tie.Need-sub-i Inv-loop μ-loop
-sub-i c = omega (arith, c .loop-test .taken)
+arc-at-turn-requires : tie.Need-arc-at-turn-requires Inv-loop μ-loop
+arc-at-turn-requires c κs = omega (arith, c .loop-test .taken)
+
+add-k : tie.Need-add-k Inv-loop μ-loop
+add-k c = search needs
 
 arc-of-requires : tie.Need-arc-of-requires Inv-loop μ-loop
-arc-of-requires c κs = (start c .pre .0, is-arc c)
+arc-of-requires c κs = (start (c .before) .pre .0, is-arc c)
 
 cast-s : tie.Need-cast-s Inv-loop μ-loop
 cast-s c = search needs
@@ -112,18 +119,20 @@ comes-first-requires : tie.Need-comes-first-requires Inv-loop μ-loop
 comes-first-requires c κs = tt
 
 loop-less : tie.Need-loop-less Inv-loop μ-loop
-loop-less c = omega (arith, read (summed (c .before)) .before .loop-test .taken)
+loop-less c = omega (arith, read (summed (c .before)) .before .before .loop-test .taken)
 
 loop-again : tie.Need-loop-again Inv-loop μ-loop
 loop-again c =
     let at = summed (c .before) in
     let got = read at in
-    let t = got .before in
+    let g = got .before in
+    let t = g .before in
     let now' = t .before .loop in
     let a = start t .args in
-    sweeping-kept (decode (a .table .now)) (size t) (a .costs .now) (a .lens .now) 0 (now' .i) (now' .costs) (now' .lens) (now' .changed) (now' .inv) (t .loop-test .taken)
-    (got .arc-of .result) (got .arc-of .ensures) (at .before .before .sum .result) (at .one-more .result) (at .before .before .sum .ensures) (at .one-more .ensures) 0
-    (omega arith) (omega arith) (c .before .comes-first .ensures) (not-true (c .before .comes-first .result) (c .if1 .taken))
+    in-turn-kept (decode (a .table .now)) (size t) (a .costs .now) (a .lens .now) (a .arcs) (a .down) (now' .k) (now' .costs) (now' .lens) (now' .changed) (now' .inv) (t .loop-test .taken) (g .arc-at-turn .result)
+    (g .arc-at-turn .ensures)
+    (got .arc-of .result) (got .arc-of .ensures) (at .before .before .sum .result) (at .one-more .result) (at .before .before .sum .ensures) (at .one-more .ensures)
+    (c .before .comes-first .ensures) (not-true (c .before .comes-first .result) (c .if1 .taken))
 
 mul-costs : tie.Need-mul-costs Inv-loop μ-loop
 mul-costs c = omega (arith, below (read (summed (c .before))) .0)
@@ -138,24 +147,26 @@ element-write-lens : tie.Need-element-write-lens Inv-loop μ-loop
 element-write-lens c = below (read (summed (c .before))) .0
 
 loop-less-2 : tie.Need-loop-less-2 Inv-loop μ-loop
-loop-less-2 c = omega (arith, read (summed (c .before)) .before .loop-test .taken)
+loop-less-2 c = omega (arith, read (summed (c .before)) .before .before .loop-test .taken)
 
 loop-again-2 : tie.Need-loop-again-2 Inv-loop μ-loop
 loop-again-2 c =
     let at = summed (c .before) in
     let got = read at in
-    let t = got .before in
+    let g = got .before in
+    let t = g .before in
     let now' = t .before .loop in
     let a = start t .args in
-    sweeping-better (decode (a .table .now)) (size t) (a .costs .now) (a .lens .now) 0 (now' .i) (now' .costs) (now' .lens) (now' .changed) (now' .inv) (t .loop-test .taken)
-    (got .arc-of .result) (got .arc-of .ensures) (at .before .before .sum .result) (at .one-more .result) (at .before .before .sum .ensures) (at .one-more .ensures) 0
-    (omega arith) (omega arith) (c .before .comes-first .ensures) (not-false (c .before .comes-first .result) (c .if1 .left)) true (λ q. clash true refl q)
+    in-turn-better (decode (a .table .now)) (size t) (a .costs .now) (a .lens .now) (a .arcs) (a .down) (now' .k) (now' .costs) (now' .lens) (now' .changed) (now' .inv) (t .loop-test .taken) (g .arc-at-turn .result)
+    (g .arc-at-turn .ensures)
+    (got .arc-of .result) (got .arc-of .ensures) (at .before .before .sum .result) (at .one-more .result) (at .before .before .sum .ensures) (at .one-more .ensures)
+    (c .before .comes-first .ensures) (not-false (c .before .comes-first .result) (c .if1 .left))
 
 returns : tie.Need-returns Inv-loop μ-loop
 returns c =
     let a = c .before .before .before .args in
     let now' = c .before .loop in
-    sweeping-stop (decode (a .table .now)) (a .costs .now) (a .lens .now) 0 (now' .i) (now' .costs) (now' .lens) (now' .changed) (now' .inv) (c .loop-test .left)
+    in-turn-stop (decode (a .table .now)) (a .costs .now) (a .lens .now) (a .arcs) (a .down) (now' .k) (now' .costs) (now' .lens) (now' .changed) (now' .inv) (c .loop-test .left)
 
 pub sweep-spec : {M : Type 1} → statement M
 sweep-spec =
@@ -164,7 +175,8 @@ sweep-spec =
     Inv-loop
     μ-loop
     loop-holds
-    sub-i
+    arc-at-turn-requires
+    add-k
     arc-of-requires
     cast-s
     cast-to
