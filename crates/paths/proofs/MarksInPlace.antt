@@ -1,5 +1,5 @@
 -- A sweep over an array of marks: the search among one state's arcs (`Leads-says`), and the states that are swept (`MarkingOn`). Assumes nothing.
-use mathlib.Core.Path.{_≡_, refl, sym, ap, _∙_}
+use mathlib.Core.Path.{_≡_, refl, sym, ap, subst, _∙_}
 use mathlib.Core.Bool.{Bool, true, false, _&&_, not, cond}
 use mathlib.Core.List.{List}
 use Prim.Native.Nat.{ℕ, _+_, _-_, _≤_, _<_}
@@ -102,110 +102,135 @@ not-both : {A : Type 0} (value b : Bool) → b ≡ value → b ≡ not value →
 not-both true b p q = clash b p q
 not-both false b p q = clash b q p
 
--- The states from s on are swept.
-pub record MarkingOn (t : Transducer) (value : Bool) (before : List Bool) (s : ℕ) (ms : List Bool) (changed left : Bool) : Type 0 where
+-- The state that a sweep takes at its turn k. Taken twice, the turn is back.
+abbrev pub at-turn : (down : Bool) → (states k : ℕ) → ℕ
+at-turn down n k = cond down (n - (k + 1)) k
+
+pub at-turn-below : (down : Bool) (n k : ℕ) → k < n → at-turn down n k < n
+at-turn-below true n k h = omega arith
+at-turn-below false n k h = h
+
+at-turn-twice : (down : Bool) (n k : ℕ) → k < n → at-turn down n (at-turn down n k) ≡ k
+at-turn-twice true n k h = omega arith
+at-turn-twice false n k h = refl
+
+-- The states of the turns before k are swept.
+pub record MarkingOn (t : Transducer) (value : Bool) (before : List Bool) (down : Bool) (k : ℕ) (ms : List Bool) (changed left : Bool) : Type 0 where
   pub long : length ms ≡ 1024
-  pub below : s ≤ t .states
+  pub below : k ≤ t .states
   pub changes : Changed t value before ms
-  pub rest : changed ≡ false → (u : ℕ) → s ≤ u → u < t .states → marked ms u ≡ not value → leads-on t ms u ≡ value
-  pub all : left ≡ false → (u : ℕ) → s ≤ u → u < t .states → marked ms u ≡ value
+  pub rest : changed ≡ false → (j : ℕ) → j < k → marked ms (at-turn down (t .states) j) ≡ not value → leads-on t ms (at-turn down (t .states) j) ≡ value
+  pub all : left ≡ false → (j : ℕ) → j < k → marked ms (at-turn down (t .states) j) ≡ value
   pub least : unlike value (t .states) ms ≤ unlike value (t .states) before
   pub fewer : changed ≡ true → unlike value (t .states) ms < unlike value (t .states) before
 
-pub marking-first : (t : Transducer) (value : Bool) (ms : List Bool) (n : ℕ) → n ≡ t .states → length ms ≡ 1024 → MarkingOn t value ms n ms false false
-marking-first t value ms n e l =
+pub marking-first : (t : Transducer) (value : Bool) (ms : List Bool) (down : Bool) → length ms ≡ 1024 → MarkingOn t value ms down 0 ms false false
+marking-first t value ms down l =
     record {
       long = l;
       below = omega arith;
       changes = none;
-      rest = λ q u a b. absurd (omega arith);
-      all = λ q u a b. absurd (omega arith);
+      rest = λ q j a. absurd (omega arith);
+      all = λ q j a. absurd (omega arith);
       least = omega arith;
       fewer = λ q. clash false q refl;
     }
 
-module _ (t : Transducer) (z : Sized t) (value : Bool) (before : List Bool) (s : ℕ) (ms : List Bool) (changed left : Bool) (m : MarkingOn t value before s ms changed left)
-    (some : 0 < s) where
+module _ (t : Transducer) (z : Sized t) (value : Bool) (before : List Bool) (down : Bool) (k : ℕ) (ms : List Bool) (changed left : Bool)
+    (m : MarkingOn t value before down k ms changed left) (some : k < t .states) (s : ℕ) (taken : s ≡ at-turn down (t .states) k) where
+  taken-at : (j : ℕ) → j ≡ k → at-turn down (t .states) j ≡ s
+  taken-at j y = ap (λ (i : ℕ). at-turn down (t .states) i) y ∙ sym taken
+
   -- A state that has the mark already.
-  pub marking-kept : marked ms (s - 1) ≡ value → MarkingOn t value before (s - 1) ms changed left
+  pub marking-kept : marked ms s ≡ value → MarkingOn t value before down (k + 1) ms changed left
   marking-kept h =
       record {
         long = m .long;
-        below = omega (arith, m .below);
+        below = omega (arith, some);
         changes = m .changes;
-        rest = λ q u a b f. rest q u a b f (ℕ-discrete u (s - 1));
-        all = λ q u a b. all q u a b (ℕ-discrete u (s - 1));
+        rest = λ q j a f. rest q j a f (ℕ-discrete j k);
+        all = λ q j a. all q j a (ℕ-discrete j k);
         least = m .least;
         fewer = m .fewer;
       }
     where
-      rest : changed ≡ false → (u : ℕ) → s - 1 ≤ u → u < t .states → marked ms u ≡ not value → Dec (u ≡ s - 1) → leads-on t ms u ≡ value
-      rest q u a b f (yes y) = not-both value (marked ms (s - 1)) h (rw y at f)
-      rest q u a b f (no n) = m .rest q u (omega arith) b f
+      rest : changed ≡ false → (j : ℕ) → j < k + 1 → marked ms (at-turn down (t .states) j) ≡ not value → Dec (j ≡ k)
+          → leads-on t ms (at-turn down (t .states) j) ≡ value
+      rest q j a f (yes y) = not-both value (marked ms s) h (rw (taken-at j y) at f)
+      rest q j a f (no n) = m .rest q j (omega arith) f
 
-      all : left ≡ false → (u : ℕ) → s - 1 ≤ u → u < t .states → Dec (u ≡ s - 1) → marked ms u ≡ value
-      all q u a b (yes y) = rw y h
-      all q u a b (no n) = m .all q u (omega arith) b
+      all : left ≡ false → (j : ℕ) → j < k + 1 → Dec (j ≡ k) → marked ms (at-turn down (t .states) j) ≡ value
+      all q j a (yes y) = rw (taken-at j y) h
+      all q j a (no n) = m .all q j (omega arith)
 
   -- A state that is left with the other mark.
-  pub marking-left : leads-on t ms (s - 1) ≡ value → MarkingOn t value before (s - 1) ms changed true
+  pub marking-left : leads-on t ms s ≡ value → MarkingOn t value before down (k + 1) ms changed true
   marking-left h =
       record {
         long = m .long;
-        below = omega (arith, m .below);
+        below = omega (arith, some);
         changes = m .changes;
-        rest = λ q u a b f. rest q u a b f (ℕ-discrete u (s - 1));
+        rest = λ q j a f. rest q j a f (ℕ-discrete j k);
         all = λ q. clash true refl q;
         least = m .least;
         fewer = m .fewer;
       }
     where
-      rest : changed ≡ false → (u : ℕ) → s - 1 ≤ u → u < t .states → marked ms u ≡ not value → Dec (u ≡ s - 1) → leads-on t ms u ≡ value
-      rest q u a b f (yes y) = rw y h
-      rest q u a b f (no n) = m .rest q u (omega arith) b f
+      rest : changed ≡ false → (j : ℕ) → j < k + 1 → marked ms (at-turn down (t .states) j) ≡ not value → Dec (j ≡ k)
+          → leads-on t ms (at-turn down (t .states) j) ≡ value
+      rest q j a f (yes y) = rw (taken-at j y) h
+      rest q j a f (no n) = m .rest q j (omega arith) f
 
-  pub marking-set : marked ms (s - 1) ≡ not value → leads-on t ms (s - 1) ≡ not value → MarkingOn t value before (s - 1) (set ms (s - 1) value) true left
+  pub marking-set : marked ms s ≡ not value → leads-on t ms s ≡ not value → MarkingOn t value before down (k + 1) (set ms s value) true left
   unfolding unlike
   marking-set free shut =
       record {
-        long = length-set ms (s - 1) value ∙ m .long;
-        below = omega (arith, m .below);
-        changes = more (s - 1) (m .changes) (omega (arith, m .below, some)) free shut refl;
+        long = length-set ms s value ∙ m .long;
+        below = omega (arith, some);
+        changes = more s (m .changes) is-state free shut refl;
         rest = λ q. clash true refl q;
-        all = λ q u a b. all q u a b (ℕ-discrete u (s - 1));
+        all = λ q j a. all q j a (ℕ-discrete (at-turn down (t .states) j) s);
         least = omega (arith, m .least, less);
         fewer = λ _. omega (arith, m .least, less);
       }
     where
-      room : s - 1 < length ms
-      room = omega (arith, m .below, m .long, z .states, some)
+      is-state : s < t .states
+      is-state = omega (arith, taken, at-turn-below down (t .states) k some)
 
-      all : left ≡ false → (u : ℕ) → s - 1 ≤ u → u < t .states → Dec (u ≡ s - 1) → marked (set ms (s - 1) value) u ≡ value
-      all q u a b (yes y) = rw y (marked-set-same ms (s - 1) value room)
-      all q u a b (no n) = marked-set-other ms (s - 1) value u n ∙ m .all q u (omega arith) b
+      room : s < length ms
+      room = omega (arith, is-state, m .long, z .states)
+
+      all : left ≡ false → (j : ℕ) → j < k + 1 → Dec (at-turn down (t .states) j ≡ s) → marked (set ms s value) (at-turn down (t .states) j) ≡ value
+      all q j a (yes y) = rw y (marked-set-same ms s value room)
+      all q j a (no n) = marked-set-other ms s value (at-turn down (t .states) j) n ∙ m .all q j (earlier (ℕ-discrete j k))
+        where
+          earlier : Dec (j ≡ k) → j < k
+          earlier (yes y) = absurd (n (taken-at j y))
+          earlier (no o) = omega arith
 
       one : (v a b : Bool) → a ≡ v → b ≡ not v → cond v (cond a 0 1) (cond a 1 0) < cond v (cond b 0 1) (cond b 1 0)
       one true a b p q = rw (p, q) (omega arith)
       one false a b p q = rw (p, q) (omega arith)
 
-      less : total (t .states) (λ u. cond value (cond (marked (set ms (s - 1) value) u) 0 1) (cond (marked (set ms (s - 1) value) u) 1 0))
+      less : total (t .states) (λ u. cond value (cond (marked (set ms s value) u) 0 1) (cond (marked (set ms s value) u) 1 0))
           < total (t .states) (λ u. cond value (cond (marked ms u) 0 1) (cond (marked ms u) 1 0))
       less =
-          total-grows (t .states) (s - 1) (λ u. cond value (cond (marked (set ms (s - 1) value) u) 0 1) (cond (marked (set ms (s - 1) value) u) 1 0))
-          (λ u. cond value (cond (marked ms u) 0 1) (cond (marked ms u) 1 0)) (omega (arith, m .below, some))
-          (one value (marked (set ms (s - 1) value) (s - 1)) (marked ms (s - 1)) (marked-set-same ms (s - 1) value room) free)
-          (λ u n. ap (λ (b : Bool). cond value (cond b 0 1) (cond b 1 0)) (sym (marked-set-other ms (s - 1) value u n)))
+          total-grows (t .states) s (λ u. cond value (cond (marked (set ms s value) u) 0 1) (cond (marked (set ms s value) u) 1 0))
+          (λ u. cond value (cond (marked ms u) 0 1) (cond (marked ms u) 1 0)) is-state
+          (one value (marked (set ms s value) s) (marked ms s) (marked-set-same ms s value room) free)
+          (λ u n. ap (λ (b : Bool). cond value (cond b 0 1) (cond b 1 0)) (sym (marked-set-other ms s value u n)))
 
-pub marking-stop : (t : Transducer) (value : Bool) (before : List Bool) (s : ℕ) (ms : List Bool) (changed left : Bool) → MarkingOn t value before s ms changed left → s ≤ 0
-    → Marked-says t value before ms (changed && left)
-marking-stop t value before s ms changed left m h =
+pub marking-stop : (t : Transducer) (value : Bool) (before : List Bool) (down : Bool) (k : ℕ) (ms : List Bool) (changed left : Bool)
+    → MarkingOn t value before down k ms changed left → t .states ≤ k → Marked-says t value before ms (changed && left)
+marking-stop t value before down k ms changed left m h =
     record {
       long = m .long;
       changed = m .changes;
-      rest = λ q. on changed refl q;
+      rest = λ q u b. subst (λ (v : ℕ). marked ms v ≡ not value → leads-on t ms v ≡ value) (at-turn-twice down (t .states) u b) (on changed refl q (at-turn down (t .states) u) (at-turn-below down (t .states) u b));
       fewer = λ q. m .fewer (and-true changed left q .0);
     }
   where
-    on : (b : Bool) → changed ≡ b → b && left ≡ false → (u : ℕ) → u < t .states → marked ms u ≡ not value → leads-on t ms u ≡ value
-    on true c q u b f = not-both value (marked ms u) (m .all q u (omega arith) b) f
-    on false c q u b f = m .rest c u (omega arith) b f
+    on : (b : Bool) → changed ≡ b → b && left ≡ false → (j : ℕ) → j < t .states → marked ms (at-turn down (t .states) j) ≡ not value
+        → leads-on t ms (at-turn down (t .states) j) ≡ value
+    on true c q j b f = not-both value (marked ms (at-turn down (t .states) j)) (m .all q j (omega arith)) f
+    on false c q j b f = m .rest c j (omega arith) f

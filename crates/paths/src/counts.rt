@@ -12,6 +12,7 @@ use crate::Count;
 use crate::Swept;
 use crate::Totals;
 use crate::arcs;
+use crate::turn;
 
 const MOST: u32 = 99;
 
@@ -53,13 +54,15 @@ fn after(i: usize, end: usize, sum: Count) -> usize
     i + 1
 }
 
-// Counts and marks each unmarked state none of whose arcs leads to an unmarked one, last state first. Whether another sweep may mark more.
+// Counts and marks each unmarked state none of whose arcs leads to an unmarked one, in order or the last state first. Whether another sweep may
+// mark more.
 fn sweep(
     table: &[u8],
     first: usize,
     states: usize,
     index: &[u16; 1025],
     codes: &[u32; 1024],
+    down: bool,
     marks: &mut [bool; 1024],
     before: [Count; 1024],
 ) -> Swept
@@ -70,9 +73,10 @@ fn sweep(
     let mut counts = before;
     let mut changed = false;
     let mut left = false;
-    let mut s = states;
-    'states: while s > 0 {
-        s -= 1;
+    let mut k = 0;
+    'states: while k < states {
+        let s = turn::state_at_turn(states, k, down);
+        k += 1;
         if marks[s] {
             continue;
         }
@@ -106,7 +110,8 @@ fn sweep(
 }
 
 // The counts of the accepting paths from each state, and whether those from the start are infinitely many: the dead states are marked first,
-// with the count 0, and from a state that stays unmarked paths lead on for ever.
+// with the count 0, and from a state that stays unmarked paths lead on for ever. The first three sweeps take the last state first, as arcs most
+// often lead to higher numbers; from then on each turns round, so that a line numbered backwards takes four.
 pub fn counts_of(
     table: &[u8],
     first: usize,
@@ -122,8 +127,11 @@ pub fn counts_of(
 {
     let mut marks = dead;
     let mut counts = [Count { value: 0 }; 1024];
+    let mut down = true;
+    let mut turns = false;
+    let mut twice = false;
     loop {
-        let next = sweep(table, first, states, index, codes, &mut marks, counts);
+        let next = sweep(table, first, states, index, codes, down, &mut marks, counts);
         if !next.again {
             let finite = marks[start];
             let all = next.counts;
@@ -133,5 +141,8 @@ pub fn counts_of(
             };
         }
         counts = next.counts;
+        down = down ^ turns;
+        turns = twice;
+        twice = true;
     }
 }

@@ -4,6 +4,7 @@ mod counts;
 mod entry;
 mod marks;
 mod path;
+mod turn;
 
 pub use entry::count as path_count;
 pub use entry::nth as nth_path;

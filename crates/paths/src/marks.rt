@@ -8,13 +8,15 @@ ghost use Rattle.transducer.specs.Format.{decode};
 ghost use Rattle.transducer.specs.Leaf.{Finals-by-state};
 ghost use Rattle.paths.specs.Sweep.{Ready, marked, Dead, Marked-says};
 use crate::arcs;
+use crate::turn;
 
-// Unmarks each marked state of which some arc leads to an unmarked one, last state first. Whether another sweep may unmark more.
+// Unmarks each marked state of which some arc leads to an unmarked one, in order or the last state first. Whether another sweep may unmark more.
 fn unmark(
     table: &[u8],
     first: usize,
     states: usize,
     index: &[u16; 1025],
+    down: bool,
     marks: &mut [bool; 1024],
 ) -> bool
     requires { ⌜ Ready (now table) first states (now index) × (length (now marks) ≡ 1024) ⌝ }
@@ -22,9 +24,10 @@ fn unmark(
 {
     let mut changed = false;
     let mut left = false;
-    let mut s = states;
-    while s > 0 {
-        s -= 1;
+    let mut k = 0;
+    while k < states {
+        let s = turn::state_at_turn(states, k, down);
+        k += 1;
         if !marks[s] {
             continue;
         }
@@ -54,7 +57,8 @@ fn not_final(states: usize, codes: &[u32; 1024]) -> [bool; 1024]
     marks
 }
 
-// The states from which nothing accepts.
+// The states from which nothing accepts. Arcs most often lead to higher numbers, so the first two sweeps take the last state first; from then on
+// each turns round, so that a line numbered backwards takes three.
 pub fn dead_states(
     table: &[u8],
     first: usize,
@@ -66,6 +70,11 @@ pub fn dead_states(
     ensures { λ r. ⌜ Dead (decode (now (table .entry))) r ⌝ }
 {
     let mut marks = not_final(states, codes);
-    while unmark(table, first, states, index, &mut marks) {}
+    let mut down = true;
+    let mut turns = false;
+    while unmark(table, first, states, index, down, &mut marks) {
+        down = down ^ turns;
+        turns = true;
+    }
     marks
 }

@@ -13,10 +13,10 @@ use Rattle.paths.proofs.counts.counts_of.Statement.{statement}
 use Rattle.paths.proofs.counts.counts_of.Tie as tie
 
 abbrev Inv-loop : tie.InvT-loop
-Inv-loop table first states start index codes marks₀ counts₀ marks counts = Marking (decode table) marks × Tallied (decode table) marks counts
+Inv-loop table first states start index codes marks₀ counts₀ down₀ turns₀ twice₀ marks counts down turns twice = Marking (decode table) marks × Tallied (decode table) marks counts
 
 abbrev μ-loop : tie.MeasureT-loop
-μ-loop table first states start index codes marks₀ counts₀ marks counts = unlike true (decode table .states) marks
+μ-loop table first states start index codes marks₀ counts₀ down₀ turns₀ twice₀ marks counts down turns twice = unlike true (decode table .states) marks
 
 -- The entry, with what is known of the bytes.
 abbrev Entry : Type 0
@@ -65,7 +65,7 @@ returns c =
     let swept = c .before .before .before in
     let at = entry swept in
     let a = at .before .args in
-    totals-say (decode (a .table .now)) (size at) (swept .before .before .loop .marks) (swept .sweep .last .1 .1 .1 .1 .1 .0) (a .start) (swept .sweep .result) (swept .before .before .loop .inv .0)
+    totals-say (decode (a .table .now)) (size at) (swept .before .before .loop .marks) (swept .sweep .last .1 .1 .1 .1 .1 .1 .0) (a .start) (swept .sweep .result) (swept .before .before .loop .inv .0)
     (swept .sweep .ensures) (not-true (swept .sweep .result .again) (c .before .if1 .taken)) (at .before .pre .1)
 
 pub counts-of-spec : {M : Type 1} → statement M

@@ -10,10 +10,10 @@ use Rattle.paths.proofs.marks.dead_states.Statement.{statement}
 use Rattle.paths.proofs.marks.dead_states.Tie as tie
 
 abbrev Inv-loop : tie.InvT-loop
-Inv-loop table first states index codes marks₀ marks = Living (decode table) marks
+Inv-loop table first states index codes marks₀ down₀ turns₀ marks down turns = Living (decode table) marks
 
 abbrev μ-loop : tie.MeasureT-loop
-μ-loop table first states index codes marks₀ marks = unlike false (decode table .states) marks
+μ-loop table first states index codes marks₀ down₀ turns₀ marks down turns = unlike false (decode table .states) marks
 
 -- The entry, with what is known of the bytes.
 abbrev Entry : Type 0
@@ -50,7 +50,7 @@ returns c =
     let entry = c .before .before .before .before .before in
     let t = decode (entry .before .args .table .now) in
     let says = c .before .unmark .ensures in
-    living-stop t (size entry) (c .before .unmark .last .1 .1 .1 .1 .0) (living-changed t (size entry) (says .changed) (c .before .before .before .loop .inv)) (says .rest (c .if1 .left))
+    living-stop t (size entry) (c .before .unmark .last .1 .1 .1 .1 .1 .0) (living-changed t (size entry) (says .changed) (c .before .before .before .loop .inv)) (says .rest (c .if1 .left))
 
 pub dead-states-spec : {M : Type 1} → statement M
 dead-states-spec =

@@ -1,7 +1,7 @@
--- The invariant: the states from `s` on are swept (`MarkingOn`). A state has the mark already, is left with the other one, or is given it.
-use mathlib.Core.Path.{_≡_, refl, _∙_}
+-- The invariant: the states of the turns before `k` are swept (`MarkingOn`). A state has the mark already, is left with the other one, or is given it.
+use mathlib.Core.Path.{_≡_, refl, ap, _∙_}
 use mathlib.Core.Bool.{false}
-use Prim.Native.Nat.{_+_, _-_, _<_}
+use Prim.Native.Nat.{ℕ, _+_, _-_, _<_}
 use native.Mathlib.Omega.{arith}
 use lib.ListN.{getD}
 use borrow.Author.Tests.{not-true, not-false}
@@ -9,63 +9,78 @@ use Rattle.wire.specs.Bytes.{Bytes}
 use Rattle.transducer.specs.Format.{decode}
 use Rattle.paths.specs.Sweep.{marked, leads-on}
 use Rattle.paths.proofs.Ready.{Sized, Range, sized, range}
-use Rattle.paths.proofs.MarksInPlace.{MarkingOn, marking-first, marking-kept, marking-left, marking-set, marking-stop, range-leads}
+use Rattle.paths.proofs.MarksInPlace.{at-turn, at-turn-below, MarkingOn, marking-first, marking-kept, marking-left, marking-set, marking-stop, range-leads}
 use Rattle.paths.proofs.marks.unmark.Statement.{statement}
 use Rattle.paths.proofs.marks.unmark.Tie as tie
 
 abbrev Inv-loop : tie.InvT-loop
-Inv-loop table first states index marks₀ changed₀ left₀ s₀ marks changed left s = MarkingOn (decode table) false marks₀ s marks changed left
+Inv-loop table first states index down marks₀ changed₀ left₀ k₀ marks changed left k = MarkingOn (decode table) false marks₀ down k marks changed left
 
 abbrev μ-loop : tie.MeasureT-loop
-μ-loop table first states index marks₀ changed₀ left₀ s₀ marks changed left s = s
+μ-loop table first states index down marks₀ changed₀ left₀ k₀ marks changed left k = states - k
 
--- A turn of the loop.
+-- A turn of the loop, with its state.
 abbrev Turn : Type 0
-Turn = tie.In-loop Inv-loop μ-loop
+Turn = tie.After-state-at-turn Inv-loop μ-loop
+
+abbrev at : Turn → tie.At-loop Inv-loop μ-loop
+at c = c .before .before
 
 abbrev start : Turn → tie.Start Inv-loop μ-loop
-start c = c .before .before .before
+start c = c .before .before .before .before
+
+abbrev state : Turn → ℕ
+state c = c .state-at-turn .result
 
 size : (c : Turn) → Sized (decode (start c .args .table .now))
 size c =
     let bs = start c .args .table .now in
-    let bytes : Bytes bs = λ i. omega (arith, c .before .before .shared-slice-known .given i) in
+    let bytes : Bytes bs = λ i. omega (arith, at c .before .shared-slice-known .given i) in
     sized bs bytes (start c .pre .0 .opened .accepted)
 
-is-state : (c : Turn) → c .before .loop .s - 1 < decode (start c .args .table .now) .states
-is-state c = omega (arith, c .before .loop .inv .below, c .loop-test .taken)
+within : (c : Turn) → at c .loop .k < decode (start c .args .table .now) .states
+within c = omega (arith, c .before .loop-test .taken, start c .pre .0 .states-are)
 
-below : (c : Turn) → c .before .loop .s - 1 < 1024
+taken : (c : Turn) → state c ≡ at-turn (start c .args .down) (decode (start c .args .table .now) .states) (at c .loop .k)
+taken c = c .state-at-turn .ensures ∙ ap (λ (n : ℕ). at-turn (start c .args .down) n (at c .loop .k)) (start c .pre .0 .states-are)
+
+is-state : (c : Turn) → state c < decode (start c .args .table .now) .states
+is-state c = omega (arith, taken c, at-turn-below (start c .args .down) (decode (start c .args .table .now) .states) (at c .loop .k) (within c))
+
+below : (c : Turn) → state c < 1024
 below c = omega (arith, is-state c, size c .states)
 
 loop-holds : tie.Need-loop-holds Inv-loop μ-loop
 loop-holds c =
     let a = c .before .args in
-    marking-first (decode (a .table .now)) false (a .marks .now) (a .states) (c .before .pre .0 .states-are) (c .before .pre .1)
+    marking-first (decode (a .table .now)) false (a .marks .now) (a .down) (c .before .pre .1)
 
-sub-s : tie.Need-sub-s Inv-loop μ-loop
-sub-s c = omega (arith, c .loop-test .taken)
+state-at-turn-requires : tie.Need-state-at-turn-requires Inv-loop μ-loop
+state-at-turn-requires c κs = omega (arith, c .loop-test .taken)
+
+add-k : tie.Need-add-k Inv-loop μ-loop
+add-k c = omega (arith, within c, size c .states)
 
 element-copy-out-if1 : tie.Need-element-copy-out-if1 Inv-loop μ-loop
 element-copy-out-if1 c = below c
 
 loop-less : tie.Need-loop-less Inv-loop μ-loop
-loop-less c = omega (arith, c .before .before .loop-test .taken)
+loop-less c = omega (arith, c .before .before .before .loop-test .taken)
 
 loop-again : tie.Need-loop-again Inv-loop μ-loop
 unfolding marked
 loop-again c =
     let t = c .before .before in
-    let now' = t .before .loop in
-    marking-kept (decode (start t .args .table .now)) (size t) false (start t .args .marks .now) (now' .s) (now' .marks) (now' .changed) (now' .left) (now' .inv) (t .loop-test .taken)
-    (not-true (marked (now' .marks) (now' .s - 1)) (c .if1 .taken))
+    let now' = at t .loop in
+    marking-kept (decode (start t .args .table .now)) (size t) false (start t .args .marks .now) (start t .args .down) (now' .k) (now' .marks) (now' .changed) (now' .left) (now' .inv) (within t) (state t) (taken t)
+    (not-true (marked (now' .marks) (state t)) (c .if1 .taken))
 
 -- A state that is marked, and its arcs.
 abbrev turn : tie.Else1 Inv-loop μ-loop → Turn
 turn c = c .before .before
 
-arcs : (c : Turn) → Range (decode (start c .args .table .now)) (c .before .loop .s - 1) (getD (start c .args .index .now) (c .before .loop .s - 1) 0) (getD (start c .args .index .now) (c .before .loop .s - 1 + 1) 0)
-arcs c = range (decode (start c .args .table .now)) (start c .args .index .now) (c .before .loop .s - 1) _ _ (start c .pre .0 .indexed) (is-state c) refl refl
+arcs : (c : Turn) → Range (decode (start c .args .table .now)) (state c) (getD (start c .args .index .now) (state c) 0) (getD (start c .args .index .now) (state c + 1) 0)
+arcs c = range (decode (start c .args .table .now)) (start c .args .index .now) (state c) _ _ (start c .pre .0 .indexed) (is-state c) refl refl
 
 mul-from : tie.Need-mul-from Inv-loop μ-loop
 mul-from c = omega (arith, below (turn c))
@@ -95,42 +110,44 @@ leads-on-requires c κs = let t = turn (c .before .before .before) in (start t .
 abbrev searched : tie.After-leads-on Inv-loop μ-loop → Turn
 searched c = turn (c .before .before .before .before)
 
-found : (c : tie.After-leads-on Inv-loop μ-loop) → leads-on (decode (start (searched c) .args .table .now)) (searched c .before .loop .marks) (searched c .before .loop .s - 1) ≡ c .leads-on .result
+found : (c : tie.After-leads-on Inv-loop μ-loop) → leads-on (decode (start (searched c) .args .table .now)) (at (searched c) .loop .marks) (state (searched c)) ≡ c .leads-on .result
 found c =
     let t = searched c in
     let a = start t .args in
-    let s = t .before .loop .s - 1 in
-    range-leads (decode (a .table .now)) (size t) (t .before .loop .marks) s (getD (a .index .now) s 0) (getD (a .index .now) (s + 1) 0) (c .leads-on .result) (arcs t) (c .leads-on .ensures)
+    let s = state t in
+    range-leads (decode (a .table .now)) (size t) (at t .loop .marks) s (getD (a .index .now) s 0) (getD (a .index .now) (s + 1) 0) (c .leads-on .result) (arcs t) (c .leads-on .ensures)
 
 loop-less-2 : tie.Need-loop-less-2 Inv-loop μ-loop
-loop-less-2 c = omega (arith, searched (c .before) .loop-test .taken)
+loop-less-2 c = omega (arith, searched (c .before) .before .loop-test .taken)
 
 loop-again-2 : tie.Need-loop-again-2 Inv-loop μ-loop
 loop-again-2 c =
     let t = searched (c .before) in
-    let now' = t .before .loop in
-    marking-left (decode (start t .args .table .now)) (size t) false (start t .args .marks .now) (now' .s) (now' .marks) (now' .changed) (now' .left) (now' .inv) (t .loop-test .taken)
+    let now' = at t .loop in
+    marking-left (decode (start t .args .table .now)) (size t) false (start t .args .marks .now) (start t .args .down) (now' .k) (now' .marks) (now' .changed) (now' .left) (now' .inv) (within t) (state t) (taken t)
     (found (c .before) ∙ not-true (c .before .leads-on .result) (c .if2 .taken))
 
 element-write-marks : tie.Need-element-write-marks Inv-loop μ-loop
 element-write-marks c = below (searched (c .before))
 
 loop-less-3 : tie.Need-loop-less-3 Inv-loop μ-loop
-loop-less-3 c = omega (arith, searched (c .before) .loop-test .taken)
+loop-less-3 c = omega (arith, searched (c .before) .before .loop-test .taken)
 
 loop-again-3 : tie.Need-loop-again-3 Inv-loop μ-loop
 unfolding marked
 loop-again-3 c =
     let t = searched (c .before) in
-    let now' = t .before .loop in
-    marking-set (decode (start t .args .table .now)) (size t) false (start t .args .marks .now) (now' .s) (now' .marks) (now' .changed) (now' .left) (now' .inv) (t .loop-test .taken)
-    (not-false (marked (now' .marks) (now' .s - 1)) (c .before .before .before .before .before .if1 .left))
+    let now' = at t .loop in
+    marking-set (decode (start t .args .table .now)) (size t) false (start t .args .marks .now) (start t .args .down) (now' .k) (now' .marks) (now' .changed) (now' .left) (now' .inv) (within t) (state t) (taken t)
+    (not-false (marked (now' .marks) (state t)) (c .before .before .before .before .before .if1 .left))
     (found (c .before) ∙ not-false (c .before .leads-on .result) (c .if2 .left))
 
 returns : tie.Need-returns Inv-loop μ-loop
 returns c =
     let a = c .before .before .before .args in
-    marking-stop (decode (a .table .now)) false (a .marks .now) (c .before .loop .s) (c .before .loop .marks) (c .before .loop .changed) (c .before .loop .left) (c .before .loop .inv) (c .loop-test .left)
+    let now' = c .before .loop in
+    marking-stop (decode (a .table .now)) false (a .marks .now) (a .down) (now' .k) (now' .marks) (now' .changed) (now' .left) (now' .inv)
+    (omega (arith, c .loop-test .left, c .before .before .before .pre .0 .states-are))
 
 pub unmark-spec : {M : Type 1} → statement M
 unmark-spec =
@@ -139,7 +156,8 @@ unmark-spec =
     Inv-loop
     μ-loop
     loop-holds
-    sub-s
+    state-at-turn-requires
+    add-k
     element-copy-out-if1
     loop-less
     loop-again
