@@ -38,8 +38,10 @@ pub fn shortest_path(table: &[u8], arcs: &mut [u16], labels: &mut [u16]) -> Told
     let start = head.start as usize;
     let first = 12 + 10 * f;
     let m = head.arcs as usize;
-    let index = transducer::first_arcs_by_blocks(table, first, n, m);
-    let codes = transducer::final_codes(table, f);
+    let mut index = [0u16; 1025];
+    transducer::put_index(table, first, n, m, &mut index);
+    let mut codes = [0u32; 1024];
+    transducer::put_codes(table, f, &mut codes);
     let mut costs = [near::NO_PATH; 1024];
     near::own_costs(n, &codes, &mut costs);
     let mut lens = [0u16; 1024];

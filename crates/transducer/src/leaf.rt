@@ -1,7 +1,7 @@
 // Arcs and finals read straight from accepted bytes, and two indexes by state.
 ghost use mathlib.Core.Path.{_≡_};
 ghost use Prim.Native.Nat.{ℕ, _+_, _*_, _≤_, _<_, max};
-ghost use lib.ListN.{length, take};
+ghost use lib.ListN.{length, take, replicate};
 ghost use Rattle.transducer.specs.Format.{Transducer, refusal, decode, head-finals};
 ghost use Rattle.transducer.specs.Path.{arc};
 ghost use Rattle.transducer.specs.Leaf.{header-of, Opened, Marked, Indexed, Finals-by-state};
@@ -95,28 +95,36 @@ pub fn first_arcs(bytes: &[u8], first: usize, states: usize, arcs: usize) -> [u1
     index
 }
 
-// The same by blocks: quicker where a state has many arcs, but too long to be compiled into its callers, and composition is then slower.
+// The same by blocks, into an array of zeros: quicker where a state has many arcs.
+pub fn put_index(bytes: &[u8], first: usize, states: usize, arcs: usize, index: &mut [u16; 1025])
+    requires { ⌜ Opened (now bytes) first × (states ≡ decode (now bytes) .states) × (arcs ≡ length (decode (now bytes) .arcs))
+        × (now index ≡ replicate 1025 0) ⌝ }
+    ensures { λ _. ⌜ Indexed (decode (now (bytes .entry))) (now (index .exit)) ⌝ }
+{
+    let mut i = 0;
+    while i + 128 <= arcs {
+        mark_block(bytes, first, i, index);
+        i += 128;
+    }
+    mark_each(bytes, first, i, arcs, index);
+    raise(states, index);
+}
+
+// The index by blocks. It is too long to be compiled into its callers, and composition is then slower.
 pub fn first_arcs_by_blocks(bytes: &[u8], first: usize, states: usize, arcs: usize) -> [u16; 1025]
     requires { ⌜ Opened (now bytes) first × (states ≡ decode (now bytes) .states) × (arcs ≡ length (decode (now bytes) .arcs)) ⌝ }
     ensures { λ r. ⌜ Indexed (decode (now (bytes .entry))) r ⌝ }
 {
     let mut index = [0u16; 1025];
-    let mut i = 0;
-    while i + 128 <= arcs {
-        mark_block(bytes, first, i, &mut index);
-        i += 128;
-    }
-    mark_each(bytes, first, i, arcs, &mut index);
-    raise(states, &mut index);
+    put_index(bytes, first, states, arcs, &mut index);
     index
 }
 
-// The final codes: a state's final weight and one more, 0 where it is not final.
-pub fn final_codes(bytes: &[u8], finals: usize) -> [u32; 1024]
-    requires { ⌜ (refusal (now bytes) ≡ 0) × (finals ≡ head-finals (now bytes)) ⌝ }
-    ensures { λ r. ⌜ Finals-by-state (decode (now (bytes .entry))) r ⌝ }
+// Stores the final codes in an array of zeros: a state's final weight and one more, 0 where it is not final.
+pub fn put_codes(bytes: &[u8], finals: usize, codes: &mut [u32; 1024])
+    requires { ⌜ (refusal (now bytes) ≡ 0) × (finals ≡ head-finals (now bytes)) × (now codes ≡ replicate 1024 0) ⌝ }
+    ensures { λ _. ⌜ Finals-by-state (decode (now (bytes .entry))) (now (codes .exit)) ⌝ }
 {
-    let mut codes = [0u32; 1024];
     let mut i = 0;
     let mut place = 12;
     while i < finals {
@@ -126,5 +134,14 @@ pub fn final_codes(bytes: &[u8], finals: usize) -> [u32; 1024]
         place += 10;
         i += 1;
     }
+}
+
+// The final codes.
+pub fn final_codes(bytes: &[u8], finals: usize) -> [u32; 1024]
+    requires { ⌜ (refusal (now bytes) ≡ 0) × (finals ≡ head-finals (now bytes)) ⌝ }
+    ensures { λ r. ⌜ Finals-by-state (decode (now (bytes .entry))) r ⌝ }
+{
+    let mut codes = [0u32; 1024];
+    put_codes(bytes, finals, &mut codes);
     codes
 }

@@ -15,6 +15,8 @@ pub use leaf::final_codes;
 pub use leaf::first_arcs;
 pub use leaf::first_arcs_by_blocks;
 pub use leaf::header as head_of;
+pub use leaf::put_codes;
+pub use leaf::put_index;
 pub use store::put_arc;
 pub use store::put_final;
 pub use store::put_head;

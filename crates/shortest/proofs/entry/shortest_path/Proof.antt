@@ -26,20 +26,20 @@ start c = at-refusal c .before .before .before .before
 abbrev at-header : tie.After-struct-known3 → tie.After-header
 at-header c = c .before .before .before
 
-abbrev at-codes : tie.After-codes → tie.After-final-codes
+abbrev at-codes : tie.After-codes2 → tie.After-put-codes
 at-codes c = c .before
 
-abbrev at-index : tie.After-codes → tie.After-first-arcs-by-blocks
-at-index c = at-codes c .before
+abbrev at-index : tie.After-codes2 → tie.After-put-index
+at-index c = at-codes c .before .before
 
 abbrev at-own : tie.After-settle → tie.After-own-costs
 at-own c = c .before .before .before .before
 
-abbrev codes-of : tie.After-own-costs → tie.After-codes
+abbrev codes-of : tie.After-own-costs → tie.After-codes2
 codes-of c = c .before .before
 
 abbrev header-of : tie.After-settle → tie.After-header
-header-of c = at-header (at-index (codes-of (at-own c)) .before .before)
+header-of c = at-header (at-index (codes-of (at-own c)) .before .before .before)
 
 -- The bytes are accepted.
 is-bytes : (c : tie.Else3) → Bytes (start c .args .table .now)
@@ -125,15 +125,15 @@ add-first c = omega (arith, head (at-header c) .few-finals)
 cast-m : tie.Need-cast-m
 cast-m c = search needs
 
-first-arcs-by-blocks-requires : tie.Need-first-arcs-by-blocks-requires
-first-arcs-by-blocks-requires c κs = let known = head (at-header (c .before)) in (known .opened, known .states-are, known .arcs-are)
+put-index-requires : tie.Need-put-index-requires
+put-index-requires c κs = let known = head (at-header (c .before .before)) in (known .opened, known .states-are, known .arcs-are, refl)
 
-final-codes-requires : tie.Need-final-codes-requires
-final-codes-requires c κs = let known = head (at-header (c .before .before)) in (known .opened .accepted, known .finals-are)
+put-codes-requires : tie.Need-put-codes-requires
+put-codes-requires c κs = let known = head (at-header (c .before .before .before .before)) in (known .opened .accepted, known .finals-are, refl)
 
 own-costs-requires : tie.Need-own-costs-requires
 own-costs-requires c κs =
-    let header = at-header (at-index (c .before) .before .before) in
+    let header = at-header (at-index (c .before) .before .before .before) in
     (omega (arith, head header .states-are, size (header .before) .states), length-replicate {A = ℕ} 1024 no-path)
 
 settle-requires : tie.Need-settle-requires
@@ -141,13 +141,13 @@ settle-requires c κs =
     let own = c .before .before .before in
     let codes = at-codes (codes-of own) in
     let index = at-index (codes-of own) in
-    let header = at-header (index .before .before) in
+    let header = at-header (index .before .before .before) in
     let known = head header in (
       known .opened,
       known .arcs-are,
-      index .first-arcs-by-blocks .ensures,
-      nearing-first (decode (start (header .before) .args .table .now)) (size (header .before)) (codes .final-codes .result) (own .own-costs .last .1 .1 .0) (replicate 1024 0)
-          (codes .final-codes .ensures) (λ s h. own .own-costs .ensures .1 s (omega (arith, known .states-are))) (getD-zeros 1024),
+      index .put-index .ensures,
+      nearing-first (decode (start (header .before) .args .table .now)) (size (header .before)) (codes .put-codes .last .1 .1 .0) (own .own-costs .last .1 .1 .0) (replicate 1024 0)
+          (codes .put-codes .ensures) (λ s h. own .own-costs .ensures .1 s (omega (arith, known .states-are))) (getD-zeros 1024),
       record { costs = own .own-costs .ensures .0; lens = length-replicate {A = ℕ} 1024 0 },
     )
 
@@ -182,7 +182,7 @@ walk-requires c κs =
     let at = c .before .before .before .before in
     let header = header-of (at .before) in
     let known = head header in
-    (known .opened, at-index (codes-of (at-own (at .before))) .first-arcs-by-blocks .ensures, omega (arith, known .start-is, size (header .before) .within .starts), omega (arith, path at .few, header .before .before .if2 .left), path at .goes)
+    (known .opened, at-index (codes-of (at-own (at .before))) .put-index .ensures, omega (arith, known .start-is, size (header .before) .within .starts), omega (arith, path at .few, header .before .before .if2 .left), path at .goes)
 
 tell-requires : tie.Need-tell-requires
 tell-requires c κs =
@@ -190,7 +190,7 @@ tell-requires c κs =
     let at = walking walked .before in
     let header = header-of at in
     let known = head header in
-    (known .opened, known .start-is, at-codes (codes-of (at-own at)) .final-codes .ensures, put walked .inside, path (walking walked) .few, put walked .accepted, header .before .if3 .left)
+    (known .opened, known .start-is, at-codes (codes-of (at-own at)) .put-codes .ensures, put walked .inside, path (walking walked) .few, put walked .accepted, header .before .if3 .left)
 
 same-length : tie.Need-same-length
 same-length c = search needs
@@ -222,8 +222,8 @@ shortest-path-spec =
     mul-first
     add-first
     cast-m
-    first-arcs-by-blocks-requires
-    final-codes-requires
+    put-index-requires
+    put-codes-requires
     own-costs-requires
     settle-requires
     mul-if4

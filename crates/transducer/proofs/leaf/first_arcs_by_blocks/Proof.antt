@@ -1,82 +1,13 @@
--- The invariant: the arcs up to `i` are marked (`Marked`), by blocks.
-use borrow.Author.Needs.{needs}
-use mathlib.Core.Path.{sym}
-use Prim.Native.Nat.{_-_, _≤_}
-use native.Mathlib.Omega.{arith}
-use lib.ListN.{take}
-use Rattle.wire.specs.Bytes.{Bytes}
-use Rattle.transducer.specs.Format.{decode}
-use Rattle.transducer.specs.Leaf.{Marked}
-use Rattle.transducer.proofs.Offsets.{decode-states, accepted-within}
-use Rattle.transducer.proofs.FirstArcs.{Small, opened-small, marked-none, marked-all}
+-- The index is put into zeros.
+use mathlib.Core.Path.{refl}
 use Rattle.transducer.proofs.leaf.first_arcs_by_blocks.Statement.{statement}
 use Rattle.transducer.proofs.leaf.first_arcs_by_blocks.Tie as tie
 
-abbrev Inv-loop : tie.InvT-loop
-Inv-loop bytes first states arcs index₀ i₀ index i = (i ≤ arcs) × Marked (take i (decode bytes .arcs)) index
+put-index-requires : tie.Need-put-index-requires
+put-index-requires c κs = (c .before .before .pre .0, c .before .before .pre .1, c .before .before .pre .2, refl)
 
-abbrev μ-loop : tie.MeasureT-loop
-μ-loop bytes first states arcs index₀ i₀ index i = arcs - i
-
-is-bytes : (c : tie.After-shared-slice-known Inv-loop μ-loop) → Bytes (c .before .args .bytes .now)
-is-bytes c = λ i. omega (arith, c .shared-slice-known .given i)
-
-small : (c : tie.After-shared-slice-known Inv-loop μ-loop) → Small (c .before .args .bytes .now) (c .before .args .first)
-small c = opened-small (c .before .args .bytes .now) (is-bytes c) (c .before .pre .0 .accepted) (c .before .pre .0)
-
-few-states : (c : tie.After-shared-slice-known Inv-loop μ-loop) → c .before .args .states ≤ 1024
-few-states c =
-    let bs = c .before .args .bytes .now in
-    let ok = c .before .pre .0 .accepted in
-    omega (arith, c .before .pre .1, decode-states bs (is-bytes c) ok, accepted-within bs (is-bytes c) ok .states)
-
-loop-holds : tie.Need-loop-holds Inv-loop μ-loop
-loop-holds c = (omega arith, marked-none)
-
-add-loop : tie.Need-add-loop Inv-loop μ-loop
-add-loop c = omega (arith, c .loop .inv .0, c .before .before .pre .2, small (c .before))
-
-mark-block-requires : tie.Need-mark-block-requires Inv-loop μ-loop
-mark-block-requires c κs =
-    let start = c .before .before .before .before in
-    (start .pre .0, omega (arith, c .before .loop-test .taken, start .pre .2), c .before .before .loop .inv .1)
-
-add-i : tie.Need-add-i Inv-loop μ-loop
-add-i c = search needs
-
-loop-less : tie.Need-loop-less Inv-loop μ-loop
-loop-less c = search needs
-
-loop-again : tie.Need-loop-again Inv-loop μ-loop
-loop-again c = (omega (arith, c .before .before .loop-test .taken), c .mark-block .ensures)
-
-mark-each-requires : tie.Need-mark-each-requires Inv-loop μ-loop
-mark-each-requires c κs =
-    let start = c .before .before .before .before in
-    (start .pre .0, c .before .before .loop .inv .0, omega (arith, start .pre .2), c .before .before .loop .inv .1)
-
-raise-requires : tie.Need-raise-requires Inv-loop μ-loop
-raise-requires c κs = (few-states (c .before .before .before .before .before), c .before .mark-each .ensures .long)
-
-returns : tie.Need-returns Inv-loop μ-loop
-returns c =
-    let marked = c .before .before in
-    let start = marked .before .before .before .before .before in
-    let t = decode (start .args .bytes .now) in
-    c .raise .ensures t (sym (start .pre .1)) (marked-all (t .arcs) (start .pre .2) (marked .mark-each .ensures))
+returns : tie.Need-returns
+returns c = c .put-index .ensures
 
 pub first-arcs-by-blocks-spec : {M : Type 1} → statement M
-first-arcs-by-blocks-spec =
-    tie.close
-    (tie.spec
-    Inv-loop
-    μ-loop
-    loop-holds
-    add-loop
-    mark-block-requires
-    add-i
-    loop-less
-    loop-again
-    mark-each-requires
-    raise-requires
-    returns)
+first-arcs-by-blocks-spec = tie.close (tie.spec put-index-requires returns)
