@@ -1,4 +1,5 @@
 pub mod Accept
+pub mod Answers
 pub mod Checked
 pub mod Copy
 pub mod Each
@@ -18,6 +19,7 @@ pub mod Offsets
 pub mod Paths
 pub mod Ranges
 pub mod ReadSays
+pub mod ReadWrite
 pub mod Records
 pub mod Rings
 pub mod RoundTrip

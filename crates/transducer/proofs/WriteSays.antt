@@ -62,7 +62,7 @@ module _ (f m a b c d : ℕ) where
   unfolding too-few
   too-few-arc-weights p q r h = rw (le-ltb a f p, le-ltb b f q, le-ltb c (4 * m) r, lt-ltb d m h)
 
-  not-too-few : Enough f m a b c d → too-few f m a b c d ≡ false
+  pub not-too-few : Enough f m a b c d → too-few f m a b c d ≡ false
   unfolding too-few
   not-too-few h = rw (le-ltb a f (h .states), le-ltb b f (h .weights), le-ltb c (4 * m) (h .fields), le-ltb d m (h .arc-weights))
 

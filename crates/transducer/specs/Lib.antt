@@ -5,4 +5,5 @@ pub mod Each
 pub mod Check
 pub mod Leaf
 pub mod Entry
+pub mod RoundTrip
 pub mod Weight

@@ -1,0 +1,30 @@
+-- Laws of what an answer is made of: the refusals in turn, numbers that are 0 on refusal, and buffers left behind. Assumes nothing.
+use mathlib.Core.Path.{_≡_, refl}
+use mathlib.Core.Bool.{Bool, true, false}
+use mathlib.Core.List.{List}
+use Prim.Native.Nat.{ℕ}
+use lib.Dec.{eqb}
+use lib.ListN.{length}
+use borrow.Author.Tests.{eqb-true, eqb-false, eq-eqb, ne-eqb}
+use Rattle.wire.specs.Bytes.{filled}
+use Rattle.transducer.specs.Entry.{or-else, unless, left-in}
+
+pub or-else-none : (a b : ℕ) → or-else a b ≡ 0 → (a ≡ 0) × (b ≡ 0)
+unfolding or-else
+or-else-none a b h = on (eqb a 0) refl
+  where
+    on : (x : Bool) → eqb a 0 ≡ x → (a ≡ 0) × (b ≡ 0)
+    on true e = (eqb-true a 0 e, rw e at h)
+    on false e = absurd (eqb-false a 0 e (rw e at h))
+
+pub none-or-else : (a b : ℕ) → a ≡ 0 → or-else a b ≡ b
+unfolding or-else
+none-or-else a b e = rw (eq-eqb a 0 e)
+
+pub unless-none : (number value : ℕ) → number ≡ 0 → unless number value ≡ value
+unfolding unless
+unless-none number value e = rw (eq-eqb number 0 e)
+
+pub left-in-none : (number : ℕ) (before written : List ℕ) → number ≡ 0 → left-in number before written ≡ filled (length before) written
+unfolding left-in
+left-in-none number before written e = rw (eq-eqb number 0 e)
