@@ -6,7 +6,7 @@ use Prim.Native.Nat.{ℕ, zero, suc, _+_, _*_, _≤_, _<_}
 use native.Mathlib.Nat.{mul-zero, mul-le-mul-left}
 use native.Mathlib.Numerals.{add-one, add-two, add-three}
 use native.Mathlib.Omega.{arith}
-use lib.ListN.{length, drop, set, length-append, length-drop}
+use lib.ListN.{length, getD, drop, set, length-append, length-drop}
 use lib.Seq.{sets, sets-eq, take-at, drop-append-add, drop-drop}
 use Rattle.wire.specs.Bytes.{two, places, filled, cleared}
 use Rattle.wire.proofs.Places.{length-places, places-snoc, cleared-front}
@@ -92,6 +92,10 @@ length-arc-fields (x ∷ xs) = omega (arith, length-arc-fields xs)
 length-fields : (bs : List ℕ) (at i : ℕ) → length (arc-fields (places i at 16 (arc-at bs))) ≡ 4 * i
 length-fields bs at i = omega (arith, length-arc-fields (places i at 16 (arc-at bs)), length-places i at 16 (arc-at bs))
 
+-- Four numbers stored from a place on.
+abbrev pub four-set : List ℕ → (at : ℕ) → List ℕ → List ℕ
+four-set out k vs = set (set (set (set out k (getD vs 0 0)) (k + 1) (getD vs 1 0)) (k + 2) (getD vs 2 0)) (k + 3) (getD vs 3 0)
+
 -- The fields of the first `i` of `count` arcs stand at the front; what lies behind is as it was.
 pub record Fields-copied (bs : List ℕ) (at count : ℕ) (out₀ out : List ℕ) (place i : ℕ) : Type 0 where
   pub within : i ≤ count
@@ -107,19 +111,17 @@ module _ {bs : List ℕ} {at count : ℕ} {out₀ : List ℕ} where
   fields-length {i = i} h c =
       rw (c .so-far) (length-front (arc-fields (places i at 16 (arc-at bs))) out₀ (4 * i) (length-fields bs at i) (omega (arith, c .within)))
 
-  pub fields-next : {out : List ℕ} {place i : ℕ} (v₀ v₁ v₂ v₃ : ℕ) → 4 * count ≤ length out₀ → i < count →
-      v₀ ≡ two bs (place + 4) → v₁ ≡ two bs (place + 6) → v₂ ≡ two bs (place + 8) → v₃ ≡ two bs (place + 10) →
-      Fields-copied bs at count out₀ out place i →
-      Fields-copied bs at count out₀ (set (set (set (set out (4 * i) v₀) (4 * i + 1) v₁) (4 * i + 2) v₂) (4 * i + 3) v₃) (place + 16) (i + 1)
-  unfolding arc-fields arc-at
-  fields-next {out} {place} {i} v₀ v₁ v₂ v₃ h l e₀ e₁ e₂ e₃ c =
-      let vs : List ℕ = v₀ ∷ v₁ ∷ v₂ ∷ v₃ ∷ [] in
+  -- One arc more: its fields, whatever their order, are stored one behind the other.
+  pub fields-next : {out : List ℕ} {place i : ℕ} (a : Arc) → 4 * count ≤ length out₀ → i < count → a ≡ arc-at bs place →
+      Fields-copied bs at count out₀ out place i → Fields-copied bs at count out₀ (four-set out (4 * i) (arc-fields (a ∷ []))) (place + 16) (i + 1)
+  unfolding arc-fields
+  fields-next {out} {place} {i} a h l e c =
+      let vs : List ℕ = arc-fields (a ∷ []) in
       let old : List ℕ = arc-fields (places i at 16 (arc-at bs)) in
       let stored : sets out (4 * i) vs ≡ (old ++ vs) ++ drop (4 * i + 4) out₀ =
       ap (λ (l : List ℕ). sets l (4 * i) vs) (c .so-far) ∙ sets-front old out₀ vs (4 * i) (length-fields bs at i) (omega arith) in
-      let one : arc-fields (arc-at bs place ∷ []) ≡ vs = rw (e₀, e₁, e₂, e₃) in
       let more : arc-fields (places (i + 1) at 16 (arc-at bs)) ≡ old ++ vs =
-      rw (add-one, places-snoc i at 16 (arc-at bs), arc-fields-append, ← c .there, one) in
+      rw (add-one, places-snoc i at 16 (arc-at bs), arc-fields-append, ← c .there, e) in
       let four : 4 * (i + 1) ≡ 4 * i + 4 = omega arith in
       record { within = omega arith; there = omega (arith, c .there); so-far = rw (more, four, add-one, add-two, add-three) stored }
 

@@ -69,10 +69,11 @@ fn copy_fields(bytes: &[u8], at: usize, count: usize, out: &mut [u16])
     let mut place = at;
     let mut i = 0;
     while i < count {
-        out[4 * i] = wire::u16_at(bytes, place + 4);
-        out[4 * i + 1] = wire::u16_at(bytes, place + 6);
-        out[4 * i + 2] = wire::u16_at(bytes, place + 8);
-        out[4 * i + 3] = wire::u16_at(bytes, place + 10);
+        let a = check::load_arc(bytes, place);
+        out[4 * i] = a.source;
+        out[4 * i + 1] = a.input;
+        out[4 * i + 2] = a.output;
+        out[4 * i + 3] = a.target;
         place += 16;
         i += 1;
     }
