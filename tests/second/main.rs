@@ -18,6 +18,7 @@
 
 mod cases;
 mod inner;
+mod lent;
 mod model;
 mod near;
 mod rng;
@@ -646,6 +647,11 @@ fn check_library(seed: u64, range: std::ops::Range<usize>, trace: bool, out: &Pa
         return false;
     }
     println!("calls: {}", linked.join(" "));
+    if let Err(e) = lent::stated() {
+        println!("lent buffers FAILED: {e}");
+        return false;
+    }
+    println!("lent buffers: read, written and read again; each a cell short");
     let mut fixed: Vec<_> = cases::fixed().into_iter().map(Some).collect();
     let single = range.len() == 1;
     let mut run = Run { rng: Rng::new(seed, 0), seen: [[0; 17]; 11], trace };
