@@ -6,19 +6,19 @@
 use mathlib.Core.Path.{_≡_, refl}
 use mathlib.Core.Bool.{Bool, true, false, _&&_, not, cond}
 use mathlib.Core.List.{List}
-use Prim.Native.Nat.{ℕ, suc, _+_, _*_, _≤_, _<_}
-use native.Mathlib.Omega.{arith}
-use borrow.Author.Tests.{ltb-true, leb-true, eqb-true, eq-eqb}
-use lib.Dec.{ltb, leb, eqb}
+use Prim.Native.Nat.{ℕ, _+_, _*_, _≤_, _<_}
+use borrow.Author.Tests.{eqb-true, eq-eqb}
+use lib.Dec.{eqb}
 use lib.ListN.{length, getD}
-use Rattle.wire.specs.Bytes.{Bytes, every}
-use Rattle.wire.proofs.Places.{and-true, true-and, every-getD}
-use Rattle.transducer.specs.declared.Arc.{Arc}
+use Rattle.wire.specs.Bytes.{Bytes}
+use Rattle.wire.proofs.Places.{and-true, true-and}
 use Rattle.transducer.specs.declared.Final.{Final}
-use Rattle.transducer.specs.Format.{Transducer, framed, records, kinds-good, decode, head-states, head-arcs, head-finals, head-start, head-good, states-good, finals-rise, sources-stay, order-good, labels-good, all-labels-good, weight-good, weights-good, first-of, content-refusal, refusal}
+use Rattle.transducer.specs.Format.{Transducer, framed, records, kinds-good, decode, head-states, head-arcs, head-finals, head-start}
+use Rattle.transducer.specs.Format.{head-good, finals-rise, sources-stay, content-refusal, refusal}
 use Rattle.transducer.specs.Path.{no-arc, arc}
 use Rattle.transducer.specs.Check.{walked}
-use Rattle.transducer.proofs.Good.{Head-range, head-range, passed}
+use Rattle.transducer.proofs.Good.{Head-range, head-range, passed, Content, content-good, finals-rise-good, sources-stay-good}
+use Rattle.transducer.proofs.Good.{final-state-below, arc-states-below, arc-labels-below, final-weight-most, arc-weight-most}
 use Rattle.transducer.proofs.Laid.{Laid, laid-framed, laid-kinds, laid-finals-count, laid-arcs-count, kinds-laid}
 
 -- Refusal 3's test and refusal 4's, of bytes.
@@ -113,38 +113,19 @@ pub record Content-range (t : Transducer) : Type 0 where
   pub stay : sources-stay 0 (t .arcs) ≡ true
 
 pub content-range : (t : Transducer) → content-refusal t ≡ 0 → Content-range t
-unfolding content-refusal first-of states-good order-good all-labels-good weights-good labels-good weight-good arc
+unfolding arc
 content-range t h =
-    let n = t .states in
-    let w3 : ℕ = cond (not (weights-good t)) 8 0 in
-    let w2 : ℕ = cond (not (all-labels-good t)) 7 w3 in
-    let w1 : ℕ = cond (not (order-good t)) 6 w2 in
-    let p5 : (states-good t ≡ true) × (w1 ≡ 0) = passed (states-good t) 4 w1 h in
-    let p6 : (order-good t ≡ true) × (w2 ≡ 0) = passed (order-good t) 5 w2 (p5 .1) in
-    let p7 : (all-labels-good t ≡ true) × (w3 ≡ 0) = passed (all-labels-good t) 6 w3 (p6 .1) in
-    let p8 : weights-good t ≡ true = passed (weights-good t) 7 0 (p7 .1) .0 in
-    let below : Final → Bool = λ f. ltb (f .state) n in
-    let ends : Arc → Bool = λ a. ltb (a .source) n && ltb (a .target) n in
-    let labels : Arc → Bool = λ a. ltb (a .input) 65535 && ltb (a .output) 65535 in
-    let light : Final → Bool = λ f. leb (f .weight) 1000000 in
-    let light-arc : Arc → Bool = λ a. leb (a .weight) 1000000 in
-    let states = and-true (every below (t .finals)) (every ends (t .arcs)) (p5 .0) in
-    let order = and-true (finals-rise 0 (t .finals)) (sources-stay 0 (t .arcs)) (p6 .0) in
-    let weights = and-true (every light (t .finals)) (every light-arc (t .arcs)) p8 in
-    let ends-at : (i : ℕ) → i < length (t .arcs) → (ltb (arc t i .source) n ≡ true) × (ltb (arc t i .target) n ≡ true) =
-    λ i l. and-true (ltb (arc t i .source) n) (ltb (arc t i .target) n) (every-getD ends (t .arcs) i no-arc (states .1) l) in
-    let labels-at : (i : ℕ) → i < length (t .arcs) → (ltb (arc t i .input) 65535 ≡ true) × (ltb (arc t i .output) 65535 ≡ true) =
-    λ i l. and-true (ltb (arc t i .input) 65535) (ltb (arc t i .output) 65535) (every-getD labels (t .arcs) i no-arc (p7 .0) l) in
+    let c : Content t = content-good t h in
     record {
-      source = λ i l. ltb-true (arc t i .source) n (ends-at i l .0);
-      target = λ i l. ltb-true (arc t i .target) n (ends-at i l .1);
-      input = λ i l. ltb-true (arc t i .input) 65535 (labels-at i l .0);
-      output = λ i l. ltb-true (arc t i .output) 65535 (labels-at i l .1);
-      weight = λ i l. leb-true (arc t i .weight) 1000000 (every-getD light-arc (t .arcs) i no-arc (weights .1) l);
-      final-state = λ i d l. ltb-true (getD (t .finals) i d .state) n (every-getD below (t .finals) i d (states .0) l);
-      final-weight = λ i d l. leb-true (getD (t .finals) i d .weight) 1000000 (every-getD light (t .finals) i d (weights .0) l);
-      rise = order .0;
-      stay = order .1;
+      source = λ i l. arc-states-below t c i no-arc l .0;
+      target = λ i l. arc-states-below t c i no-arc l .1;
+      input = λ i l. arc-labels-below t c i no-arc l .0;
+      output = λ i l. arc-labels-below t c i no-arc l .1;
+      weight = λ i l. arc-weight-most t c i no-arc l;
+      final-state = final-state-below t c;
+      final-weight = final-weight-most t c;
+      rise = finals-rise-good t c;
+      stay = sources-stay-good t c;
     }
 
 -- What acceptance gives, as bounds on the numbers.

@@ -8,7 +8,7 @@ use native.Mathlib.Numerals.{add-one, add-two, add-three}
 use native.Mathlib.Omega.{arith}
 use lib.ListN.{length, getD, drop, set, length-append, length-drop}
 use lib.Seq.{sets, sets-eq, take-at, drop-append-add, drop-drop}
-use Rattle.wire.specs.Bytes.{two, places, filled, cleared}
+use Rattle.wire.specs.Bytes.{places, filled, cleared}
 use Rattle.wire.proofs.Places.{length-places, places-snoc, cleared-front}
 use Rattle.transducer.specs.declared.Arc.{Arc}
 use Rattle.transducer.specs.Format.{arc-at}

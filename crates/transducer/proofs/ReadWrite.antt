@@ -6,14 +6,14 @@
 use mathlib.Core.Path.{_≡_, refl, sym, ap, _∙_}
 use mathlib.Core.Bool.{Bool, true, false, _||_, cond}
 use mathlib.Core.List.{List, [], _∷_, map}
-use Prim.Native.Nat.{ℕ, zero, suc, _+_, _*_, _≤_, _<_}
+use Prim.Native.Nat.{ℕ, zero, suc, _+_, _*_, _≤_}
 use native.Mathlib.Numerals.{add-one}
 use native.Mathlib.Omega.{arith}
 use borrow.Author.Tests.{ltb-false, le-ltb}
 use lib.Dec.{ltb}
 use lib.ListN.{length, getD, take, List·getD-map, length-map}
 use lib.Seq.{take-length}
-use Rattle.wire.specs.Bytes.{Bytes, places, filled}
+use Rattle.wire.specs.Bytes.{places, filled}
 use Rattle.wire.proofs.Places.{length-places, places-same, map-places, getD-filled, length-filled, take-filled}
 use Rattle.transducer.specs.declared.Arc.{Arc}
 use Rattle.transducer.specs.declared.Final.{Final}
@@ -26,8 +26,8 @@ use Rattle.transducer.specs.Entry.{Read-says, read-refusal, read-room, W
 use Rattle.transducer.specs.RoundTrip.{Read-then-written, Same-bytes, Written-then-read, Same-transducer}
 use Rattle.transducer.proofs.Answers.{or-else-none, none-or-else, unless-none, left-in-none}
 use Rattle.transducer.proofs.Copy.{places-shift, length-arc-fields}
-use Rattle.transducer.proofs.Good.{Head-range, head-range, passed}
-use Rattle.transducer.proofs.ReadSays.{long-enough, short-states, short-weights, short-fields, short-arc-weights}
+use Rattle.transducer.proofs.Good.{Head-range, passed}
+use Rattle.transducer.proofs.ReadSays.{long-enough}
 use Rattle.transducer.proofs.RoundTrip.{encode-decode, accepted-good, decode-encode, refusal-encode, good-range}
 use Rattle.transducer.proofs.WriteSays.{Enough, not-too-few}
 

@@ -6,30 +6,31 @@
 --     decode-encode     and reads back as itself
 -- Assumes nothing.
 use mathlib.Core.Path.{_≡_, refl, sym, ap, _∙_}
-use mathlib.Core.Bool.{Bool, true, false, _&&_}
+use mathlib.Core.Bool.{true, _&&_}
 use mathlib.Core.List.{List, [], _∷_, _++_, append-assoc}
-use Prim.Native.Nat.{ℕ, zero, suc, _+_, _*_, _≤_, _<_}
+use Prim.Native.Nat.{ℕ, _+_, _*_, _≤_, _<_}
 use native.Mathlib.Nat.{add-zero}
 use native.Mathlib.Omega.{arith}
 use borrow.Author.Tests.{ltb-true, leb-true, eq-eqb}
-use lib.Dec.{ltb, leb, eqb}
-use lib.ListN.{length, drop, length-append}
+use lib.Dec.{ltb, eqb}
+use lib.ListN.{length, drop}
 use lib.Seq.{drop-drop, drop-at}
 use Rattle.wire.specs.Bytes.{Bytes, two, four, low, places, every}
 use Rattle.wire.proofs.Low.{bytes-low, bytes-append, two-drop, four-drop, two-low-front, four-low-front}
 use Rattle.wire.proofs.Places.{length-places, and-true, true-and}
 use Rattle.transducer.specs.declared.Arc.{Arc}
 use Rattle.transducer.specs.declared.Final.{Final}
-use Rattle.transducer.specs.Format.{Transducer, Good, final-at, arc-at, weight-at, weight-good, labels-good, decode, refusal, head-good, content-refusal, first-of}
+use Rattle.transducer.specs.Format.{Transducer, Good, final-at, arc-at, weight-at, weight-good, labels-good, decode, refusal, head-good, content-refusal}
 use Rattle.transducer.specs.Format.{states-good, order-good, all-labels-good, weights-good, head-states, head-arcs, head-finals, head-start}
 use Rattle.transducer.specs.Encode.{encode, head-record, final-record, arc-record, final-records, arc-records, weight-bytes, max-bytes}
 use Rattle.transducer.specs.Check.{head-word, final-word, arc-word}
 use Rattle.transducer.proofs.Laid.{Laid, laid-decode}
+use Rattle.transducer.proofs.Encode.{length-final-records, length-encode}
 use Rattle.transducer.proofs.WriteBack.{encode-laid}
 use Rattle.transducer.proofs.Accept.{accepted-laid, accepted-head, accepted-content, laid-refusal, Content-range, content-range}
-use Rattle.transducer.proofs.Good.{Head-range, head-range}
+use Rattle.transducer.proofs.Good.{Head-range, head-range, Content, content-good}
 
--- What is written: each element is a byte, and how many there are
+-- What is written: each element is a byte
 
 record Byte-list (xs : List ℕ) : Type 0 where
   each : Bytes xs
@@ -75,21 +76,6 @@ encode-bytes t = joined (joined (head-bytes (t .states) (length (t .arcs)) (leng
 pub bytes-encode : (t : Transducer) → Bytes (encode t)
 bytes-encode t = encode-bytes t .each
 
-pub length-final-records : (fs : List Final) → length (final-records fs) ≡ 10 * length fs
-unfolding final-records final-record weight-bytes low
-length-final-records [] = refl
-length-final-records (f ∷ fs) = omega (arith, length-final-records fs)
-
-pub length-arc-records : (xs : List Arc) → length (arc-records xs) ≡ 16 * length xs
-unfolding arc-records arc-record weight-bytes low
-length-arc-records [] = refl
-length-arc-records (a ∷ xs) = omega (arith, length-arc-records xs)
-
-pub length-encode : (t : Transducer) → length (encode t) ≡ 12 + 10 * length (t .finals) + 16 * length (t .arcs)
-unfolding encode head-record low
-length-encode t =
-    omega (arith, length-append (final-records (t .finals)) (arc-records (t .arcs)), length-final-records (t .finals), length-arc-records (t .arcs))
-
 -- What a good transducer's numbers and tests are
 
 pub good-range : (t : Transducer) → Good t → Head-range (t .states) (length (t .arcs)) (length (t .finals)) (t .start)
@@ -103,14 +89,6 @@ length-encode-below t g =
     let r : Head-range (t .states) (length (t .arcs)) (length (t .finals)) (t .start) = good-range t g in
     omega (arith, length-encode t)
 
-first-of-none : (a b c d : Bool) → first-of a b c d ≡ 0 → (a ≡ true) × (b ≡ true) × (c ≡ true) × (d ≡ true)
-unfolding first-of
-first-of-none true true true true h = (refl, refl, refl, refl)
-first-of-none true true true false h = absurd (omega arith)
-first-of-none true true false d h = absurd (omega arith)
-first-of-none true false c d h = absurd (omega arith)
-first-of-none false b c d h = absurd (omega arith)
-
 -- The tests of 5 to 8, each passed.
 pub record Passed (t : Transducer) : Type 0 where
   pub final-states : every (λ f. ltb (f .state) (t .states)) (t .finals) ≡ true
@@ -121,19 +99,18 @@ pub record Passed (t : Transducer) : Type 0 where
   pub arc-weights : every (λ a. weight-good (a .weight)) (t .arcs) ≡ true
 
 pub good-passed : (t : Transducer) → Good t → Passed t
-unfolding content-refusal states-good all-labels-good weights-good
+unfolding states-good all-labels-good weights-good
 good-passed t g =
-    let tests : (states-good t ≡ true) × (order-good t ≡ true) × (all-labels-good t ≡ true) × (weights-good t ≡ true) =
-    first-of-none (states-good t) (order-good t) (all-labels-good t) (weights-good t) (g .content) in
+    let tests : Content t = content-good t (g .content) in
     let states : (every (λ f. ltb (f .state) (t .states)) (t .finals) ≡ true) ×
-    (every (λ a. ltb (a .source) (t .states) && ltb (a .target) (t .states)) (t .arcs) ≡ true) = and-true _ _ (tests .0) in
+    (every (λ a. ltb (a .source) (t .states) && ltb (a .target) (t .states)) (t .arcs) ≡ true) = and-true _ _ (tests .states) in
     let weights : (every (λ f. weight-good (f .weight)) (t .finals) ≡ true) × (every (λ a. weight-good (a .weight)) (t .arcs) ≡ true) =
-    and-true _ _ (tests .3) in
+    and-true _ _ (tests .weights) in
     record {
       final-states = states .0;
       arc-states = states .1;
-      order = tests .1;
-      labels = tests .2;
+      order = tests .order;
+      labels = tests .labels;
       final-weights = weights .0;
       arc-weights = weights .1;
     }

@@ -1,19 +1,18 @@
 -- Accepting paths from any state, paths put end to end, and transducers whose arcs stay within their states. Assumes nothing.
 use mathlib.Core.Path.{_≡_, refl, sym, ap, _∙_}
-use mathlib.Core.Bool.{Bool, true, false, _&&_}
+use mathlib.Core.Bool.{Bool, true, _&&_}
 use mathlib.Core.List.{List, [], _∷_, _++_}
 use Prim.Native.Nat.{ℕ, _<_}
-use native.Mathlib.Omega.{arith}
-use lib.Dec.{ltb, leb, eqb}
+use lib.Dec.{ltb, eqb}
 use lib.ListN.{length}
 use borrow.Author.Tests.{ltb-true}
 use Rattle.wire.specs.Bytes.{every}
 use Rattle.wire.proofs.Places.{and-true, true-and, and-assoc, every-getD}
 use Rattle.transducer.specs.declared.Arc.{Arc}
 use Rattle.transducer.specs.declared.Final.{Final}
-use Rattle.transducer.specs.Format.{Transducer, Good, head-good, states-good, order-good, all-labels-good, weights-good}
-use Rattle.transducer.specs.Format.{content-refusal, first-of, max-states, max-arcs}
+use Rattle.transducer.specs.Format.{Transducer, Good, states-good}
 use Rattle.transducer.specs.Path.{arc, no-arc, is-final, runs, ends, accepts}
+use Rattle.transducer.proofs.Good.{head-range, content-good}
 use Rattle.transducer.proofs.Paths.{Runs, runs-cons, cons-runs}
 
 -- A path from a state that ends in a final one.
@@ -102,22 +101,9 @@ states-good-within t h b =
       starts = b;
     }
 
-first-of-none : (a b c d : Bool) → first-of a b c d ≡ 0 → a ≡ true
-unfolding first-of
-first-of-none true b c d h = refl
-first-of-none false b c d h = absurd (omega arith)
-
 pub good-within : (t : Transducer) → Good t → Within t
-unfolding head-good content-refusal
 good-within t g =
-    let n = t .states in
-    let sizes : Bool = leb 1 n && leb n max-states in
-    let counts : Bool = leb (length (t .finals)) n && ltb (t .start) n in
-    let lists : Bool = leb (length (t .arcs)) max-arcs && counts in
-    let two : (leb (length (t .arcs)) max-arcs ≡ true) × (counts ≡ true) =
-    and-true (leb (length (t .arcs)) max-arcs) counts (and-true sizes lists (g .head) .1) in
-    let starts : ltb (t .start) n ≡ true = and-true (leb (length (t .finals)) n) (ltb (t .start) n) (two .1) .1 in
-    states-good-within t (first-of-none (states-good t) (order-good t) (all-labels-good t) (weights-good t) (g .content)) (ltb-true (t .start) n starts)
+    states-good-within t (content-good t (g .content) .states) (head-range (t .states) (length (t .arcs)) (length (t .finals)) (t .start) (g .head) .start)
 
 pub ends-below : (t : Transducer) → Within t → (s : ℕ) (p : List ℕ) → s < t .states → runs t s p ≡ true → ends t s p < t .states
 unfolding ends

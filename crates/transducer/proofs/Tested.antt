@@ -1,14 +1,14 @@
 -- The answers of the test that looks first where accepted bytes have their records. Assumes nothing.
-use mathlib.Core.Path.{_≡_, refl, sym, ap, _∙_}
-use mathlib.Core.Bool.{Bool, true, false, _&&_, not}
+use mathlib.Core.Path.{_≡_, sym, ap, _∙_}
+use mathlib.Core.Bool.{true, false}
 use mathlib.Core.List.{List}
-use Prim.Native.Nat.{ℕ, _+_, _*_, _≤_, _<_}
+use Prim.Native.Nat.{ℕ, _+_, _*_, _<_}
 use native.Mathlib.Omega.{arith}
 use lib.Dec.{eqb}
 use lib.ListN.{length}
 use Rattle.wire.specs.Bytes.{Bytes, four, places, every}
 use Rattle.wire.proofs.Places.{and-true, true-and}
-use Rattle.transducer.specs.Format.{decode, head-states, head-arcs, head-finals, head-start, head-good, final-at, arc-at, first-of, refusal}
+use Rattle.transducer.specs.Format.{decode, head-states, head-arcs, head-finals, head-start, head-good, first-of, refusal}
 use Rattle.transducer.specs.Check.{head-word, final-word, arc-word, all-checked, walked}
 use Rattle.transducer.proofs.Laid.{Laid, laid-decode}
 use Rattle.transducer.proofs.Accept.{refused-early, laid-refusal}

@@ -1,40 +1,20 @@
 -- The answers of writing: which refusal it is, and what is said and left behind. Assumes nothing.
 use mathlib.Core.Path.{_≡_, refl, sym, _∙_}
-use mathlib.Core.Bool.{true, false, _&&_}
+use mathlib.Core.Bool.{true, false}
 use mathlib.Core.List.{List}
 use Prim.Native.Nat.{ℕ, _+_, _*_, _≤_, _<_}
 use native.Mathlib.Omega.{arith}
-use borrow.Author.Tests.{lt-ltb, le-ltb, ne-eqb, leb-true, ltb-true}
-use lib.Dec.{ltb, leb, eqb}
+use borrow.Author.Tests.{lt-ltb, le-ltb, ne-eqb}
+use lib.Dec.{eqb}
 use lib.ListN.{length}
 use lib.Seq.{sets}
 use Rattle.wire.specs.Bytes.{places, filled, cleared}
-use Rattle.wire.proofs.Places.{and-true, length-places}
+use Rattle.wire.proofs.Places.{length-places}
 use Rattle.transducer.specs.Format.{Transducer, head-good, content-refusal}
 use Rattle.transducer.specs.Encode.{head-record, final-records, arc-records, encode}
 use Rattle.transducer.specs.Entry.{Write-says, write-refusal, given, final-of, arc-of, too-few, or-else, unless, left-in}
+use Rattle.transducer.proofs.Good.{head-range}
 use Rattle.transducer.proofs.Encode.{length-encode, sets-encode, cleared-sets}
-
--- Four numbers in range.
-pub record In-range (n m f start : ℕ) : Type 0 where
-  pub states : n ≤ 1024
-  pub arcs : m ≤ 3072
-  pub finals : f ≤ n
-  pub below : start < n
-
-pub in-range : (n m f start : ℕ) → head-good n m f start ≡ true → In-range n m f start
-unfolding head-good
-in-range n m f start h =
-    let both = and-true (leb 1 n && leb n 1024) (leb m 3072 && (leb f n && ltb start n)) h in
-    let states = and-true (leb 1 n) (leb n 1024) (both .0) in
-    let arcs = and-true (leb m 3072) (leb f n && ltb start n) (both .1) in
-    let rest = and-true (leb f n) (ltb start n) (arcs .1) in
-    record {
-      states = leb-true n 1024 (states .1);
-      arcs = leb-true m 3072 (arcs .0);
-      finals = leb-true f n (rest .0);
-      below = ltb-true start n (rest .1);
-    }
 
 -- The four runs are long enough.
 pub record Enough (f m a b c d : ℕ) : Type 0 where
@@ -134,6 +114,6 @@ module _ (n m f start : ℕ) (a b c d out : List ℕ) where
             let finals : length (t .finals) ≡ f = length-places f 0 1 (final-of a b) in
             let arcs : length (t .arcs) ≡ m = length-places m 0 1 (arc-of c d) in
             let long : length (encode t) ≡ 12 + 10 * f + 16 * m = length-encode t ∙ rw (finals, arcs) in
-            let fits : 12 + 10 * f + 16 * m ≤ length out = omega (arith, in-range n m f start head) in
+            let fits : 12 + 10 * f + 16 * m ≤ length out = omega (arith, head-range n m f start head) in
             says-written t (write-refusal n m f start a b c d (length out)) (12 + 10 * f + 16 * m) out _ (says-0 room) (sym long)
             (cleared-sets (encode t) out (12 + 10 * f + 16 * m) long fits (sets-encode t out f m finals arcs h1 h2 h3) h4)

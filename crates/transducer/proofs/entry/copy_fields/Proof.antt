@@ -2,7 +2,7 @@
 -- is as it was. The order of the fields is the definition's (`arc-fields`): nothing here repeats it.
 use borrow.Author.Needs.{needs}
 use mathlib.Core.Path.{_∙_}
-use Prim.Native.Nat.{_-_, _+_, _*_, _≤_, _<_}
+use Prim.Native.Nat.{_-_, _+_, _*_, _<_}
 use native.Mathlib.Omega.{arith}
 use lib.ListN.{length, length-set}
 use Rattle.transducer.specs.Entry.{arc-fields}

@@ -6,7 +6,8 @@ use mathlib.Core.Bool.{true}
 use native.Mathlib.Omega.{arith}
 use lib.ListN.{length}
 use Rattle.transducer.specs.Format.{head-good}
-use Rattle.transducer.proofs.WriteSays.{In-range, in-range, Enough, says-3, says-4-states, says-4-weights, says-4-fields, says-4-arc-weights, says-content, says-10, says-all}
+use Rattle.transducer.proofs.Good.{Head-range, head-range}
+use Rattle.transducer.proofs.WriteSays.{Enough, says-3, says-4-states, says-4-weights, says-4-fields, says-4-arc-weights, says-content, says-10, says-all}
 use Rattle.transducer.proofs.entry.write.Statement.{statement}
 use Rattle.transducer.proofs.entry.write.Tie as tie
 
@@ -36,8 +37,8 @@ arcs-put c = c .before .before .before .before
 head-is-good : (c : tie.Else1) → head-good (entry c .args .n) (entry c .args .m) (entry c .args .f) (entry c .args .start) ≡ true
 head-is-good c = sym (c .before .head-ok .ensures) ∙ not-false (c .before .head-ok .result) (c .if1 .left)
 
-range : (c : tie.Else1) → In-range (entry c .args .n) (entry c .args .m) (entry c .args .f) (entry c .args .start)
-range c = in-range _ _ _ _ (head-is-good c)
+range : (c : tie.Else1) → Head-range (entry c .args .n) (entry c .args .m) (entry c .args .f) (entry c .args .start)
+range c = head-range _ _ _ _ (head-is-good c)
 
 enough : (c : tie.Else5) →
     let x = entry (first c) .args in
