@@ -7,13 +7,15 @@ use native.Mathlib.Nat.{zero-add, add-zero}
 use native.Mathlib.Omega.{arith}
 use lib.Dec.{ltb, leb, eqb}
 use lib.ListN.{length, getD}
-use borrow.Author.Tests.{ltb-true, ltb-false, lt-ltb, le-ltb, leb-true, eqb-true, eqb-false, ne-eqb}
+use borrow.Author.Tests.{ltb-true, ltb-false, lt-ltb, le-ltb, eqb-true, eqb-false, ne-eqb}
 use Rattle.wire.proofs.Places.{and-true}
 use Rattle.transducer.specs.declared.Arc.{Arc}
 use Rattle.transducer.specs.Format.{Transducer, sources-stay}
 use Rattle.transducer.specs.Path.{arc, no-arc}
 use Rattle.transducer.specs.Each.{by-number, each-arc}
 use Rattle.transducer.specs.Leaf.{arcs-below}
+use Rattle.transducer.proofs.Index.{stay-none}
+pub use Rattle.transducer.proofs.Index.{arcs-below-length, arcs-below-mono as arcs-below-rises}
 
 by-test : {A : Type 0} (b : Bool) → (b ≡ true → A) → (b ≡ false → A) → A
 by-test true f g = f refl
@@ -57,37 +59,6 @@ unfolding from-to
 map-from-to g zero i f = refl
 map-from-to g (suc n) i f = rw (map-append g (f i) (from-to n (suc i) f), map-from-to g n (suc i) f)
 
--- arcs-below
-
-pub arcs-below-length : (s : ℕ) (as' : List Arc) → arcs-below s as' ≤ length as'
-unfolding arcs-below
-arcs-below-length s [] = omega arith
-arcs-below-length s (a ∷ as') =
-    let more : arcs-below s as' ≤ length as' = arcs-below-length s as' in
-    by-test (ltb (a .source) s) (λ e. rw e (omega arith)) (λ e. rw e (omega arith))
-
-pub arcs-below-rises : (s s' : ℕ) (as' : List Arc) → s ≤ s' → arcs-below s as' ≤ arcs-below s' as'
-unfolding arcs-below
-arcs-below-rises s s' [] l = omega arith
-arcs-below-rises s s' (a ∷ as') l =
-    let more : arcs-below s as' ≤ arcs-below s' as' = arcs-below-rises s s' as' l in
-    by-test (ltb (a .source) s)
-    (λ e. let e' : ltb (a .source) s' ≡ true = lt-ltb (a .source) s' (omega (arith, ltb-true (a .source) s e)) in rw (e, e') (omega arith))
-    (λ e. rw e (on (ltb (a .source) s') more))
-  where
-    on : (b : Bool) → arcs-below s as' ≤ arcs-below s' as' → arcs-below s as' ≤ cond b (suc (arcs-below s' as')) (arcs-below s' as')
-    on true more = omega arith
-    on false more = more
-
--- Where no source is below a floor, no arc leaves a state below it.
-pub arcs-below-floor : (floor s : ℕ) (as' : List Arc) → sources-stay floor as' ≡ true → s ≤ floor → arcs-below s as' ≡ 0
-unfolding arcs-below sources-stay
-arcs-below-floor floor s [] h l = refl
-arcs-below-floor floor s (a ∷ as') h l =
-    let p = and-true (leb floor (a .source)) (sources-stay (a .source) as') h in
-    let high : s ≤ a .source = omega (arith, leb-true floor (a .source) (p .0)) in
-    rw (le-ltb (a .source) s high) (arcs-below-floor (a .source) s as' (p .1) high)
-
 -- The arcs of a list by number, where `at` gives the arc of each number and the first has the number i.
 by-number-range : {B : Type 0} (floor s i : ℕ) (f : ℕ → Arc → List B) (at : ℕ → Arc) (as' : List Arc) → sources-stay floor as' ≡ true
     → ((k : ℕ) → k < length as' → at (i + k) ≡ getD as' k no-arc)
@@ -106,14 +77,14 @@ by-number-range floor s i f at (a ∷ as') h same =
     let m : i + suc (arcs-below s as') ≡ suc i + arcs-below s as' = omega arith in
     rw (e, lt-ltb (a .source) (suc s) (omega arith), ne-eqb (a .source) s (λ q. omega arith), n, m) more)
     (λ e. let high : s ≤ a .source = ltb-false (a .source) s e in
-    let none : arcs-below s as' ≡ 0 = arcs-below-floor (a .source) s as' (p .1) high in
+    let none : arcs-below s as' ≡ 0 = stay-none (a .source) s as' (p .1) high in
     by-test (eqb (a .source) s)
     (λ q. let eq : a .source ≡ s = eqb-true (a .source) s q in
     let n : suc (arcs-below (suc s) as') - 0 ≡ suc (arcs-below (suc s) as' - arcs-below s as') = omega arith in
     let m : suc i + arcs-below s as' ≡ suc i = omega arith in
     rw (e, lt-ltb (a .source) (suc s) (omega arith), q, none, n, add-zero i, here) (ap (λ (l : List _). f i a ++ l) (rw m at more)))
     (λ q. let over : suc s ≤ a .source = omega (arith, eqb-false (a .source) s q) in
-    let all : arcs-below (suc s) as' ≡ 0 = arcs-below-floor (a .source) (suc s) as' (p .1) over in
+    let all : arcs-below (suc s) as' ≡ 0 = stay-none (a .source) (suc s) as' (p .1) over in
     rw (e, le-ltb (a .source) (suc s) over, q, none, all) (rw (none, all) at more)))
 
 -- What each arc of a state gives, over the range of the state's arcs.
