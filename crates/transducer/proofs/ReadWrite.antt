@@ -19,8 +19,8 @@ use Rattle.transducer.specs.declared.Arc.{Arc}
 use Rattle.transducer.specs.declared.Final.{Final}
 use Rattle.transducer.specs.declared.Header.{Header}
 use Rattle.transducer.specs.declared.Written.{Written}
-use Rattle.transducer.specs.Format.{Transducer, Good, max-states, max-arcs, decode, refusal, head-good, content-refusal}
-use Rattle.transducer.specs.Encode.{encode, max-bytes}
+use Rattle.transducer.specs.Format.{Transducer, Good, max-states, max-arcs, max-bytes, decode, refusal, head-good, content-refusal}
+use Rattle.transducer.specs.Encode.{encode}
 use Rattle.transducer.specs.Path.{no-arc}
 use Rattle.transducer.specs.Entry.{Read-says, read-refusal, read-room, Write-says, write-refusal, too-few, given, final-of, arc-of, arc-fields, or-else}
 use Rattle.transducer.specs.RoundTrip.{Read-then-written, Same-bytes, Written-then-read, Same-transducer}
@@ -212,7 +212,7 @@ module _ (t : Transducer) (good : Good t) (a b c d : ℕ) (room : Room a b c d) 
       (filled a (states-of t)) (filled b (weights-of t)) (filled c (fields-of t))
       (filled d (arc-weights-of t)) out ≡ 0
   unfolding write-refusal or-else
-  left-accepted out h = rw (good .head, not-too-few _ _ _ _ _ _ runs-enough, given-left t a b c d, good .content, le-ltb out 59404 h)
+  left-accepted out h = rw (good .head, not-too-few _ _ _ _ _ _ runs-enough, given-left t a b c d, good .content, le-ltb out max-bytes h)
 
 -- Written from what stands in the buffers, a transducer is told at its length, zeros behind it.
 record Written-well (t : Transducer) (r : Written) (out out' : List ℕ) : Type 0 where
@@ -300,10 +300,10 @@ given-well : (n m f start : ℕ) (a b c d : List ℕ) (room : ℕ) → write-ref
 unfolding write-refusal given
 given-well n m f start a b c d room h =
     let t = given n m f start a b c d in
-    let content = or-else (content-refusal t) (cond (ltb room 59404) 10 0) in
+    let content = or-else (content-refusal t) (cond (ltb room max-bytes) 10 0) in
     let p = passed (head-good n m f start) 2 (cond (too-few f m (length a) (length b) (length c) (length d)) 4 content) h in
     let q = cond-none (too-few f m (length a) (length b) (length c) (length d)) 3 content (p .1) in
-    let r = or-else-none (content-refusal t) (cond (ltb room 59404) 10 0) (q .1) in
+    let r = or-else-none (content-refusal t) (cond (ltb room max-bytes) 10 0) (q .1) in
     record {
       good = record { head = rw (length-places m 0 1 (arc-of c d), length-places f 0 1 (final-of a b)) (p .0); content = r .0 };
       enough = too-few-none f m (length a) (length b) (length c) (length d) (q .0);

@@ -20,9 +20,9 @@ use Rattle.wire.proofs.Low.{bytes-low, bytes-append, two-drop, four-drop, two-l
 use Rattle.wire.proofs.Places.{length-places, and-true, true-and}
 use Rattle.transducer.specs.declared.Arc.{Arc}
 use Rattle.transducer.specs.declared.Final.{Final}
-use Rattle.transducer.specs.Format.{Transducer, Good, final-at, arc-at, weight-at, weight-good, labels-good, decode, refusal, head-good, content-refusal}
+use Rattle.transducer.specs.Format.{Transducer, Good, max-bytes, final-at, arc-at, weight-at, weight-good, labels-good, decode, refusal, head-good, content-refusal}
 use Rattle.transducer.specs.Format.{states-good, order-good, all-labels-good, weights-good, head-states, head-arcs, head-finals, head-start}
-use Rattle.transducer.specs.Encode.{encode, head-record, final-record, arc-record, final-records, arc-records, weight-bytes, max-bytes}
+use Rattle.transducer.specs.Encode.{encode, head-record, final-record, arc-record, final-records, arc-records, weight-bytes}
 use Rattle.transducer.specs.Check.{head-word, final-word, arc-word}
 use Rattle.transducer.proofs.Laid.{Laid, laid-decode}
 use Rattle.transducer.proofs.Encode.{length-final-records, length-encode}

@@ -9,7 +9,8 @@ use lib.ListN.{getD}
 use Rattle.transducer.specs.declared.Arc.{Arc}
 use Rattle.transducer.specs.declared.Final.{Final}
 use Rattle.transducer.specs.declared.Checks.{Checks}
-use Rattle.transducer.specs.Format.{weight-good, labels-good, final-at, arc-at, framed, kinds-good, records, head-good, head-states, head-arcs, head-finals, head-start}
+use Rattle.transducer.specs.Format.{head-bytes, final-bytes, arc-bytes, arcs-at, weight-good, labels-good, final-at, arc-at, framed, kinds-good, records}
+use Rattle.transducer.specs.Format.{head-good, head-states, head-arcs, head-finals, head-start}
 
 -- Length and kind of a final's and of an arc's record, as one number of four bytes.
 abbrev pub head-word : ℕ
@@ -77,12 +78,13 @@ abbrev pub unsure : ℕ
 unsure = 4294967295
 
 pub record Plain (bs : List ℕ) (at count n floor r : ℕ) : Type 0 where
-  pub all-pass : (r ≡ unsure → ⊥) → (c : Checks) → c .floor ≡ floor → arcs-checked count at 16 n (four bs) (arc-at bs) c ≡ with-floor r c
+  pub all-pass : (r ≡ unsure → ⊥) → (c : Checks) → c .floor ≡ floor → arcs-checked count at arc-bytes n (four bs) (arc-at bs) c ≡ with-floor r c
 
 -- The tests of all records, at the places that f finals and m arcs give.
 unfoldable pub all-checked : List ℕ → (n m f : ℕ) → Checks
 all-checked bs n m f =
-    arcs-checked m (12 + 10 * f) 16 n (four bs) (arc-at bs) (from-0 (finals-checked f 12 10 n (four bs) (final-at bs) none-failed))
+    let finals = finals-checked f head-bytes final-bytes n (four bs) (final-at bs) none-failed in
+    arcs-checked m (arcs-at f) arc-bytes n (four bs) (arc-at bs) (from-0 finals)
 
 -- Which of 1 to 3 holds, else 4.
 unfoldable pub walked : List ℕ → ℕ

@@ -1,6 +1,6 @@
 -- A transducer's bytes, written. Assumes nothing: these are definitions.
 use mathlib.Core.List.{List, [], _∷_, _++_}
-use Prim.Native.Nat.{ℕ, _+_, _*_}
+use Prim.Native.Nat.{ℕ}
 use lib.ListN.{length}
 use Rattle.wire.specs.Bytes.{low}
 use Rattle.transducer.specs.declared.Arc.{Arc}
@@ -32,7 +32,3 @@ arc-records (a ∷ as') = arc-record a ++ arc-records as'
 unfoldable pub encode : Transducer → List ℕ
 encode t =
     head-record (t .states) (length (t .arcs)) (length (t .finals)) (t .start) ++ final-records (t .finals) ++ arc-records (t .arcs)
-
--- The length of the largest transducer.
-abbrev pub max-bytes : ℕ
-max-bytes = 59404

@@ -10,7 +10,7 @@ use Rattle.transducer.specs.declared.Arc.{Arc}
 use Rattle.transducer.specs.declared.Final.{Final}
 use Rattle.transducer.specs.declared.Header.{Header}
 use Rattle.transducer.specs.declared.Written.{Written}
-use Rattle.transducer.specs.Format.{Transducer, refusal, decode, head-good, content-refusal}
+use Rattle.transducer.specs.Format.{Transducer, max-states, max-arcs, max-bytes, refusal, decode, head-good, content-refusal}
 use Rattle.transducer.specs.Encode.{encode}
 
 -- The first refusal that is not 0, of two tested in this order.
@@ -32,7 +32,7 @@ arc-fields (a ∷ as') = a .source ∷ a .input ∷ a .output ∷ a .target ∷ 
 
 -- Reading: 1 to 8, then 10 for a buffer that is too short.
 unfoldable pub read-room : (states weights fields arc-weights : ℕ) → ℕ
-read-room a b c d = cond (ltb a 1024 || (ltb b 1024 || (ltb c 12288 || ltb d 3072))) 10 0
+read-room a b c d = cond (ltb a max-states || (ltb b max-states || (ltb c (4 * max-arcs) || ltb d max-arcs))) 10 0
 
 unfoldable pub read-refusal : List ℕ → (states weights fields arc-weights : ℕ) → ℕ
 read-refusal bs a b c d = or-else (refusal bs) (read-room a b c d)
@@ -75,7 +75,7 @@ unfoldable pub write-refusal : (n m f start : ℕ) → (states weights fields ar
 write-refusal n m f start a b c d room =
     cond (not (head-good n m f start)) 3
     (cond (too-few f m (length a) (length b) (length c) (length d)) 4
-    (or-else (content-refusal (given n m f start a b c d)) (cond (ltb room 59404) 10 0)))
+    (or-else (content-refusal (given n m f start a b c d)) (cond (ltb room max-bytes) 10 0)))
 
 pub record Write-says (t : Transducer) (number : ℕ) (r : Written) (out out' : List ℕ) : Type 0 where
   pub refusal-is : r .refusal ≡ number

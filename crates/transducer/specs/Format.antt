@@ -26,6 +26,23 @@ max-arcs = 3072
 abbrev pub max-weight : ℕ
 max-weight = 1000000
 
+-- The bytes of a head's, a final's and an arc's record, and where the arcs begin behind a number of finals.
+abbrev pub head-bytes : ℕ
+head-bytes = 12
+
+abbrev pub final-bytes : ℕ
+final-bytes = 10
+
+abbrev pub arc-bytes : ℕ
+arc-bytes = 16
+
+abbrev pub arcs-at : (finals : ℕ) → ℕ
+arcs-at f = head-bytes + final-bytes * f
+
+-- The length of the largest transducer.
+abbrev pub max-bytes : ℕ
+max-bytes = arcs-at max-states + arc-bytes * max-arcs
+
 -- The label that no arc may bear.
 abbrev pub barred : ℕ
 barred = 65535

@@ -8,7 +8,7 @@ use lib.ListN.{length, getD}
 use Rattle.transducer.specs.declared.Arc.{Arc}
 use Rattle.transducer.specs.declared.Final.{Final}
 use Rattle.transducer.specs.declared.Header.{Header}
-use Rattle.transducer.specs.Format.{Transducer, decode, refusal, head-states, head-arcs, head-finals, head-start}
+use Rattle.transducer.specs.Format.{Transducer, max-states, arcs-at, decode, refusal, head-states, head-arcs, head-finals, head-start}
 use Rattle.transducer.specs.Path.{is-final, final-weight}
 
 -- The head's four numbers, as an answer that is no refusal.
@@ -19,7 +19,7 @@ header-of bs =
 -- Accepted bytes, and the place where the records of the arcs begin in them.
 pub record Opened (bs : List ℕ) (first : ℕ) : Type 0 where
   pub accepted : refusal bs ≡ 0
-  pub first-is : first ≡ 12 + 10 * head-finals bs
+  pub first-is : first ≡ arcs-at (head-finals bs)
 
 -- How many arcs leave states below s. Sources never fall, so the arcs of s are those numbered from here to below the same of s + 1.
 unfoldable pub arcs-below : (s : ℕ) → List Arc → ℕ
@@ -28,13 +28,13 @@ arcs-below s (a ∷ as') = cond (ltb (a .source) s) (suc (arcs-below s as')) (ar
 
 -- One place up from each state stands a number that takes the maximum from the arcs below that state to those below the next.
 pub record Marked (xs : List Arc) (index : List ℕ) : Type 0 where
-  pub long : length index ≡ 1025
+  pub long : length index ≡ max-states + 1
   pub at-first : getD index 0 0 ≡ 0
-  pub at-state : (s : ℕ) → s < 1024 → max (arcs-below s xs) (getD index (suc s) 0) ≡ arcs-below (suc s) xs
+  pub at-state : (s : ℕ) → s < max-states → max (arcs-below s xs) (getD index (suc s) 0) ≡ arcs-below (suc s) xs
 
 -- The first-arc index of a transducer: at each state up to and with n, the number of arcs below it.
 pub record Indexed (t : Transducer) (index : List ℕ) : Type 0 where
-  pub long : length index ≡ 1025
+  pub long : length index ≡ max-states + 1
   pub at-state : (s : ℕ) → s ≤ t .states → getD index s 0 ≡ arcs-below s (t .arcs)
 
 -- A state's final weight and one more; 0 where it is not final.
@@ -43,5 +43,5 @@ final-code fs s = cond (is-final fs s) (final-weight fs s + 1) 0
 
 -- The final codes of the states by number.
 pub record Finals-by-state (t : Transducer) (codes : List ℕ) : Type 0 where
-  pub long : length codes ≡ 1024
-  pub at-state : (s : ℕ) → s < 1024 → getD codes s 0 ≡ final-code (t .finals) s
+  pub long : length codes ≡ max-states
+  pub at-state : (s : ℕ) → s < max-states → getD codes s 0 ≡ final-code (t .finals) s

@@ -6,8 +6,7 @@ use lib.ListN.{length, take}
 use Rattle.wire.specs.Bytes.{Bytes, filled}
 use Rattle.transducer.specs.declared.Header.{Header}
 use Rattle.transducer.specs.declared.Written.{Written}
-use Rattle.transducer.specs.Format.{max-states, max-arcs}
-use Rattle.transducer.specs.Encode.{max-bytes}
+use Rattle.transducer.specs.Format.{max-states, max-arcs, max-bytes}
 use Rattle.transducer.specs.Entry.{Read-says, read-refusal, Write-says, write-refusal, given}
 
 -- The four buffers that reading is lent, and the four runs that writing is handed.
