@@ -10,6 +10,7 @@ ghost use Rattle.transducer.specs.Entry.{final-of, arc-of};
 use crate::Arc;
 use crate::Checks;
 use crate::Final;
+use crate::sizes;
 
 const MAX_WEIGHT: u32 = 1000000;
 
@@ -140,7 +141,7 @@ pub fn check_finals(bytes: &[u8], at: usize, count: usize, n: u32, c: Checks) ->
             wire::u32_at(bytes, place),
             load_final(bytes, place),
         );
-        place += 10;
+        place += sizes::FINAL_BYTES;
         i += 1;
     }
     checks
@@ -190,7 +191,7 @@ fn plain_arcs(bytes: &[u8], at: usize, count: usize, n: u32, floor: u32) -> u32
         last = source;
         labels = labels | wire::u32_at(bytes, place + 6);
         weights = weights | wire::u32_at(bytes, place + 12);
-        place += 16;
+        place += sizes::ARC_BYTES;
         i += 1;
     }
     if n <= last {
@@ -230,7 +231,7 @@ fn check_each_arc(bytes: &[u8], at: usize, count: usize, n: u32, c: Checks) -> C
             wire::u32_at(bytes, place),
             load_arc(bytes, place),
         );
-        place += 16;
+        place += sizes::ARC_BYTES;
         i += 1;
     }
     checks

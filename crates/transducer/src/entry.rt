@@ -14,6 +14,7 @@ use crate::Header;
 use crate::Written;
 use crate::check;
 use crate::leaf;
+use crate::sizes;
 use crate::store;
 use crate::walk;
 
@@ -74,7 +75,7 @@ fn copy_fields(bytes: &[u8], at: usize, count: usize, out: &mut [u16])
         out[4 * i + 1] = a.input;
         out[4 * i + 2] = a.output;
         out[4 * i + 3] = a.target;
-        place += 16;
+        place += sizes::ARC_BYTES;
         i += 1;
     }
     wire::clear16(out, 4 * count);
@@ -97,26 +98,26 @@ pub fn read(
     if number != 0 {
         return refused(number);
     }
-    if final_states.len() < 1024 {
+    if final_states.len() < sizes::MAX_STATES {
         return refused(10);
     }
-    if final_weights.len() < 1024 {
+    if final_weights.len() < sizes::MAX_STATES {
         return refused(10);
     }
-    if fields.len() < 12288 {
+    if fields.len() < sizes::MAX_FIELDS {
         return refused(10);
     }
-    if arc_weights.len() < 3072 {
+    if arc_weights.len() < sizes::MAX_ARCS {
         return refused(10);
     }
     let head = leaf::header(bytes);
     let f = head.finals as usize;
     let m = head.arcs as usize;
     let first = 12 + 10 * f;
-    copy16(bytes, 16, 10, f, final_states);
-    copy32(bytes, 18, 10, f, final_weights);
+    copy16(bytes, 16, sizes::FINAL_BYTES, f, final_states);
+    copy32(bytes, 18, sizes::FINAL_BYTES, f, final_weights);
     copy_fields(bytes, first, m, fields);
-    copy32(bytes, first + 12, 16, m, arc_weights);
+    copy32(bytes, first + 12, sizes::ARC_BYTES, m, arc_weights);
     head
 }
 
@@ -125,7 +126,7 @@ fn put_finals(states: &[u16], weights: &[u32], count: usize, out: &mut [u8])
     requires { ⌜ (count ≤ length (now states)) × (count ≤ length (now weights)) × (12 + 10 * count ≤ length (now out)) ⌝ }
     ensures { λ _. ⌜ now (out .exit) ≡ sets (now (out .entry)) 12 (final-records (places count 0 1 (final-of (now (states .entry)) (now (weights .entry))))) ⌝ }
 {
-    let mut at = 12;
+    let mut at = sizes::HEAD_BYTES;
     let mut i = 0;
     while i < count {
         let f = Final {
@@ -133,7 +134,7 @@ fn put_finals(states: &[u16], weights: &[u32], count: usize, out: &mut [u8])
             weight: weights[i],
         };
         store::put_final(out, at, f);
-        at += 10;
+        at += sizes::FINAL_BYTES;
         i += 1;
     }
 }
@@ -147,7 +148,7 @@ fn put_arcs(fields: &[u16], weights: &[u32], count: usize, first: usize, out: &m
     let mut i = 0;
     while i < count {
         store::put_arc(out, at, check::given_arc(fields, weights, i));
-        at += 16;
+        at += sizes::ARC_BYTES;
         i += 1;
     }
 }
@@ -226,14 +227,14 @@ pub fn write(
             len: 0,
         };
     }
-    if out.len() < 59404 {
+    if out.len() < sizes::MAX_BYTES {
         return Written {
             refusal: 10,
             len: 0,
         };
     }
     let first = 12 + 10 * finals;
-    let end = first + 16 * arcs;
+    let end = first + sizes::ARC_BYTES * arcs;
     store::put_head(out, n as u16, m as u16, f as u16, start as u16);
     put_finals(final_states, final_weights, finals, out);
     put_arcs(fields, arc_weights, arcs, first, out);

@@ -2,6 +2,7 @@
 mod check;
 mod entry;
 mod leaf;
+mod sizes;
 mod store;
 mod walk;
 
@@ -17,6 +18,11 @@ pub use leaf::first_arcs_by_blocks;
 pub use leaf::header as head_of;
 pub use leaf::put_codes;
 pub use leaf::put_index;
+pub use sizes::ARC_BYTES;
+pub use sizes::MAX_ARCS;
+pub use sizes::MAX_BYTES;
+pub use sizes::MAX_STATES;
+pub use sizes::arcs_at;
 pub use store::put_arc;
 pub use store::put_final;
 pub use store::put_head;

@@ -8,16 +8,14 @@ ghost use Rattle.transducer.specs.Format.{framed, kinds-good, kind-good,
 ghost use Rattle.transducer.specs.Check.{all-checked, walked};
 use crate::Checks;
 use crate::check;
-
-const MAX_STATES: u32 = 1024;
-
-const MAX_ARCS: u32 = 3072;
+use crate::sizes;
 
 // 3: whether the head's numbers are in range.
 pub fn head_ok(n: u32, m: u32, f: u32, start: u32) -> bool
     ensures { λ r. ⌜ r ≡ head-good n m f start ⌝ }
 {
-    ((1 <= n) & (n <= MAX_STATES)) & ((m <= MAX_ARCS) & ((f <= n) & (start < n)))
+    ((1 <= n) & (n <= sizes::MAX_STATES as u32))
+        & ((m <= sizes::MAX_ARCS as u32) & ((f <= n) & (start < n)))
 }
 
 // 1: whether records follow one another to the very end.
@@ -53,7 +51,7 @@ fn kinds_ok(bytes: &[u8]) -> bool
         return false;
     }
     let mut after_arc = false;
-    let mut at: usize = 12;
+    let mut at: usize = sizes::HEAD_BYTES;
     while at < bytes.len() {
         let size = wire::u16_at(bytes, at) as usize;
         let kind = wire::u16_at(bytes, at + 2);
@@ -109,7 +107,7 @@ fn check_all(bytes: &[u8], n: u32, m: usize, f: usize) -> Checks
         weights: true,
         floor: 0,
     };
-    let finals = check::restart(check::check_finals(bytes, 12, f, n, none));
+    let finals = check::restart(check::check_finals(bytes, sizes::HEAD_BYTES, f, n, none));
     check::check_arcs(bytes, 12 + 10 * f, m, n, finals)
 }
 
@@ -117,7 +115,7 @@ fn check_all(bytes: &[u8], n: u32, m: usize, f: usize) -> Checks
 pub fn refusal(bytes: &[u8]) -> u32
     ensures { λ r. ⌜ r ≡ refusal (now (bytes .entry)) ⌝ }
 {
-    if bytes.len() < 12 {
+    if bytes.len() < sizes::HEAD_BYTES {
         return walk(bytes);
     }
     if wire::u32_at(bytes, 0) != 65544 {
