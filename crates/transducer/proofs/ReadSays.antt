@@ -12,7 +12,7 @@ use Rattle.wire.proofs.Places.{map-places}
 use Rattle.transducer.specs.declared.Arc.{Arc}
 use Rattle.transducer.specs.declared.Final.{Final}
 use Rattle.transducer.specs.declared.Header.{Header}
-use Rattle.transducer.specs.Format.{decode, refusal, head-arcs, head-finals, weight-at, final-at, arc-at}
+use Rattle.transducer.specs.Format.{decode, refusal, head-arcs, head-finals, weight-at, final-at, arc-at, arcs-at}
 use Rattle.transducer.specs.Leaf.{header-of}
 use Rattle.transducer.specs.Entry.{Read-says, read-refusal, read-room, or-else, unless, left-in, arc-fields}
 use Rattle.transducer.proofs.Copy.{places-shift}
@@ -117,15 +117,15 @@ module _ (bs : List ℕ) (bytes : Bytes bs) (ok : refusal bs ≡ 0) where
       rw (decode-arcs bs bytes ok, map-places (λ (a : Arc). a .weight) (head-arcs bs) (12 + 10 * head-finals bs) 16 (arc-at bs))
       (sym (places-shift (head-arcs bs) (12 + 10 * head-finals bs) 12 16 (four bs)))
 
-  pub says-read : {head : Header} {a a' b b' c c' d d' : List ℕ} → 1024 ≤ length a → 1024 ≤ length b → 12288 ≤ length c → 3072 ≤ length d →
-      head ≡ header-of bs →
+  pub says-read : {head : Header} {first : ℕ} {a a' b b' c c' d d' : List ℕ} → 1024 ≤ length a → 1024 ≤ length b → 12288 ≤ length c → 3072 ≤ length d →
+      head ≡ header-of bs → first ≡ arcs-at (head .finals) →
       a' ≡ filled (length a) (places (head .finals) 16 10 (two bs)) →
       b' ≡ filled (length b) (places (head .finals) 18 10 (four bs)) →
-      c' ≡ filled (length c) (arc-fields (places (head .arcs) (12 + 10 * head .finals) 16 (arc-at bs))) →
-      d' ≡ filled (length d) (places (head .arcs) (12 + 10 * head .finals + 12) 16 (four bs)) →
+      c' ≡ filled (length c) (arc-fields (places (head .arcs) first 16 (arc-at bs))) →
+      d' ≡ filled (length d) (places (head .arcs) (first + 12) 16 (four bs)) →
       Read-says bs (read-refusal bs (length a) (length b) (length c) (length d)) head a a' b b' c c' d d'
   unfolding read-refusal or-else header-of unless left-in
-  says-read {head} {a} {a'} {b} {b'} {c} {c'} {d} {d'} la lb lc ld h ea eb ec ed =
+  says-read {head} {first} {a} {a'} {b} {b'} {c} {c'} {d} {d'} la lb lc ld h place ea eb ec ed =
       rw (ok, long-enough (length a) (length b) (length c) (length d) la lb lc ld, h) (record {
         refusal-is = refl;
         states-is = sym (decode-states bs bytes ok);
@@ -134,6 +134,6 @@ module _ (bs : List ℕ) (bytes : Bytes bs) (ok : refusal bs ≡ 0) where
         start-is = sym (decode-start bs bytes ok);
         final-states = rw states-read (rw h at ea);
         final-weights = rw weights-read (rw h at eb);
-        fields = rw (decode-arcs bs bytes ok) (rw h at ec);
-        arc-weights = rw arc-weights-read (rw h at ed);
+        fields = rw (decode-arcs bs bytes ok) (rw (place, h) at ec);
+        arc-weights = rw arc-weights-read (rw (place, h) at ed);
       })

@@ -10,7 +10,7 @@ use lib.ListN.{length}
 use lib.Seq.{sets}
 use Rattle.wire.specs.Bytes.{places, filled, cleared}
 use Rattle.wire.proofs.Places.{length-places}
-use Rattle.transducer.specs.Format.{Transducer, head-good, content-refusal}
+use Rattle.transducer.specs.Format.{Transducer, arcs-at, head-good, content-refusal}
 use Rattle.transducer.specs.Encode.{head-record, final-records, arc-records, encode}
 use Rattle.transducer.specs.Entry.{Write-says, write-refusal, given, final-of, arc-of, too-few, or-else, unless, left-in}
 use Rattle.transducer.proofs.Good.{head-range}
@@ -103,13 +103,12 @@ module _ (n m f start : ℕ) (a b c d out : List ℕ) where
         unfolding write-refusal or-else
         says-0 room = rw (head, all, ← is, good, le-ltb (length out) 59404 room)
 
-        -- The head, the finals and the arcs stored, and zeros behind them.
-        pub says-all : {o1 o2 o3 o4 : List ℕ} → 59404 ≤ length out → o1 ≡ sets out 0 (head-record n m f start) →
+        says-stored : {o1 o2 o3 o4 : List ℕ} → 59404 ≤ length out → o1 ≡ sets out 0 (head-record n m f start) →
             o2 ≡ sets o1 12 (final-records (places f 0 1 (final-of a b))) → o3 ≡ sets o2 (12 + 10 * f) (arc-records (places m 0 1 (arc-of c d))) →
             o4 ≡ cleared (12 + 10 * f + 16 * m) o3 →
             Write-says (given n m f start a b c d) (write-refusal n m f start a b c d (length out)) (record { refusal = 0; len = 12 + 10 * f + 16 * m }) out o4
         unfolding given
-        says-all room h1 h2 h3 h4 =
+        says-stored room h1 h2 h3 h4 =
             let t = given n m f start a b c d in
             let finals : length (t .finals) ≡ f = length-places f 0 1 (final-of a b) in
             let arcs : length (t .arcs) ≡ m = length-places m 0 1 (arc-of c d) in
@@ -117,3 +116,10 @@ module _ (n m f start : ℕ) (a b c d out : List ℕ) where
             let fits : 12 + 10 * f + 16 * m ≤ length out = omega (arith, head-range n m f start head) in
             says-written t (write-refusal n m f start a b c d (length out)) (12 + 10 * f + 16 * m) out _ (says-0 room) (sym long)
             (cleared-sets (encode t) out (12 + 10 * f + 16 * m) long fits (sets-encode t out f m finals arcs h1 h2 h3) h4)
+
+        -- The head, the finals and the arcs stored, and zeros behind them.
+        pub says-all : {first : ℕ} {o1 o2 o3 o4 : List ℕ} → 59404 ≤ length out → first ≡ arcs-at f → o1 ≡ sets out 0 (head-record n m f start) →
+            o2 ≡ sets o1 12 (final-records (places f 0 1 (final-of a b))) → o3 ≡ sets o2 first (arc-records (places m 0 1 (arc-of c d))) →
+            o4 ≡ cleared (first + 16 * m) o3 →
+            Write-says (given n m f start a b c d) (write-refusal n m f start a b c d (length out)) (record { refusal = 0; len = first + 16 * m }) out o4
+        says-all room place h1 h2 h3 h4 = rw place (says-stored room h1 h2 (rw place at h3) (rw place at h4))

@@ -4,7 +4,7 @@ ghost use Prim.Native.Nat.{ℕ, _+_, _*_, _≤_, _<_};
 ghost use lib.ListN.{length};
 ghost use lib.Seq.{sets};
 ghost use Rattle.wire.specs.Bytes.{two, four, places, filled};
-ghost use Rattle.transducer.specs.Format.{arc-at, content-refusal};
+ghost use Rattle.transducer.specs.Format.{arcs-at, arc-at, content-refusal};
 ghost use Rattle.transducer.specs.Encode.{final-records, arc-records};
 ghost use Rattle.transducer.specs.Entry.{Read-says, read-refusal, Write-says, write-refusal, given, arc-fields, final-of, arc-of};
 use crate::Arc;
@@ -113,7 +113,7 @@ pub fn read(
     let head = leaf::header(bytes);
     let f = head.finals as usize;
     let m = head.arcs as usize;
-    let first = 12 + 10 * f;
+    let first = sizes::arcs_at(f);
     copy16(bytes, 16, sizes::FINAL_BYTES, f, final_states);
     copy32(bytes, 18, sizes::FINAL_BYTES, f, final_weights);
     copy_fields(bytes, first, m, fields);
@@ -123,7 +123,7 @@ pub fn read(
 
 // Writes `count` final records from two runs at 12.
 fn put_finals(states: &[u16], weights: &[u32], count: usize, out: &mut [u8])
-    requires { ⌜ (count ≤ length (now states)) × (count ≤ length (now weights)) × (12 + 10 * count ≤ length (now out)) ⌝ }
+    requires { ⌜ (count ≤ length (now states)) × (count ≤ length (now weights)) × (arcs-at count ≤ length (now out)) ⌝ }
     ensures { λ _. ⌜ now (out .exit) ≡ sets (now (out .entry)) 12 (final-records (places count 0 1 (final-of (now (states .entry)) (now (weights .entry))))) ⌝ }
 {
     let mut at = sizes::HEAD_BYTES;
@@ -233,7 +233,7 @@ pub fn write(
             len: 0,
         };
     }
-    let first = 12 + 10 * finals;
+    let first = sizes::arcs_at(finals);
     let end = first + sizes::ARC_BYTES * arcs;
     store::put_head(out, n as u16, m as u16, f as u16, start as u16);
     put_finals(final_states, final_weights, finals, out);

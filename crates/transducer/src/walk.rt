@@ -4,7 +4,7 @@ ghost use mathlib.Core.Path.{_≡_};
 ghost use mathlib.Core.Bool.{true, false};
 ghost use Prim.Native.Nat.{ℕ, _+_, _*_, _≤_, _<_};
 ghost use lib.ListN.{length};
-ghost use Rattle.transducer.specs.Format.{framed, kinds-good, kind-good, records, head-good, refusal};
+ghost use Rattle.transducer.specs.Format.{framed, kinds-good, kind-good, records, head-good, refusal, arcs-at, arc-bytes};
 ghost use Rattle.transducer.specs.Check.{all-checked, walked};
 use crate::Checks;
 use crate::check;
@@ -96,7 +96,7 @@ fn walk(bytes: &[u8]) -> u32
 
 // The tests of all records at the places that the head gives.
 fn check_all(bytes: &[u8], n: u32, m: usize, f: usize) -> Checks
-    requires { ⌜ length (now bytes) ≡ 12 + 10 * f + 16 * m ⌝ }
+    requires { ⌜ (length (now bytes) ≡ arcs-at f + arc-bytes * m) × (f < 65536) ⌝ }
     ensures { λ r. ⌜ r ≡ all-checked (now (bytes .entry)) n m f ⌝ }
 {
     let none = Checks {
@@ -108,7 +108,7 @@ fn check_all(bytes: &[u8], n: u32, m: usize, f: usize) -> Checks
         floor: 0,
     };
     let finals = check::restart(check::check_finals(bytes, sizes::HEAD_BYTES, f, n, none));
-    check::check_arcs(bytes, 12 + 10 * f, m, n, finals)
+    check::check_arcs(bytes, sizes::arcs_at(f), m, n, finals)
 }
 
 // Refusals 1 to 8 of bytes, or 0 where they are accepted.
@@ -128,7 +128,7 @@ pub fn refusal(bytes: &[u8]) -> u32
     if !head_ok(n, m, f, start) {
         return walk(bytes);
     }
-    if bytes.len() != 12 + 10 * (f as usize) + 16 * (m as usize) {
+    if bytes.len() != sizes::arcs_at(f as usize) + sizes::ARC_BYTES * (m as usize) {
         return walk(bytes);
     }
     let c = check_all(bytes, n, m as usize, f as usize);

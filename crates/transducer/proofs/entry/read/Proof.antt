@@ -21,7 +21,7 @@ abbrev tested : tie.Else5 → tie.After-refusal
 tested c = c .before .before .before .before .before
 
 abbrev at-head : tie.After-copy16-arg → tie.After-header
-at-head c = c .before .before .before
+at-head c = c .before .before .before .before
 
 abbrev copy-1 : tie.After-copy32-arg → tie.After-copy16-arg
 copy-1 c = c .before .before .before .before
@@ -102,11 +102,8 @@ cast-f c = search needs
 cast-m : tie.Need-cast-m
 cast-m c = search needs
 
-mul-first : tie.Need-mul-first
-mul-first c = omega (arith, head-counted (c .before .before))
-
-add-first : tie.Need-add-first
-add-first c = omega (arith, head-counted (c .before .before))
+arcs-at-requires : tie.Need-arcs-at-requires
+arcs-at-requires c κs = omega (arith, head-counted (c .before .before))
 
 copy16-requires : tie.Need-copy16-requires
 copy16-requires c κs = let head = at-head c in omega (arith, head-counted head, head .before .before .before .before .if2 .left)
@@ -115,13 +112,21 @@ copy32-requires : tie.Need-copy32-requires
 copy32-requires c κs = let head = at-head (copy-1 c) in omega (arith, head-counted head, head .before .before .before .if3 .left)
 
 copy-fields-requires : tie.Need-copy-fields-requires
-copy-fields-requires c κs = let head = at-head (copy-1 (copy-2 c)) in omega (arith, head-counted head, head .before .before .if4 .left)
+copy-fields-requires c κs =
+    let start = copy-1 (copy-2 c) in
+    let head = at-head start in
+    omega (arith, head-counted head, start .before .arcs-at .ensures, head .before .before .if4 .left)
 
 add-copy32 : tie.Need-add-copy32
-add-copy32 c = omega (arith, head-counted (at-head (copy-1 (copy-2 (c .before .before .before)))))
+add-copy32 c =
+    let start = copy-1 (copy-2 (c .before .before .before)) in
+    omega (arith, head-counted (at-head start), start .before .arcs-at .ensures)
 
 copy32-requires-2 : tie.Need-copy32-requires-2
-copy32-requires-2 c κs = let head = at-head (copy-1 (copy-2 (copy-3 c))) in omega (arith, head-counted head, head .before .if5 .left)
+copy32-requires-2 c κs =
+    let start = copy-1 (copy-2 (copy-3 c)) in
+    let head = at-head start in
+    omega (arith, head-counted head, start .before .arcs-at .ensures, head .before .if5 .left)
 
 same-length : tie.Need-same-length
 same-length c = search needs
@@ -141,6 +146,7 @@ returns-6 c =
     let third = copy-3 fourth in
     let second = copy-2 third in
     let head = at-head (copy-1 second) in
+    let first-arc = copy-1 second .before .arcs-at in
     let passed = head .before in
     says-read (bytes-of passed) (is-bytes passed) (accepted passed)
     (passed .before .before .before .if2 .left)
@@ -148,6 +154,7 @@ returns-6 c =
     (passed .before .if4 .left)
     (passed .if5 .left)
     (head .header .ensures)
+    (first-arc .ensures)
     (second .before .before .before .copy16 .ensures)
     (third .before .before .before .copy32 .ensures)
     (fourth .before .before .before .copy-fields .ensures)
@@ -171,8 +178,7 @@ read-spec =
     header-requires
     cast-f
     cast-m
-    mul-first
-    add-first
+    arcs-at-requires
     copy16-requires
     copy32-requires
     copy-fields-requires

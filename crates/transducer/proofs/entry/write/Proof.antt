@@ -22,7 +22,7 @@ abbrev fifth : tie.Else7 → tie.Else5
 fifth c = c .before .before .before
 
 abbrev seventh : tie.After-put-head → tie.Else7
-seventh c = c .before .before
+seventh c = c .before .before .before
 
 abbrev head-put : tie.After-put-finals → tie.After-put-head
 head-put c = c .before .before .before .before
@@ -92,11 +92,8 @@ returns-7 c =
     says-10 _ _ _ _ _ _ _ _ _ (head-is-good (first here)) (enough here) (tested .result) (tested .ensures (entry (first here) .args .start))
     (c .before .if6 .left) (c .if7 .taken)
 
-mul-first : tie.Need-mul-first
-mul-first c = search needs
-
-add-first : tie.Need-add-first
-add-first c = search needs
+arcs-at-requires : tie.Need-arcs-at-requires
+arcs-at-requires c κs = omega (arith, range (first (fifth c)))
 
 mul-end : tie.Need-mul-end
 mul-end c = search needs
@@ -105,16 +102,16 @@ add-end : tie.Need-add-end
 add-end c = search needs
 
 cast-put-head : tie.Need-cast-put-head
-cast-put-head c = omega (arith, range (first (fifth (c .before))))
+cast-put-head c = omega (arith, range (first (fifth (c .before .before))))
 
 cast-put-head-2 : tie.Need-cast-put-head-2
-cast-put-head-2 c = omega (arith, range (first (fifth (c .before))))
+cast-put-head-2 c = omega (arith, range (first (fifth (c .before .before))))
 
 cast-put-head-3 : tie.Need-cast-put-head-3
-cast-put-head-3 c = omega (arith, range (first (fifth (c .before))))
+cast-put-head-3 c = omega (arith, range (first (fifth (c .before .before))))
 
 cast-put-head-4 : tie.Need-cast-put-head-4
-cast-put-head-4 c = omega (arith, range (first (fifth (c .before))))
+cast-put-head-4 c = omega (arith, range (first (fifth (c .before .before))))
 
 put-head-requires : tie.Need-put-head-requires
 put-head-requires c κs = search needs
@@ -149,7 +146,8 @@ returns-8 c =
     let here = seventh head in
     let tested = here .before .before .content-number in
     says-all _ _ _ _ _ _ _ _ _ (head-is-good (first (fifth here))) (enough (fifth here)) (tested .result)
-    (tested .ensures (entry (first (fifth here)) .args .start)) (here .before .if6 .left) (here .if7 .left) (head .put-head .ensures)
+    (tested .ensures (entry (first (fifth here)) .args .start)) (here .before .if6 .left) (here .if7 .left) (head .before .before .arcs-at .ensures)
+    (head .put-head .ensures)
     (finals .put-finals .ensures) (arcs .put-arcs .ensures) (cleared .clear8 .ensures)
 
 pub write-spec : {M : Type 1} → statement M
@@ -166,8 +164,7 @@ write-spec =
     content-number-requires
     returns-6
     returns-7
-    mul-first
-    add-first
+    arcs-at-requires
     mul-end
     add-end
     cast-put-head

@@ -10,18 +10,16 @@ check-finals-requires c κs = search needs
 restart-requires : tie.Need-restart-requires
 restart-requires c κs = search needs
 
-mul-check-arcs : tie.Need-mul-check-arcs
-mul-check-arcs c = search needs
-
-add-check-arcs : tie.Need-add-check-arcs
-add-check-arcs c = search needs
+arcs-at-requires : tie.Need-arcs-at-requires
+arcs-at-requires c κs = search needs
 
 check-arcs-requires : tie.Need-check-arcs-requires
 check-arcs-requires c κs = search needs
 
 returns : tie.Need-returns
 unfolding all-checked
-returns c = rw (c .check-arcs .ensures, c .before .restart .ensures, c .before .before .check-finals .ensures)
+returns c =
+    rw (c .check-arcs .ensures, c .before .arcs-at .ensures, c .before .before .restart .ensures, c .before .before .before .check-finals .ensures)
 
 pub check-all-spec : {M : Type 1} → statement M
 check-all-spec =
@@ -29,7 +27,6 @@ check-all-spec =
     (tie.spec
     check-finals-requires
     restart-requires
-    mul-check-arcs
-    add-check-arcs
+    arcs-at-requires
     check-arcs-requires
     returns)

@@ -77,6 +77,12 @@ returns-3 c =
     rw (← n, ← m, ← f, ← start) (sym (c .before .before .head-ok .ensures) ∙ not-true (c .before .before .head-ok .result) (c .before .if3 .taken)) in
     c .walk3 .ensures ∙ sym (refused-head bs bad)
 
+cast-arcs-at : tie.Need-cast-arcs-at
+cast-arcs-at c = search needs
+
+arcs-at-requires : tie.Need-arcs-at-requires
+arcs-at-requires c κs = search needs
+
 cast-if4 : tie.Need-cast-if4
 cast-if4 c = search needs
 
@@ -86,28 +92,19 @@ mul-if4 c = search needs
 add-if4 : tie.Need-add-if4
 add-if4 c = search needs
 
-cast-if4-2 : tie.Need-cast-if4-2
-cast-if4-2 c = search needs
-
-mul-if4-2 : tie.Need-mul-if4-2
-mul-if4-2 c = search needs
-
-add-if4-2 : tie.Need-add-if4-2
-add-if4-2 c = search needs
-
 walk-requires-4 : tie.Need-walk-requires-4
 walk-requires-4 c κs = search needs
 
 returns-4 : tie.Need-returns-4
 unfolding head-states head-arcs head-finals head-start
 returns-4 c =
-    let bs = c .before .before .before .before .before .before .before .before .before .before .before .before .args .bytes .now in
-    let b : Bytes bs = λ i. c .before .before .before .before .before .before .before .before .before .before .before .shared-slice-known .given i .fits in
-    let n : c .before .before .before .before .before .before .before .u16-at .result ≡ head-states bs = c .before .before .before .before .before .before .before .u16-at .ensures in
-    let m : c .before .before .before .before .before .before .u16-at2 .result ≡ head-arcs bs = c .before .before .before .before .before .before .u16-at2 .ensures in
-    let f : c .before .before .before .before .before .u16-at3 .result ≡ head-finals bs = c .before .before .before .before .before .u16-at3 .ensures in
-    let start : c .before .before .before .before .u16-at4 .result ≡ head-start bs = c .before .before .before .before .u16-at4 .ensures in
-    c .walk4 .ensures ∙ sym (refused-long bs b (λ e. c .before .if4 .taken (rw (f, m) e)))
+    let bs = c .before .before .before .before .before .before .before .before .before .before .before .before .before .args .bytes .now in
+    let b : Bytes bs = λ i. c .before .before .before .before .before .before .before .before .before .before .before .before .shared-slice-known .given i .fits in
+    let n : c .before .before .before .before .before .before .before .before .u16-at .result ≡ head-states bs = c .before .before .before .before .before .before .before .before .u16-at .ensures in
+    let m : c .before .before .before .before .before .before .before .u16-at2 .result ≡ head-arcs bs = c .before .before .before .before .before .before .before .u16-at2 .ensures in
+    let f : c .before .before .before .before .before .before .u16-at3 .result ≡ head-finals bs = c .before .before .before .before .before .before .u16-at3 .ensures in
+    let start : c .before .before .before .before .before .u16-at4 .result ≡ head-start bs = c .before .before .before .before .before .u16-at4 .ensures in
+    c .walk4 .ensures ∙ sym (refused-long bs b (λ e. c .before .if4 .taken (rw (c .before .before .arcs-at .ensures, f, m) e)))
 
 cast-check-all : tie.Need-cast-check-all
 cast-check-all c = search needs
@@ -124,12 +121,12 @@ walk-requires-5 c κs = search needs
 returns-5 : tie.Need-returns-5
 unfolding head-states head-arcs head-finals head-start
 returns-5 c =
-    let bs = c .before .before .before .before .before .before .before .before .before .before .before .before .before .before .before .args .bytes .now in
-    let b : Bytes bs = λ i. c .before .before .before .before .before .before .before .before .before .before .before .before .before .before .shared-slice-known .given i .fits in
-    let n : c .before .before .before .before .before .before .before .before .before .before .u16-at .result ≡ head-states bs = c .before .before .before .before .before .before .before .before .before .before .u16-at .ensures in
-    let m : c .before .before .before .before .before .before .before .before .before .u16-at2 .result ≡ head-arcs bs = c .before .before .before .before .before .before .before .before .before .u16-at2 .ensures in
-    let f : c .before .before .before .before .before .before .before .before .u16-at3 .result ≡ head-finals bs = c .before .before .before .before .before .before .before .before .u16-at3 .ensures in
-    let start : c .before .before .before .before .before .before .before .u16-at4 .result ≡ head-start bs = c .before .before .before .before .before .before .before .u16-at4 .ensures in
+    let bs = c .before .before .before .before .before .before .before .before .before .before .before .before .before .before .before .before .args .bytes .now in
+    let b : Bytes bs = λ i. c .before .before .before .before .before .before .before .before .before .before .before .before .before .before .before .shared-slice-known .given i .fits in
+    let n : c .before .before .before .before .before .before .before .before .before .before .before .u16-at .result ≡ head-states bs = c .before .before .before .before .before .before .before .before .before .before .before .u16-at .ensures in
+    let m : c .before .before .before .before .before .before .before .before .before .before .u16-at2 .result ≡ head-arcs bs = c .before .before .before .before .before .before .before .before .before .before .u16-at2 .ensures in
+    let f : c .before .before .before .before .before .before .before .before .before .u16-at3 .result ≡ head-finals bs = c .before .before .before .before .before .before .before .before .before .u16-at3 .ensures in
+    let start : c .before .before .before .before .before .before .before .before .u16-at4 .result ≡ head-start bs = c .before .before .before .before .before .before .before .before .u16-at4 .ensures in
     let bad : all-checked bs (head-states bs) (head-arcs bs) (head-finals bs) .heads ≡ false =
     rw (← n, ← m, ← f) (sym (ap (λ (k : _). k .heads) (c .before .before .before .check-all .ensures)) ∙ not-true _ (c .before .if5 .taken)) in
     c .walk5 .ensures ∙ sym (refused-heads bs b bad)
@@ -140,19 +137,20 @@ number-requires c κs = search needs
 returns-6 : tie.Need-returns-6
 unfolding head-states head-arcs head-finals head-start
 returns-6 c =
-    let bs = c .before .before .before .before .before .before .before .before .before .before .before .before .before .before .before .args .bytes .now in
-    let b : Bytes bs = λ i. c .before .before .before .before .before .before .before .before .before .before .before .before .before .before .shared-slice-known .given i .fits in
-    let n : c .before .before .before .before .before .before .before .before .before .before .u16-at .result ≡ head-states bs = c .before .before .before .before .before .before .before .before .before .before .u16-at .ensures in
-    let m : c .before .before .before .before .before .before .before .before .before .u16-at2 .result ≡ head-arcs bs = c .before .before .before .before .before .before .before .before .before .u16-at2 .ensures in
-    let f : c .before .before .before .before .before .before .before .before .u16-at3 .result ≡ head-finals bs = c .before .before .before .before .before .before .before .before .u16-at3 .ensures in
-    let start : c .before .before .before .before .before .before .before .u16-at4 .result ≡ head-start bs = c .before .before .before .before .before .before .before .u16-at4 .ensures in
+    let bs = c .before .before .before .before .before .before .before .before .before .before .before .before .before .before .before .before .args .bytes .now in
+    let b : Bytes bs = λ i. c .before .before .before .before .before .before .before .before .before .before .before .before .before .before .before .shared-slice-known .given i .fits in
+    let n : c .before .before .before .before .before .before .before .before .before .before .before .u16-at .result ≡ head-states bs = c .before .before .before .before .before .before .before .before .before .before .before .u16-at .ensures in
+    let m : c .before .before .before .before .before .before .before .before .before .before .u16-at2 .result ≡ head-arcs bs = c .before .before .before .before .before .before .before .before .before .before .u16-at2 .ensures in
+    let f : c .before .before .before .before .before .before .before .before .before .u16-at3 .result ≡ head-finals bs = c .before .before .before .before .before .before .before .before .before .u16-at3 .ensures in
+    let start : c .before .before .before .before .before .before .before .before .u16-at4 .result ≡ head-start bs = c .before .before .before .before .before .before .before .before .u16-at4 .ensures in
     let good : head-good (head-states bs) (head-arcs bs) (head-finals bs) (head-start bs) ≡ true =
-    rw (← n, ← m, ← f, ← start) (sym (c .before .before .before .before .before .before .head-ok .ensures) ∙ not-false (c .before .before .before .before .before .before .head-ok .result) (c .before .before .before .before .before .if3 .left)) in
-    let long : length bs ≡ 12 + 10 * head-finals bs + 16 * head-arcs bs = rw (← f, ← m) (c .before .before .before .before .if4 .left) in
+    rw (← n, ← m, ← f, ← start) (sym (c .before .before .before .before .before .before .before .head-ok .ensures) ∙ not-false (c .before .before .before .before .before .before .before .head-ok .result) (c .before .before .before .before .before .before .if3 .left)) in
+    let long : length bs ≡ 12 + 10 * head-finals bs + 16 * head-arcs bs =
+    rw (← f, ← m, ← c .before .before .before .before .before .arcs-at .ensures) (c .before .before .before .before .if4 .left) in
     let is : c .before .before .before .check-all .result ≡ all-checked bs (head-states bs) (head-arcs bs) (head-finals bs) = rw (← n, ← m, ← f) (c .before .before .before .check-all .ensures) in
     let heads : all-checked bs (head-states bs) (head-arcs bs) (head-finals bs) .heads ≡ true =
     ap (λ (k : _). k .heads) (sym is) ∙ not-false _ (c .before .if5 .left) in
-    c .number .ensures ∙ rw is (refusal-checked bs b (sym (c .before .before .before .before .before .before .before .before .before .before .before .before .u32-at .ensures) ∙ c .before .before .before .before .before .before .before .before .before .before .before .if2 .left) good long heads)
+    c .number .ensures ∙ rw is (refusal-checked bs b (sym (c .before .before .before .before .before .before .before .before .before .before .before .before .before .u32-at .ensures) ∙ c .before .before .before .before .before .before .before .before .before .before .before .before .if2 .left) good long heads)
 
 pub refusal-spec : {M : Type 1} → statement M
 refusal-spec =
@@ -174,12 +172,11 @@ refusal-spec =
     head-ok-requires
     walk-requires-3
     returns-3
+    cast-arcs-at
+    arcs-at-requires
     cast-if4
     mul-if4
     add-if4
-    cast-if4-2
-    mul-if4-2
-    add-if4-2
     walk-requires-4
     returns-4
     cast-check-all
