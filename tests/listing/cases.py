@@ -19,6 +19,7 @@ from path_model import cost, endless, paths
 from rows import sound
 
 MOST_READ = 65536
+LONGEST = 602898  # bytes of the longest text
 
 
 def labels(*codes):
@@ -136,16 +137,20 @@ def run(program, files):
 
 def main():
     program = Path(sys.argv[1] if len(sys.argv) > 1 else ROOT / "target/bin/list").resolve()
-    wrong = total = 0
+    wrong = total = longest_met = 0
     for name, first, *files in cases():
         want = listing(*(data or b"" for data in files))
         if want.split("\n")[0] != first:
             sys.exit(f"{name}: the case says {first}, the model {want!r}")
         got = run(program, files)
         total += 1
+        longest_met = max(longest_met, len(got))
         if got != want.encode():
             print(f"{name}: expected {want.encode()[:80]}, printed {got[:80]}")
             wrong += 1
+    if longest_met != LONGEST:
+        print(f"the longest text has {longest_met} bytes, not {LONGEST}")
+        wrong += 1
     if wrong:
         sys.exit(1)
     print(f"{total} listings as expected")

@@ -248,6 +248,14 @@ pub fn line_down(n: usize, input: u16, output: u16, w: u32) -> Draft {
     Draft::new(n, n - 1, &[(0, 1)], &arcs)
 }
 
+/// 98 paths of 1,023 arcs that read nothing, of the greatest weights, each
+/// arc writing a label of five digits: no listing is longer than theirs.
+pub fn longest() -> Draft {
+    let mut arcs = vec![(0, 0, 65_534, 1, 1_000_000); 98];
+    arcs.extend((1..1_023).map(|s| (s, 0, 65_534, s + 1, 1_000_000)));
+    Draft::new(1_024, 0, &[(1_023, 1_000_000)], &arcs)
+}
+
 pub fn loops(count: usize, input: u16, output: u16, w: u32) -> Draft {
     let arcs = vec![(0, input, output, 0, w); count];
     Draft::new(1, 0, &[(0, 0)], &arcs)

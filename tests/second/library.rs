@@ -64,7 +64,8 @@ extern "C" {
         lattice: *mut u8, lattice_len: usize, lattice_origins: *mut u16, lattice_origins_len: usize,
         pairs: *mut u32, pairs_len: usize, count: *mut u32) -> u32;
     fn forthwn_list(left: *const u8, left_len: usize, right: *const u8, right_len: usize,
-        code: *const u8, code_len: usize, out: *mut u8, out_cap: usize, out_len: *mut u32) -> u32;
+        code: *const u8, code_len: usize, out: *mut u8, out_cap: usize, out_len: *mut u32,
+        said: *mut u32) -> u32;
 }
 
 #[cfg(any(have_all, have_first))]
@@ -193,13 +194,14 @@ pub use crate::model::readings;
 
 #[cfg(any(have_all, have_list))]
 #[rustfmt::skip]
-pub fn list(left: &[u8], right: &[u8], code: &[u8], out: &mut [u8]) -> (u32, u32) {
+pub fn list(left: &[u8], right: &[u8], code: &[u8], out: &mut [u8]) -> (u32, u32, u32) {
     let mut length = DIRTY;
+    let mut said = DIRTY;
     let refused = unsafe {
         forthwn_list(left.as_ptr(), left.len(), right.as_ptr(), right.len(),
-            code.as_ptr(), code.len(), out.as_mut_ptr(), out.len(), &mut length)
+            code.as_ptr(), code.len(), out.as_mut_ptr(), out.len(), &mut length, &mut said)
     };
-    (refused, length)
+    (refused, length, said)
 }
 #[cfg(not(any(have_all, have_list)))]
 pub use crate::model::list;

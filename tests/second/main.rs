@@ -411,7 +411,7 @@ impl Run {
         let m = tried::list(left, right, &code, out.m());
         let o = other::list(left, right, &code, out.o());
         let inputs: [(&str, &[u8]); 3] = [("left", left), ("right", right), ("code", &code)];
-        self.compare(10, m.0, (m, o), &inputs, &[&out])
+        self.compare(10, m.0.max(m.2), (m, o), &inputs, &[&out])
     }
 
     /// What a table's writing is given: its numbers, with something behind
@@ -640,6 +640,23 @@ fn usage(message: &str) -> ! {
     std::process::exit(2);
 }
 
+/// The longest text of all takes a buffer of the least length to its last
+/// byte; with one byte less the call is refused and the buffer kept.
+fn longest_text() -> Result<(), String> {
+    let (left, right) = (cases::Draft::new(1, 0, &[(0, 0)], &[]).bytes(), cases::longest().bytes());
+    let mut text = vec![1; 602_898];
+    let told = other::list(&left, &right, &[], &mut text);
+    if told != (0, 602_898, 0) || text != model::listing(&left, &right, &[]).as_bytes() {
+        return Err(format!("in the least room {told:?}"));
+    }
+    let mut short = vec![1; 602_897];
+    let told = other::list(&left, &right, &[], &mut short);
+    if told != (10, 0, 0) || short.iter().any(|&x| x != 1) {
+        return Err(format!("in a byte less {told:?}"));
+    }
+    Ok(())
+}
+
 fn check_library(seed: u64, range: std::ops::Range<usize>, trace: bool, out: &Path) -> bool {
     let linked: Vec<_> = (0..CALLS.len()).filter(|&i| HAVE[i]).map(|i| CALLS[i]).collect();
     if linked.is_empty() {
@@ -652,6 +669,12 @@ fn check_library(seed: u64, range: std::ops::Range<usize>, trace: bool, out: &Pa
         return false;
     }
     println!("lent buffers: read, written and read again; each a cell short");
+    if HAVE[10] {
+        if let Err(e) = longest_text() {
+            println!("the longest text FAILED: {e}");
+            return false;
+        }
+    }
     let mut fixed: Vec<_> = cases::fixed().into_iter().map(Some).collect();
     let single = range.len() == 1;
     let mut run = Run { rng: Rng::new(seed, 0), seen: [[0; 17]; 11], trace };

@@ -785,9 +785,9 @@ pub fn readings(
 
 // -------------------------------------------------------------- listing
 
-/// The longest text: its first line, and 98 lines of a number of two digits,
-/// a cost of ten and 1,023 labels of five.
-pub const TEXT_BYTES: usize = "readings 98\n".len() + 98 * ("97 1024000000\n".len() + 1_023 * " 65534".len());
+/// The longest text: its first line, and 98 lines of a number of one digit in
+/// ten of them and two in the others, a cost of ten and 1,023 labels of five.
+pub const TEXT_BYTES: usize = "readings 98\n".len() + 98 * ("97 1024000000\n".len() + 1_023 * " 65534".len()) - 10;
 
 /// The refusal of a listing and its text, a code being the bytes of its file.
 fn listed(left: &[u8], right: &[u8], code: &[u8]) -> (u32, String) {
@@ -836,15 +836,16 @@ pub fn listing(left: &[u8], right: &[u8], code: &[u8]) -> String {
     listed(&up_to(left), &up_to(right), &up_to(code)).1
 }
 
-/// The listing as a call. A buffer that is too short stays as it was, before
-/// all else; every other refusal is told and is a text as well.
-pub fn list(left: &[u8], right: &[u8], code: &[u8], out: &mut [u8]) -> (u32, u32) {
+/// The listing as a call: its refusal, the text's length, and the refusal
+/// that the text says. A buffer that is too short stays as it was, before all
+/// else; nothing else refuses the call.
+pub fn list(left: &[u8], right: &[u8], code: &[u8], out: &mut [u8]) -> (u32, u32, u32) {
     if out.len() < TEXT_BYTES {
-        return (10, 0);
+        return (10, 0, 0);
     }
-    let (refused, text) = listed(left, right, code);
+    let (said, text) = listed(left, right, code);
     fill(out, text.as_bytes());
-    (refused, text.len() as u32)
+    (0, text.len() as u32, said)
 }
 
 // ------------------------------------------------- brute-force enumeration

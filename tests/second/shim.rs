@@ -109,8 +109,9 @@ pub unsafe extern "C" fn forthwn_readings(left: *const u8, left_n: usize, right:
 #[no_mangle]
 #[rustfmt::skip]
 pub unsafe extern "C" fn forthwn_list(left: *const u8, left_n: usize, right: *const u8, right_n: usize,
-    code: *const u8, code_n: usize, out: *mut u8, out_n: usize, length: *mut u32) -> u32 {
-    let (r, x) = model::list(view(left, left_n), view(right, right_n), view(code, code_n), lent(out, out_n));
+    code: *const u8, code_n: usize, out: *mut u8, out_n: usize, length: *mut u32, said: *mut u32) -> u32 {
+    let (r, x, y) = model::list(view(left, left_n), view(right, right_n), view(code, code_n), lent(out, out_n));
     *length = x;
+    *said = y;
     r
 }

@@ -1,13 +1,14 @@
 -- How long the parts of a listing are at most. Assumes nothing.
-use mathlib.Core.Path.{_≡_}
+use mathlib.Core.Path.{_≡_, refl, ap, _∙_}
 use mathlib.Core.Bool.{Bool, true, false, cond}
 use mathlib.Core.List.{List, [], _∷_, _++_, append-assoc, append-nil}
-use Prim.Native.Nat.{ℕ, zero, suc, _+_, _*_, _≤_, _<_}
+use Prim.Native.Nat.{ℕ, zero, suc, _+_, _*_, _≤_, _<_, min}
 use native.Mathlib.Numerals.{add-one}
 use native.Mathlib.Omega.{arith}
-use lib.Dec.{eqb}
+use borrow.Author.Tests.{ltb-true, ltb-false}
+use lib.Dec.{eqb, ltb}
 use lib.ListN.{length, getD, take, length-append}
-use lib.Seq.{take-suc, length-take-le}
+use lib.Seq.{take-suc}
 use Rattle.transducer.specs.Format.{Transducer}
 use Rattle.transducer.specs.Path.{arc, no-arc, non-empty, ends, final-weight, written-by, arcs-cost, path-cost}
 use Rattle.transducer.proofs.Good.{arc-weight-most, arc-labels-below, final-weight-most}
@@ -18,7 +19,7 @@ use Rattle.paths.proofs.Telling.{final-weight-low}
 use Rattle.paths.proofs.NthPath.{nth-path-accepts, nth-path-short, path-count-listed}
 use Rattle.listing.specs.Text.{Wrote, decimal, labels-text, line, line-of, lines, refused-word, refused-text}
 use Rattle.listing.proofs.Wrote.{wrote-none, wrote-then}
-use Rattle.listing.proofs.Decimal.{two-digits, five-digits, ten-digits}
+use Rattle.listing.proofs.Decimal.{length-decimal-small, two-digits, five-digits, ten-digits}
 
 -- Labels
 
@@ -46,26 +47,31 @@ labels-text-short (x ∷ xs) h =
     let rest : length (labels-text xs) ≤ 6 * length xs = labels-text-short xs (λ i. h (suc i)) in
     rw (length-append (decimal x) (labels-text xs)) (omega arith)
 
-take-below : (m n : ℕ) (xs : List ℕ) → 0 < m → ((i : ℕ) → getD xs i 0 < m) → (i : ℕ) → getD (take n xs) i 0 < m
-take-below m zero xs p h i = p
-take-below m (suc n) [] p h i = p
-take-below m (suc n) (x ∷ xs) p h zero = h 0
-take-below m (suc n) (x ∷ xs) p h (suc i) = take-below m n xs p (λ j. h (suc j)) i
+-- Fewer labels are no longer.
+pub labels-text-mono : (i n : ℕ) (xs : List ℕ) → i ≤ n → length (labels-text (take i xs)) ≤ length (labels-text (take n xs))
+unfolding labels-text
+labels-text-mono zero n xs h = omega arith
+labels-text-mono (suc i) zero xs h = absurd (omega arith)
+labels-text-mono (suc i) (suc n) [] h = omega arith
+labels-text-mono (suc i) (suc n) (x ∷ xs) h =
+    let rest : length (labels-text (take i xs)) ≤ length (labels-text (take n xs)) = labels-text-mono i n xs (omega arith) in
+    rw (length-append (decimal x) (labels-text (take i xs)), length-append (decimal x) (labels-text (take n xs))) (omega arith)
 
--- The first labels of a buffer.
-pub taken-text-short : (n : ℕ) (xs : List ℕ) → n ≤ length xs → ((i : ℕ) → getD xs i 0 < 65536) → length (labels-text (take n xs)) ≤ 6 * n
-taken-text-short n xs l h =
-    let few : length (take n xs) ≡ n = length-take-le n xs l in
-    omega (arith, labels-text-short (take n xs) (take-below 65536 n xs (omega arith) h))
+pub label-fits : (xs : List ℕ) (i n : ℕ) → i < n → n ≤ length xs
+    → length (labels-text (take i xs)) + (1 + length (decimal (getD xs i 0))) ≤ length (labels-text (take n xs))
+label-fits xs i n h l =
+    let one : labels-text (take (i + 1) xs) ≡ labels-text (take i xs) ++ (32 ∷ decimal (getD xs i 0)) =
+    rw (add-one, take-suc xs i 0 (omega arith)) (labels-text-snoc (take i xs) (getD xs i 0)) in
+    omega (arith, labels-text-mono (i + 1) n xs (omega arith), ap length one ∙ length-append (labels-text (take i xs)) (32 ∷ decimal (getD xs i 0)))
 
-pub line-short : (k cost : ℕ) (labels : List ℕ) → k < 100 → cost < 10000000000 → length labels ≤ 1023 → ((i : ℕ) → getD labels i 0 < 65536)
-    → length (line k cost labels) ≤ 6152
+pub length-line : (k cost : ℕ) (labels : List ℕ)
+    → length (line k cost labels) ≡ length (decimal k) + (1 + (length (decimal cost) + (length (labels-text labels) + 1)))
 unfolding line
-line-short k cost labels a b few h =
-    let number : length (decimal k) ≤ 2 = two-digits k a in
-    let paid : length (decimal cost) ≤ 10 = ten-digits cost b in
-    let told : length (labels-text labels) ≤ 6 * length labels = labels-text-short labels h in
-    simp length-append (omega arith)
+length-line k cost labels = simp length-append (omega arith)
+
+line-short : (k cost : ℕ) (labels : List ℕ) → cost < 10000000000 → length labels ≤ 1023 → ((i : ℕ) → getD labels i 0 < 65536)
+    → length (line k cost labels) ≤ length (decimal k) + 6150
+line-short k cost labels b few h = omega (arith, length-line k cost labels, ten-digits cost b, labels-text-short labels h)
 
 -- Paths
 
@@ -126,9 +132,9 @@ listable t z finite k there =
 
 -- Lines
 
-pub line-of-short : (t : Transducer) (k : ℕ) → Listable t k → length (line-of t k) ≤ 6152
+line-of-short : (t : Transducer) (k : ℕ) → Listable t k → length (line-of t k) ≤ length (decimal k) + 6150
 unfolding line-of
-line-of-short t k l = line-short k (path-cost t (nth-path t k)) (written-by t (nth-path t k)) (omega (arith, l .number)) (l .cost) (l .few) (l .labels)
+line-of-short t k l = line-short k (path-cost t (nth-path t k)) (written-by t (nth-path t k)) (l .cost) (l .few) (l .labels)
 
 pub lines-none : (t : Transducer) (out : List ℕ) (at : ℕ) → Wrote out out at at (lines t 0)
 unfolding lines
@@ -139,13 +145,33 @@ pub lines-next : {a b c : List ℕ} {at mid end : ℕ} (t : Transducer) (k : ℕ
 unfolding lines
 lines-next t k p q = rw add-one (wrote-then p q)
 
-pub lines-short : (t : Transducer) (n : ℕ) → ((k : ℕ) → k < n → Listable t k) → length (lines t n) ≤ 6152 * n
+length-lines : (t : Transducer) (k : ℕ) → length (lines t (suc k)) ≡ length (lines t k) + length (line-of t k)
 unfolding lines
-lines-short t zero h = omega arith
-lines-short t (suc n) h =
-    let rest : length (lines t n) ≤ 6152 * n = lines-short t n (λ k l. h k (omega arith)) in
-    let here : length (line-of t n) ≤ 6152 = line-of-short t n (h n (omega arith)) in
-    rw (length-append (lines t n) (line-of t n)) (omega arith)
+length-lines t k = length-append (lines t k) (line-of t k)
+
+pub line-fits : (t : Transducer) (k n : ℕ) → k < n → length (lines t k) + length (line-of t k) ≤ length (lines t n)
+line-fits t k zero h = absurd (omega arith)
+line-fits t k (suc n) h = on (ltb k n) refl (λ l. line-fits t k n l)
+  where
+    on : (b : Bool) → ltb k n ≡ b → (k < n → length (lines t k) + length (line-of t k) ≤ length (lines t n))
+        → length (lines t k) + length (line-of t k) ≤ length (lines t (suc n))
+    on true e rest = omega (arith, rest (ltb-true k n e), length-lines t n)
+    on false e rest =
+        let last : k ≡ n = omega (arith, ltb-false k n e) in
+        rw last (omega (arith, length-lines t n))
+
+-- Ten numbers have one digit, the others two.
+pub lines-short : (t : Transducer) (n : ℕ) → n ≤ 98 → ((k : ℕ) → k < n → Listable t k) → length (lines t n) + min n 10 ≤ 6152 * n
+unfolding lines
+lines-short t zero few h = omega arith
+lines-short t (suc n) few h =
+    let rest : length (lines t n) + min n 10 ≤ 6152 * n = lines-short t n (omega arith) (λ k l. h k (omega arith)) in
+    on (ltb n 10) refl rest (line-of-short t n (h n (omega arith)))
+  where
+    on : (b : Bool) → ltb n 10 ≡ b → length (lines t n) + min n 10 ≤ 6152 * n → length (line-of t n) ≤ length (decimal n) + 6150
+        → length (lines t (suc n)) + min (suc n) 10 ≤ 6152 * suc n
+    on true e rest here = omega (arith, length-lines t n, length-decimal-small n (ltb-true n 10 e))
+    on false e rest here = omega (arith, length-lines t n, ltb-false n 10 e, two-digits n (omega arith))
 
 pub refused-short : (number : ℕ) → number < 10000000000 → length (refused-text number) ≤ 19
 unfolding refused-text refused-word

@@ -24,6 +24,7 @@ use Rattle.lattice.specs.Apply.{string-good, applied}
 use Rattle.lattice.specs.Lattice.{lattice}
 use Rattle.lattice.specs.ApplyEntry.{apply-room, apply-refusal, Apply-says}
 use Rattle.lattice.proofs.LatticeGood.{refusal-lattice, decode-lattice}
+use Rattle.listing.specs.declared.Listed.{Listed}
 use Rattle.listing.specs.Code.{labels-in}
 use Rattle.listing.specs.Text.{listing-text, refused-text, Whole}
 use Rattle.listing.specs.Entry.{code-refusal, applied-refusal, listing-refusal, text-unless, applied-text, text-of, text-room, Listing-says}
@@ -44,12 +45,12 @@ front n a a' xs put many =
     (ap (λ (x : List ℕ). take n x) put ∙ take-at xs (replicate (length a - length xs) 0) n (sym many), omega (arith, ap length put ∙ length-append xs (replicate (length a - length xs) 0), many))
 
 -- An answer with the line of a refusal, and one with the text that no refusal keeps back.
-text-refused : {out out' : List ℕ} {w : Written} (number n : ℕ) (text : List ℕ) → number ≡ n → (n ≡ 0 → ⊥) → Whole out out' w n (refused-text n)
+text-refused : {out out' : List ℕ} {w : Listed} (number n : ℕ) (text : List ℕ) → number ≡ n → (n ≡ 0 → ⊥) → Whole out out' w n (refused-text n)
     → Whole out out' w number (text-unless number text)
 unfolding text-unless
 text-refused number n text e h p = rw (e, ne-eqb n 0 h) p
 
-text-kept : {out out' : List ℕ} {w : Written} (number : ℕ) (text : List ℕ) → number ≡ 0 → Whole out out' w 0 text → Whole out out' w number (text-unless number text)
+text-kept : {out out' : List ℕ} {w : Listed} (number : ℕ) (text : List ℕ) → number ≡ 0 → Whole out out' w 0 text → Whole out out' w number (text-unless number text)
 unfolding text-unless
 text-kept number text e p = rw e p
 
@@ -69,7 +70,7 @@ taken-good s =
     by-test (leb (length s) 64) (λ e. let few : length s ≤ 64 = leb-true (length s) 64 e in rw (take-all 65 s (omega arith)))
     (λ e. let long : leb (length (take 65 s)) 64 ≡ false = lt-leb (length (take 65 s)) 64 (omega (arith, length-take 65 s, leb-false (length s) 64 e)) in rw (e, long))
 
-pub odd-refused : {out out' : List ℕ} {w : Written} (t : Transducer) (cs : List ℕ) → (length cs % 2 ≡ 0 → ⊥) → Whole out out' w 9 (refused-text 9)
+pub odd-refused : {out out' : List ℕ} {w : Listed} (t : Transducer) (cs : List ℕ) → (length cs % 2 ≡ 0 → ⊥) → Whole out out' w 9 (refused-text 9)
     → Whole out out' w (applied-refusal t cs) (applied-text t cs)
 unfolding applied-text applied-refusal code-refusal or-else
 odd-refused t cs odd p = text-refused (applied-refusal t cs) 9 (listing-text (lattice (labels-in cs) t)) (rw (ne-eqb (length cs % 2) 0 odd)) (λ z. omega arith) p
@@ -105,7 +106,7 @@ module _ {bs s : List ℕ} {r : Written} {a a' b b' c c' : List ℕ} (cs : List 
   apply-is : r .refusal ≡ applied-refusal (decode bs) cs
   apply-is = says .refusal-is ∙ (apply-number s bs (length a) (length b) (length c) ok la lb lc ∙ applied-number (decode bs) cs s even string)
 
-  pub apply-refused : {out out' : List ℕ} {w : Written} → (r .refusal ≡ 0 → ⊥) → Whole out out' w (r .refusal) (refused-text (r .refusal))
+  pub apply-refused : {out out' : List ℕ} {w : Listed} → (r .refusal ≡ 0 → ⊥) → Whole out out' w (r .refusal) (refused-text (r .refusal))
       → Whole out out' w (applied-refusal (decode bs) cs) (applied-text (decode bs) cs)
   unfolding applied-text
   apply-refused nonzero p = text-refused (applied-refusal (decode bs) cs) (r .refusal) (listing-text (lattice (labels-in cs) (decode bs))) (sym apply-is) nonzero p
@@ -130,7 +131,7 @@ module _ {bs s : List ℕ} {r : Written} {a a' b b' c c' : List ℕ} (cs : List 
         let known = applied-fine (decode bs) cs is-fine in
         rw (lattice-front .0) (refusal-lattice (labels-in cs) (decode bs) (accepted-good bs bytes ok) (known .0) (known .1))
 
-    pub lattice-listed : {out out' : List ℕ} {w : Written} → Whole out out' w 0 (listing-text (decode (take (r .len) a')))
+    pub lattice-listed : {out out' : List ℕ} {w : Listed} → Whole out out' w 0 (listing-text (decode (take (r .len) a')))
         → Whole out out' w (applied-refusal (decode bs) cs) (applied-text (decode bs) cs)
     unfolding applied-text
     lattice-listed {out} {out'} {w} p =
@@ -148,7 +149,7 @@ module _ {xs ys : List ℕ} {r : Answer} {a a' b b' c c' : List ℕ} (bx : Bytes
   compose-is : r .refusal ≡ compose-refusal xs ys 59404 6144 1024
   compose-is = says .refusal-is ∙ rw (la, lb, lc)
 
-  pub compose-refused : {out out' : List ℕ} {w : Written} → (r .refusal ≡ 0 → ⊥) → Whole out out' w (r .refusal) (refused-text (r .refusal))
+  pub compose-refused : {out out' : List ℕ} {w : Listed} → (r .refusal ≡ 0 → ⊥) → Whole out out' w (r .refusal) (refused-text (r .refusal))
       → Whole out out' w (listing-refusal xs ys cs) (text-of xs ys cs)
   unfolding text-of listing-refusal or-else
   compose-refused nonzero p =
@@ -178,7 +179,7 @@ module _ {xs ys : List ℕ} {r : Answer} {a a' b b' c c' : List ℕ} (bx : Bytes
     composed-accepted =
         rw (composed-front .0) (refusal-composed (decode xs) (decode ys) (accepted-good xs bx (parts .0)) (accepted-good ys by (parts .1)) (parts .2))
 
-    pub composed-listed : {out out' : List ℕ} {w : Written}
+    pub composed-listed : {out out' : List ℕ} {w : Listed}
         → Whole out out' w (applied-refusal (decode (take (r .len) a')) cs) (applied-text (decode (take (r .len) a')) cs)
         → Whole out out' w (listing-refusal xs ys cs) (text-of xs ys cs)
     unfolding text-of applied-text listing-refusal or-else
@@ -190,17 +191,18 @@ module _ {xs ys : List ℕ} {r : Answer} {a a' b b' c c' : List ℕ} (bx : Bytes
 
 -- The whole
 
-pub says-short : (xs ys cs out : List ℕ) → length out < 602908 → Listing-says xs ys cs (text-room (length out)) (record { refusal = 10; len = 0 }) out out
-unfolding text-room or-else unless left-in
-says-short xs ys cs out h = rw (lt-ltb (length out) 602908 h) (record { refusal-is = refl; len-is = refl; text = refl })
+pub says-short : (xs ys cs out : List ℕ) → length out < 602898 → Listing-says xs ys cs (text-room (length out)) (record { refusal = 10; len = 0; said = 0 }) out out
+unfolding text-room unless left-in
+says-short xs ys cs out h = rw (lt-ltb (length out) 602898 h) (record { refusal-is = refl; len-is = refl; said-is = refl; text = refl })
 
-pub says-whole : {xs ys cs out out' : List ℕ} {w : Written} → 602908 ≤ length out → Whole out out' w (listing-refusal xs ys cs) (text-of xs ys cs)
+pub says-whole : {xs ys cs out out' : List ℕ} {w : Listed} → 602898 ≤ length out → Whole out out' w (listing-refusal xs ys cs) (text-of xs ys cs)
     → Listing-says xs ys cs (text-room (length out)) w out out'
-unfolding text-room or-else unless left-in
-says-whole {xs} {ys} {cs} {out} h p = rw (le-ltb (length out) 602908 h) (record { refusal-is = p .refusal-is; len-is = p .len-is; text = p .bytes })
+unfolding text-room unless left-in
+says-whole {xs} {ys} {cs} {out} h p =
+    rw (le-ltb (length out) 602898 h) (record { refusal-is = p .refusal-is; len-is = p .len-is; said-is = p .said-is; text = p .bytes })
 
 -- The text that is told of lies within the buffer.
-pub says-fits : {xs ys cs : List ℕ} {short : ℕ} {w : Written} {out out' : List ℕ} → Listing-says xs ys cs short w out out' → w .len ≤ length out'
+pub says-fits : {xs ys cs : List ℕ} {short : ℕ} {w : Listed} {out out' : List ℕ} → Listing-says xs ys cs short w out out' → w .len ≤ length out'
 unfolding unless left-in
 says-fits {xs} {ys} {cs} {short} {w} {out} {out'} says =
     by-test (eqb short 0) (λ e. front (w .len) out out' (text-of xs ys cs) (rw e at (says .text)) (rw e at (says .len-is)) .1)

@@ -32,6 +32,7 @@ wrote-front {a} {b} {end} {xs} p h =
     let behind : 0 + length xs ≡ end = omega arith in
     rw (p .bytes, sets-eq xs a 0 (omega arith), behind) (cleared-front end xs a e (omega arith))
 
-pub wrote-whole : {a b c : List ℕ} {end : ℕ} {xs : List ℕ} → Wrote a b 0 end xs → length xs ≤ 602908 → 602908 ≤ length a → c ≡ cleared end b → (number : ℕ)
-    → Whole a c (record { refusal = number; len = end }) number xs
-wrote-whole p short room e number = record { refusal-is = refl; len-is = omega (arith, p .ends); bytes = e ∙ wrote-front p (omega arith) }
+pub wrote-whole : {a b c : List ℕ} {end : ℕ} {xs : List ℕ} → Wrote a b 0 end xs → length xs ≤ 602898 → 602898 ≤ length a → c ≡ cleared end b → (number : ℕ)
+    → Whole a c (record { refusal = 0; len = end; said = number }) number xs
+wrote-whole p short room e number =
+    record { refusal-is = refl; len-is = omega (arith, p .ends); said-is = refl; bytes = e ∙ wrote-front p (omega arith) }

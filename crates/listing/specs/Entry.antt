@@ -5,7 +5,6 @@ use mathlib.Core.List.{List}
 use Prim.Native.Nat.{ℕ, _%_}
 use lib.Dec.{eqb, ltb}
 use lib.ListN.{length}
-use Rattle.transducer.specs.declared.Written.{Written}
 use Rattle.transducer.specs.Format.{Transducer, decode}
 use Rattle.transducer.specs.Entry.{or-else, unless, left-in}
 use Rattle.explore.specs.Explore.{built-refusal}
@@ -13,6 +12,7 @@ use Rattle.compose.specs.Compose.{composed}
 use Rattle.compose.specs.Entry.{compose-refusal}
 use Rattle.lattice.specs.Apply.{string-good, applied}
 use Rattle.lattice.specs.Lattice.{lattice}
+use Rattle.listing.specs.declared.Listed.{Listed}
 use Rattle.listing.specs.Code.{labels-in}
 use Rattle.listing.specs.Text.{listing-text, refused-text, least-room}
 
@@ -44,8 +44,9 @@ text-of xs ys cs = text-unless (listing-refusal xs ys cs) (listing-text (lattice
 unfoldable pub text-room : (room : ℕ) → ℕ
 text-room room = cond (ltb room least-room) 10 0
 
--- Only a short buffer keeps its contents: any other refusal is answered, and is a text too.
-pub record Listing-says (left right code : List ℕ) (short : ℕ) (r : Written) (out out' : List ℕ) : Type 0 where
-  pub refusal-is : r .refusal ≡ or-else short (listing-refusal left right code)
-  pub len-is : r .len ≡ unless short (length (text-of left right code))
-  pub text : out' ≡ left-in short out (text-of left right code)
+-- The call is refused by 10 alone; any other refusal is what the text says.
+pub record Listing-says (left right code : List ℕ) (number : ℕ) (r : Listed) (out out' : List ℕ) : Type 0 where
+  pub refusal-is : r .refusal ≡ number
+  pub len-is : r .len ≡ unless number (length (text-of left right code))
+  pub said-is : r .said ≡ unless number (listing-refusal left right code)
+  pub text : out' ≡ left-in number out (text-of left right code)

@@ -1,3 +1,4 @@
 pub mod Text
+pub mod Walkable
 pub mod Code
 pub mod Entry

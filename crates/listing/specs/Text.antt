@@ -7,10 +7,10 @@ use lib.Dec.{ltb}
 use lib.ListN.{length}
 use lib.Seq.{sets}
 use Rattle.wire.specs.Bytes.{filled}
-use Rattle.transducer.specs.declared.Written.{Written}
 use Rattle.transducer.specs.Format.{Transducer}
 use Rattle.transducer.specs.Path.{written-by, path-cost}
 use Rattle.paths.specs.Count.{endless, path-count, nth-path, most-counted}
+use Rattle.listing.specs.declared.Listed.{Listed}
 
 -- The decimal digits of a number, no zero in front; the fuel is at least the number.
 unfoldable pub digits : (fuel n : ℕ) → List ℕ
@@ -70,20 +70,19 @@ listing-text t = readings-word ++ cond (endless t) endless-word (counted-text t)
 unfoldable pub refused-text : (number : ℕ) → List ℕ
 refused-text number = refused-word ++ decimal number ++ (newline ∷ [])
 
--- The bytes of one line at most, two digits, a cost of ten, and 1,023 labels of five, and of the longest listing.
-abbrev pub line-room : ℕ
-line-room = 6152
-
+-- The bytes of the longest text: `readings 98`, then 98 lines, 10 of them with a number of one digit, each with a cost of ten digits and 1,023 labels
+-- of five.
 abbrev pub least-room : ℕ
-least-room = 602908
+least-room = 602898
 
 -- A text written at a place, and the place behind it.
 pub record Wrote (before after : List ℕ) (at end : ℕ) (text : List ℕ) : Type 0 where
   pub ends : end ≡ at + length text
   pub bytes : after ≡ sets before at text
 
--- The answer of a call that leaves a text at the front of a buffer with zeros behind: a number and the text's length.
-pub record Whole (before after : List ℕ) (r : Written) (number : ℕ) (text : List ℕ) : Type 0 where
-  pub refusal-is : r .refusal ≡ number
+-- The answer of a call that leaves a text at the front of a buffer with zeros behind: the text's length, and the refusal that it says.
+pub record Whole (before after : List ℕ) (r : Listed) (said : ℕ) (text : List ℕ) : Type 0 where
+  pub refusal-is : r .refusal ≡ 0
   pub len-is : r .len ≡ length text
+  pub said-is : r .said ≡ said
   pub bytes : after ≡ filled (length before) text

@@ -5,20 +5,20 @@ ghost use lib.ListN.{length};
 ghost use Rattle.transducer.specs.Format.{refusal, decode};
 ghost use Rattle.listing.specs.Text.{Whole, least-room};
 ghost use Rattle.listing.specs.Entry.{applied-refusal, applied-text, listing-refusal, text-of, text-room, Listing-says};
+use crate::Listed;
 use crate::code;
-use crate::listed;
-use transducer::Written;
+use crate::lines;
 
-const LEAST_ROOM: usize = 602908;
+const LEAST_ROOM: usize = 602898;
 
 // Applies a code to an accepted transducer and lists what comes of it.
-fn list_applied(table: &[u8], bytes: &[u8], out: &mut [u8]) -> Written
+fn list_applied(table: &[u8], bytes: &[u8], out: &mut [u8]) -> Listed
     requires { ⌜ (refusal (now table) ≡ 0) × (least-room ≤ length (now out)) ⌝ }
     ensures { λ r. ⌜ Whole (now (out .entry)) (now (out .exit)) r (applied-refusal (decode (now (table .entry))) (now (bytes .entry)))
         (applied-text (decode (now (table .entry))) (now (bytes .entry))) ⌝ }
 {
     if bytes.len() % 2 != 0 {
-        return listed::refuse_into(9, out);
+        return lines::refuse_into(9, out);
     }
     let mut string = [0u16; 65];
     let count = code::load_labels(bytes, &mut string);
@@ -34,14 +34,14 @@ fn list_applied(table: &[u8], bytes: &[u8], out: &mut [u8]) -> Written
     );
     let number = applied.refusal;
     if number != 0 {
-        return listed::refuse_into(number, out);
+        return lines::refuse_into(number, out);
     }
     let len = applied.len as usize;
-    listed::list_into(&lattice[..len], out)
+    lines::list_into(&lattice[..len], out)
 }
 
 // Composes two transducers, applies a code and lists what comes of it.
-fn list_composed(left: &[u8], right: &[u8], bytes: &[u8], out: &mut [u8]) -> Written
+fn list_composed(left: &[u8], right: &[u8], bytes: &[u8], out: &mut [u8]) -> Listed
     requires { ⌜ least-room ≤ length (now out) ⌝ }
     ensures { λ r. ⌜ Whole (now (out .entry)) (now (out .exit)) r (listing-refusal (now (left .entry)) (now (right .entry)) (now (bytes .entry)))
         (text-of (now (left .entry)) (now (right .entry)) (now (bytes .entry))) ⌝ }
@@ -52,21 +52,22 @@ fn list_composed(left: &[u8], right: &[u8], bytes: &[u8], out: &mut [u8]) -> Wri
     let composed = compose::compose(left, right, &mut table, &mut origins, &mut states);
     let number = composed.refusal;
     if number != 0 {
-        return listed::refuse_into(number, out);
+        return lines::refuse_into(number, out);
     }
     let len = composed.len as usize;
     list_applied(&table[..len], bytes, out)
 }
 
-// The listing of two transducers and a code: the text from the front of `out`, zeros behind, and its length. A refusal of theirs is
-// answered and is a text too; where `out` is too short for some text, 10 is answered and nothing written.
-pub fn listing(left: &[u8], right: &[u8], bytes: &[u8], out: &mut [u8]) -> Written
+// The listing of two transducers and a code: the text from the front of `out`, zeros behind, its length, and the number of the refusal that it says:
+// a refusal of theirs is a text too. Where `out` is too short for the longest text, 10 is answered and nothing written.
+pub fn listing(left: &[u8], right: &[u8], bytes: &[u8], out: &mut [u8]) -> Listed
     ensures { λ r. ⌜ Listing-says (now (left .entry)) (now (right .entry)) (now (bytes .entry)) (text-room (length (now (out .entry)))) r (now (out .entry)) (now (out .exit)) ⌝ }
 {
     if out.len() < LEAST_ROOM {
-        return Written {
+        return Listed {
             refusal: 10,
             len: 0,
+            said: 0,
         };
     }
     list_composed(left, right, bytes, out)

@@ -1,7 +1,14 @@
 // The listing: a text of the accepting paths.
 mod code;
 mod entry;
-mod listed;
+mod lines;
 mod text;
 
 pub use entry::listing as list;
+
+// What the listing answers: 10 or 0, then how long the text is and the number of the refusal that the text says, 0 where it lists. Both are 0 on 10.
+pub struct Listed {
+    pub refusal: u32,
+    pub len: u32,
+    pub said: u32,
+}

@@ -1,8 +1,8 @@
 // Text written at a place of a lent buffer; each function answers the place behind it.
 ghost use mathlib.Core.List.{[], _∷_};
-ghost use Prim.Native.Nat.{_+_, _*_, _≤_, _<_};
+ghost use Prim.Native.Nat.{_+_, _≤_, _<_};
 ghost use lib.ListN.{length, take};
-ghost use Rattle.listing.specs.Text.{Wrote, decimal, labels-text, line, line-room};
+ghost use Rattle.listing.specs.Text.{Wrote, decimal, labels-text, line};
 
 const BLANK: u8 = 32;
 
@@ -45,7 +45,7 @@ pub fn put_decimal(out: &mut [u8], at: usize, value: u64) -> usize
 
 // Writes the first `count` labels, a blank before each.
 pub fn put_labels(out: &mut [u8], at: usize, labels: &[u16], count: usize) -> usize
-    requires { ⌜ (count ≤ length (now labels)) × (at + 6 * count ≤ length (now out)) ⌝ }
+    requires { ⌜ (count ≤ length (now labels)) × (at + length (labels-text (take count (now labels))) ≤ length (now out)) ⌝ }
     ensures { λ r. ⌜ Wrote (now (out .entry)) (now (out .exit)) at r (labels-text (take count (now (labels .entry)))) ⌝ }
 {
     let mut end = at;
@@ -60,7 +60,7 @@ pub fn put_labels(out: &mut [u8], at: usize, labels: &[u16], count: usize) -> us
 
 // Writes the line of a path: its number, its cost and its labels.
 pub fn put_line(out: &mut [u8], at: usize, k: u32, cost: u64, labels: &[u16], count: usize) -> usize
-    requires { ⌜ (count ≤ length (now labels)) × (count ≤ 1023) × (k < 100) × (cost < 10000000000) × (at + line-room ≤ length (now out)) ⌝ }
+    requires { ⌜ (count ≤ length (now labels)) × (at + length (line k cost (take count (now labels))) ≤ length (now out)) ⌝ }
     ensures { λ r. ⌜ Wrote (now (out .entry)) (now (out .exit)) at r (line k cost (take count (now (labels .entry)))) ⌝ }
 {
     let number = put_decimal(out, at, k as u64);

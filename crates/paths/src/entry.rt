@@ -2,13 +2,34 @@
 ghost use mathlib.Core.Path.{_≡_};
 ghost use Prim.Native.Nat.{_+_, _*_, _<_};
 ghost use lib.ListN.{length};
+ghost use Rattle.transducer.specs.Format.{decode};
+ghost use Rattle.transducer.specs.Leaf.{Finals-by-state};
+ghost use Rattle.paths.specs.Sweep.{Ready, Totals-say};
 ghost use Rattle.paths.specs.Entry.{Count-says, count-refusal, Nth-says, nth-refusal};
 use crate::Count;
 use crate::Counted;
 use crate::Told;
+use crate::Totals;
 use crate::counts;
 use crate::marks;
 use crate::path;
+
+// The counts of the accepting paths from each state, and whether those from the start are infinitely many: what the count, the k-th path and the
+// listing share.
+pub fn counts_by_state(
+    table: &[u8],
+    first: usize,
+    states: usize,
+    start: usize,
+    index: &[u16; 1025],
+    codes: &[u32; 1024],
+) -> Totals
+    requires { ⌜ Ready (now table) first states (now index) × (start ≡ decode (now table) .start) × Finals-by-state (decode (now table)) (now codes) ⌝ }
+    ensures { λ r. ⌜ Totals-say (decode (now (table .entry))) r ⌝ }
+{
+    let dead = marks::dead_states(table, first, states, index, codes);
+    counts::counts_of(table, first, states, start, index, codes, dead)
+}
 
 // The number of accepting paths, 99 standing for 99 or more.
 pub fn count(table: &[u8]) -> Counted
@@ -28,8 +49,7 @@ pub fn count(table: &[u8]) -> Counted
     let first = 12 + 10 * f;
     let index = transducer::first_arcs_by_blocks(table, first, n, head.arcs as usize);
     let codes = transducer::final_codes(table, f);
-    let dead = marks::dead_states(table, first, n, &index, &codes);
-    let totals = counts::counts_of(table, first, n, start, &index, &codes, dead);
+    let totals = counts_by_state(table, first, n, start, &index, &codes);
     if totals.endless {
         return Counted {
             refusal: 14,
@@ -78,8 +98,7 @@ pub fn nth(table: &[u8], k: u32, arcs: &mut [u16], labels: &mut [u16]) -> Told
     let first = 12 + 10 * f;
     let index = transducer::first_arcs_by_blocks(table, first, n, head.arcs as usize);
     let codes = transducer::final_codes(table, f);
-    let dead = marks::dead_states(table, first, n, &index, &codes);
-    let totals = counts::counts_of(table, first, n, start, &index, &codes, dead);
+    let totals = counts_by_state(table, first, n, start, &index, &codes);
     if totals.endless {
         return refused(14);
     }

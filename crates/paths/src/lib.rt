@@ -7,8 +7,10 @@ mod path;
 mod turn;
 
 pub use entry::count as path_count;
+pub use entry::counts_by_state;
 pub use entry::nth as nth_path;
 pub use path::tell;
+pub use path::walk as nth_arcs;
 
 // A count of paths: 99 stands for 99 or more.
 pub struct Count {

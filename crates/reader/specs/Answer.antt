@@ -7,6 +7,7 @@ use Rattle.transducer.specs.declared.Written.{Written}
 use Rattle.compose.specs.declared.Answer.{Answer}
 use Rattle.paths.specs.declared.Counted.{Counted}
 use Rattle.paths.specs.declared.Told.{Told}
+use Rattle.listing.specs.declared.Listed.{Listed}
 
 -- The head's numbers in their order: states, arcs, finals, start.
 abbrev pub header : (refusal : ℕ) → (head : List ℕ) → Header
@@ -24,3 +25,6 @@ counted r n = record { refusal = r; count = n }
 -- What is told of a path in its order: cost, arcs, labels.
 abbrev pub told : (refusal : ℕ) → (numbers : List ℕ) → Told
 told r h = record { refusal = r; cost = getD h 0 0; arcs = getD h 1 0; labels = getD h 2 0 }
+
+abbrev pub listed : (refusal len said : ℕ) → Listed
+listed r l s = record { refusal = r; len = l; said = s }

@@ -10,7 +10,7 @@ ghost use Rattle.paths.specs.Entry.{Count-says, count-refusal, Nth-says, nth-re
 ghost use Rattle.shortest.specs.Entry.{Shortest-says, shortest-refusal};
 ghost use Rattle.claim.specs.Entry.{Readings-says};
 ghost use Rattle.listing.specs.Entry.{Listing-says, text-room};
-ghost use Rattle.reader.specs.Answer.{header, written, composed, counted, told};
+ghost use Rattle.reader.specs.Answer.{header, written, composed, counted, told, listed};
 
 // Refusals 1 to 8 of a transducer's bytes, or 0 where they are accepted.
 #[no_mangle]
@@ -210,7 +210,8 @@ pub extern "C" fn forthwn_readings(
     answer.refusal
 }
 
-// The listing of two transducers and a code's bytes: the text into a lent buffer, and its length into `len`. A refusal is a text too.
+// The listing of two transducers and a code's bytes: the text into a lent buffer, its length into `len`, and into `said` the number of the refusal
+// that the text says. The call itself is refused only by 10.
 #[no_mangle]
 pub extern "C" fn forthwn_list(
     left: &[u8],
@@ -218,11 +219,13 @@ pub extern "C" fn forthwn_list(
     code: &[u8],
     out: &mut [u8],
     len: &mut u32,
+    said: &mut u32,
 ) -> u32
     ensures { λ r. ⌜ Listing-says (now (left .entry)) (now (right .entry)) (now (code .entry)) (text-room (length (now (out .entry))))
-        (written r (now (len .exit))) (now (out .entry)) (now (out .exit)) ⌝ }
+        (listed r (now (len .exit)) (now (said .exit))) (now (out .entry)) (now (out .exit)) ⌝ }
 {
     let answer = listing::list(left, right, code, out);
     *len = answer.len;
+    *said = answer.said;
     answer.refusal
 }

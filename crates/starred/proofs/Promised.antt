@@ -177,15 +177,15 @@ shortest-promised bs r a a' b b' ha hb says =
       labels = told .labels ∙ left-in-of n y 1 b refl;
     }
 
-text-enough : (room : ℕ) → 602908 ≤ room → text-room room ≡ 0
+text-enough : (room : ℕ) → 602898 ≤ room → text-room room ≡ 0
 unfolding text-room
-text-enough room h = rw (le-ltb room 602908 h) refl
+text-enough room h = rw (le-ltb room 602898 h) refl
 
 listing-promised : (xs ys cs : List ℕ) → Promises (listing xs ys cs) (defined (listing xs ys cs))
-unfolding Promises defined number buffer or-else unless left-in
+unfolding Promises defined number buffer unless left-in
 listing-promised xs ys cs r out out' h says =
     let told = subst (λ (m : ℕ). Listing-says xs ys cs m r out out') (text-enough (length out) h) says in
-    record { refusal = told .refusal-is; length-told = told .len-is; text = told .text }
+    record { refusal = told .refusal-is; length-told = told .len-is; said = told .said-is; text = told .text }
 
 promises-defined : (k : Call) → Promises k (defined k)
 promises-defined (reading bs) = read-promised bs

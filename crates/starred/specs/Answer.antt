@@ -58,9 +58,9 @@ counts count = record { refusal = 0; numbers = count ∷ []; buffers = [] }
 abbrev pub tells : (cost : ℕ) → (arcs labels : List ℕ) → Answer
 tells cost arcs labels = record { refusal = 0; numbers = cost ∷ length arcs ∷ length labels ∷ []; buffers = arcs ∷ labels ∷ [] }
 
--- A listing; a refusal is a text too.
-abbrev pub lists : (number : ℕ) → (text : List ℕ) → Answer
-lists number text = record { refusal = number; numbers = length text ∷ []; buffers = text ∷ [] }
+-- A listing, and the refusal that its text says.
+abbrev pub lists : (said : ℕ) → (text : List ℕ) → Answer
+lists said text = record { refusal = 0; numbers = length text ∷ said ∷ []; buffers = text ∷ [] }
 
 -- The bytes of a transducer are accepted: its four numbers, final states and weights, arc fields, arc weights.
 abbrev pub reads : (states arcs finals start : ℕ) → (final-states final-weights fields arc-weights : List ℕ) → Answer

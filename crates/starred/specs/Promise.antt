@@ -16,6 +16,7 @@ use Rattle.paths.specs.declared.Counted.{Counted}
 use Rattle.paths.specs.declared.Told.{Told}
 use Rattle.paths.specs.Entry.{count-refusal, Count-says, nth-refusal, Nth-says}
 use Rattle.shortest.specs.Entry.{shortest-refusal, Shortest-says}
+use Rattle.listing.specs.declared.Listed.{Listed}
 use Rattle.listing.specs.Entry.{text-room, Listing-says}
 use Rattle.starred.specs.Answer.{Call, Answer, Case}
 use Rattle.starred.specs.Answer.Call.{reading, composing, applying, counting, kth-path, shortest-path, listing}
@@ -59,9 +60,10 @@ pub record Counts-as (x : Answer) (r : Counted) : Type 0 where
   pub refusal : r .refusal ≡ x .refusal
   pub count : r .count ≡ number x 0
 
-pub record Lists-as (x : Answer) (r : Written) (out out' : List ℕ) : Type 0 where
+pub record Lists-as (x : Answer) (r : Listed) (out out' : List ℕ) : Type 0 where
   pub refusal : r .refusal ≡ x .refusal
   pub length-told : r .len ≡ number x 0
+  pub said : r .said ≡ number x 1
   pub text : out' ≡ filled (length out) (buffer x 0)
 
 unfoldable pub Promises : Call → Answer → Type 0
@@ -82,7 +84,7 @@ Promises (shortest-path bs) x =
     (r : Told) (a a' b b' : List ℕ) → 1023 ≤ length a → 1023 ≤ length b → Shortest-says bs (shortest-refusal bs (length a) (length b)) r a a' b b'
     → Tells-as x r a a' b b'
 Promises (listing xs ys cs) x =
-    (r : Written) (out out' : List ℕ) → 602908 ≤ length out → Listing-says xs ys cs (text-room (length out)) r out out' → Lists-as x r out out'
+    (r : Listed) (out out' : List ℕ) → 602898 ≤ length out → Listing-says xs ys cs (text-room (length out)) r out out' → Lists-as x r out out'
 
 -- The cases of a table are what their calls promise.
 unfoldable pub All-promised : List Case → Type 0

@@ -1,21 +1,17 @@
--- One label a turn. The invariant: the first `i` labels stand from `at` on, `end` is right behind them, and each took six bytes at most.
+-- One label a turn. The invariant: the first `i` labels stand from `at` on, and `end` is right behind them.
 use mathlib.Core.Path.{_≡_, refl, _∙_}
-use Prim.Native.Nat.{_+_, _*_, _-_, _≤_}
+use Prim.Native.Nat.{_+_, _-_, _≤_}
 use native.Mathlib.Omega.{arith}
 use borrow.Author.Needs.{needs}
 use lib.ListN.{length, take, getD}
 use Rattle.listing.specs.Text.{Wrote, decimal, labels-text}
-use Rattle.listing.proofs.Decimal.{five-digits}
-use Rattle.listing.proofs.Short.{labels-none, labels-next}
+use Rattle.listing.proofs.Short.{labels-none, labels-next, label-fits}
 use Rattle.listing.proofs.text.put_labels.Statement.{statement}
 use Rattle.listing.proofs.text.put_labels.Tie as tie
 
 abbrev Inv-loop : tie.InvT-loop
 Inv-loop out₀ at labels count end₀ i₀ out end i =
-    (i ≤ count)
-    × (end ≤ at + 6 * i)
-    × (length out ≡ length out₀)
-    × Wrote out₀ out at end (labels-text (take i labels))
+    (i ≤ count) × (length out ≡ length out₀) × Wrote out₀ out at end (labels-text (take i labels))
 
 abbrev μ-loop : tie.MeasureT-loop
 μ-loop out₀ at labels count end₀ i₀ out end i = count - i
@@ -23,10 +19,21 @@ abbrev μ-loop : tie.MeasureT-loop
 loop-holds : tie.Need-loop-holds Inv-loop μ-loop
 loop-holds c =
     let x = c .before .before .args in
-    (omega arith, omega arith, refl, labels-none (x .out .now) (x .at))
+    (omega arith, refl, labels-none (x .out .now) (x .at))
+
+-- The next label fits.
+room : (c : tie.In-loop Inv-loop μ-loop)
+    → c .before .before .before .before .args .at + (length (labels-text (take (c .before .loop .i) (c .before .before .before .before .args .labels .now)))
+    + (1 + length (decimal (getD (c .before .before .before .before .args .labels .now) (c .before .loop .i) 0))))
+    ≤ length (c .before .before .before .before .args .out .now)
+room c =
+    let x = c .before .before .before .before in
+    omega (arith, label-fits (x .args .labels .now) (c .before .loop .i) (x .args .count) (c .loop-test .taken) (x .pre .0), x .pre .1)
 
 put-byte-requires : tie.Need-put-byte-requires Inv-loop μ-loop
-put-byte-requires c κs = omega arith
+put-byte-requires c κs =
+    let at = c .before in
+    omega (arith, room at, at .before .loop .inv .1, at .before .loop .inv .2 .ends)
 
 mul-put-decimal : tie.Need-mul-put-decimal Inv-loop μ-loop
 mul-put-decimal c = search needs
@@ -40,17 +47,11 @@ cast-put-decimal c = omega (arith, c .shared-slice-known2 .given (c .before .bef
 abbrev turn : tie.After-shared-slice-known2 Inv-loop μ-loop → tie.In-loop Inv-loop μ-loop
 turn c = c .before .before .before .before .before .before
 
-digits : (c : tie.After-shared-slice-known2 Inv-loop μ-loop)
-    → length (decimal (getD (turn c .before .before .before .before .args .labels .now) (turn c .before .loop .i) 0)) ≤ 5
-digits c =
-    five-digits (getD (turn c .before .before .before .before .args .labels .now) (turn c .before .loop .i) 0)
-    (omega (arith, c .shared-slice-known2 .given (turn c .before .loop .i)))
-
 put-decimal-requires : tie.Need-put-decimal-requires Inv-loop μ-loop
 put-decimal-requires c κs =
     let l = turn c .before .loop in
     let put = c .before .before .before .before .put-byte in
-    omega (arith, digits c, put .ensures .ends, put .kept .0, l .inv .1, l .inv .2, turn c .loop-test .taken, turn c .before .before .before .before .pre .1)
+    omega (arith, room (turn c), put .ensures .ends, put .kept .0, l .inv .1, l .inv .2 .ends)
 
 add-i : tie.Need-add-i Inv-loop μ-loop
 add-i c = search needs
@@ -66,19 +67,18 @@ loop-again c =
     let l = at .before .loop in
     let x = at .before .before .before .before in (
       omega arith,
-      omega (arith, digits (second .before), second .put-decimal .ensures .ends, first .put-byte .ensures .ends, l .inv .1),
-      second .put-decimal .kept .0 ∙ (first .put-byte .kept .0 ∙ l .inv .2),
-      labels-next (x .args .labels .now) (l .i) (omega (arith, at .loop-test .taken, x .pre .0)) (l .inv .3) (first .put-byte .ensures) (second .put-decimal .ensures),
+      second .put-decimal .kept .0 ∙ (first .put-byte .kept .0 ∙ l .inv .1),
+      labels-next (x .args .labels .now) (l .i) (omega (arith, at .loop-test .taken, x .pre .0)) (l .inv .2) (first .put-byte .ensures) (second .put-decimal .ensures),
     )
 
 same-length : tie.Need-same-length Inv-loop μ-loop
-same-length c = c .before .loop .inv .2
+same-length c = c .before .loop .inv .1
 
 returns : tie.Need-returns Inv-loop μ-loop
 returns c =
     let l = c .before .loop in
     let all : l .i ≡ c .before .before .before .before .args .count = omega arith in
-    rw all at (l .inv .3)
+    rw all at (l .inv .2)
 
 pub put-labels-spec : {M : Type 1} → statement M
 put-labels-spec =

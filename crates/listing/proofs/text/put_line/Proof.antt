@@ -1,87 +1,89 @@
--- Five parts, each right behind the one before: two digits, a blank and ten digits, the labels, a newline.
-use mathlib.Core.Path.{_≡_, _∙_}
-use Prim.Native.Nat.{_+_, _*_, _≤_}
+-- Five parts, each right behind the one before: the number, a blank and the cost, the labels, a newline.
+use mathlib.Core.Path.{_∙_}
+use Prim.Native.Nat.{_+_, _≤_}
 use native.Mathlib.Omega.{arith}
-use lib.ListN.{length}
-use Rattle.listing.specs.Text.{line}
-use Rattle.listing.proofs.Decimal.{two-digits, ten-digits}
+use lib.ListN.{length, take}
+use Rattle.listing.specs.Text.{decimal, labels-text, line}
 use Rattle.listing.proofs.Wrote.{wrote-then}
-use Rattle.listing.proofs.Short.{taken-text-short}
+use Rattle.listing.proofs.Short.{length-line}
 use Rattle.listing.proofs.text.put_line.Statement.{statement}
 use Rattle.listing.proofs.text.put_line.Tie as tie
 
--- Where each part ends, and that the buffer stays as long.
 abbrev start : tie.After-put-decimal → tie.Start
 start c = c .before .before .before .before
 
-number : (c : tie.After-put-decimal) → (c .put-decimal .result ≤ start c .args .at + 2) × (length (c .put-decimal .last .0) ≡ length (start c .args .out .now))
-number c =
-    let x = start c in
-    (omega (arith, c .put-decimal .ensures .ends, two-digits (x .args .k) (x .pre .2)), c .put-decimal .kept .0)
+-- What the parts take, and that it is there.
+room : (x : tie.Start)
+    → x .args .at + (length (decimal (x .args .k)) + (1 + (length (decimal (x .args .cost)) + (length (labels-text (take (x .args .count) (x .args .labels .now))) + 1))))
+    ≤ length (x .args .out .now)
+room x = omega (arith, length-line (x .args .k) (x .args .cost) (take (x .args .count) (x .args .labels .now)), x .pre .1)
 
 abbrev behind-gap : tie.After-put-byte → tie.After-put-decimal
 behind-gap c = c .before .before .before .before
 
-gap : (c : tie.After-put-byte) → (c .put-byte .result ≤ start (behind-gap c) .args .at + 3) × (length (c .put-byte .last .0) ≡ length (start (behind-gap c) .args .out .now))
-gap c =
-    let n = number (behind-gap c) in
-    (omega (arith, c .put-byte .ensures .ends, n .0), c .put-byte .kept .0 ∙ n .1)
-
 abbrev behind-cost : tie.After-put-decimal2 → tie.After-put-byte
 behind-cost c = c .before .before .before .before
-
-paid : (c : tie.After-put-decimal2)
-    → (c .put-decimal2 .result ≤ start (behind-gap (behind-cost c)) .args .at + 13)
-    × (length (c .put-decimal2 .last .0) ≡ length (start (behind-gap (behind-cost c)) .args .out .now))
-paid c =
-    let g = gap (behind-cost c) in
-    let x = start (behind-gap (behind-cost c)) in
-    (omega (arith, c .put-decimal2 .ensures .ends, g .0, ten-digits (x .args .cost) (x .pre .3)), c .put-decimal2 .kept .0 ∙ g .1)
 
 abbrev behind-labels : tie.After-put-labels → tie.After-put-decimal2
 behind-labels c = c .before .before .before .before
 
-abbrev start-of : tie.After-put-labels → tie.Start
-start-of c = start (behind-gap (behind-cost (behind-labels c)))
-
-told : (c : tie.After-put-labels)
-    → (c .put-labels .result ≤ start-of c .args .at + 13 + 6 * start-of c .args .count)
-    × (length (c .put-labels .last .0) ≡ length (start-of c .args .out .now))
-told c =
-    let p = paid (behind-labels c) in
-    let x = start-of c in
-    let short = taken-text-short (x .args .count) (x .args .labels .now) (x .pre .0) (λ i. omega (arith, behind-gap (behind-cost (behind-labels c)) .before .before .shared-slice-known .given i)) in
-    (omega (arith, c .put-labels .ensures .ends, p .0, short), c .put-labels .kept .0 ∙ p .1)
-
 put-decimal-requires : tie.Need-put-decimal-requires
-put-decimal-requires c κs =
-    let x = c .before .before .before in
-    omega (arith, two-digits (x .args .k) (x .pre .2), x .pre .4)
+put-decimal-requires c κs = omega (arith, room (c .before .before .before))
 
 put-byte-requires : tie.Need-put-byte-requires
 put-byte-requires c κs =
-    let put = c .before .before .before in
-    omega (arith, number put .0, number put .1, start put .pre .4)
+    let first = c .before .before .before in
+    omega (arith, room (start first), first .put-decimal .ensures .ends, first .put-decimal .kept .0)
 
 put-decimal-requires-2 : tie.Need-put-decimal-requires-2
 put-decimal-requires-2 c κs =
-    let put = c .before .before .before in
-    let x = start (behind-gap put) in
-    omega (arith, gap put .0, gap put .1, ten-digits (x .args .cost) (x .pre .3), x .pre .4)
+    let gap = c .before .before .before in
+    let first = behind-gap gap in
+    omega (arith, room (start first), first .put-decimal .ensures .ends, first .put-decimal .kept .0, gap .put-byte .ensures .ends, gap .put-byte .kept .0)
 
 put-labels-requires : tie.Need-put-labels-requires
 put-labels-requires c κs =
-    let put = c .before .before .before in
-    let x = start (behind-gap (behind-cost put)) in
-    (x .pre .0, omega (arith, paid put .0, paid put .1, x .pre .1, x .pre .4))
+    let cost = c .before .before .before in
+    let gap = behind-cost cost in
+    let first = behind-gap gap in (
+      start first .pre .0,
+      omega (
+        arith,
+        room (start first),
+        first .put-decimal .ensures .ends,
+        first .put-decimal .kept .0,
+        gap .put-byte .ensures .ends,
+        gap .put-byte .kept .0,
+        cost .put-decimal2 .ensures .ends,
+        cost .put-decimal2 .kept .0,
+      ),
+    )
 
 put-byte-requires-2 : tie.Need-put-byte-requires-2
 put-byte-requires-2 c κs =
-    let put = c .before .before .before in
-    omega (arith, told put .0, told put .1, start-of put .pre .1, start-of put .pre .4)
+    let told = c .before .before .before in
+    let cost = behind-labels told in
+    let gap = behind-cost cost in
+    let first = behind-gap gap in
+    omega (
+      arith,
+      room (start first),
+      first .put-decimal .ensures .ends,
+      first .put-decimal .kept .0,
+      gap .put-byte .ensures .ends,
+      gap .put-byte .kept .0,
+      cost .put-decimal2 .ensures .ends,
+      cost .put-decimal2 .kept .0,
+      told .put-labels .ensures .ends,
+      told .put-labels .kept .0,
+    )
 
 same-length : tie.Need-same-length
-same-length c = c .before .before .put-byte2 .kept .0 ∙ told (c .before .before .before .before .before .before) .1
+same-length c =
+    let told = c .before .before .before .before .before .before in
+    let cost = behind-labels told in
+    let gap = behind-cost cost in
+    c .before .before .put-byte2 .kept .0 ∙ (told .put-labels .kept .0 ∙ (cost .put-decimal2 .kept .0 ∙ (gap .put-byte .kept .0 ∙ behind-gap gap .put-decimal .kept .0)))
 
 returns : tie.Need-returns
 unfolding line

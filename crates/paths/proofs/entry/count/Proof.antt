@@ -32,8 +32,8 @@ at-header c = c .before .before .before .before
 abbrev at-index : tie.After-codes → tie.After-first-arcs-by-blocks
 at-index c = c .before .before .before
 
-abbrev at-codes : tie.After-counts-of → tie.After-codes
-at-codes c = c .before .before .before .before
+abbrev at-codes : tie.After-counts-by-state → tie.After-codes
+at-codes c = c .before
 
 ready : (c : tie.After-first-arcs-by-blocks) → Ready (at-header (c .before) .before .before .before .before .args .table .now) (12 + 10 * at-header (c .before) .header .result .finals) (at-header (c .before) .header .result .states) (c .first-arcs-by-blocks .result)
 ready c =
@@ -73,20 +73,16 @@ first-arcs-by-blocks-requires c κs = let known = head (at-header c) in (known .
 final-codes-requires : tie.Need-final-codes-requires
 final-codes-requires c κs = let known = head (at-header (c .before)) in (known .opened .accepted, known .finals-are)
 
-dead-states-requires : tie.Need-dead-states-requires
-dead-states-requires c κs = (ready (at-index c), c .before .before .final-codes .ensures)
-
-counts-of-requires : tie.Need-counts-of-requires
-counts-of-requires c κs =
-    let codes = c .before .before .before in
-    let index = at-index codes in
-    (ready index, head (at-header (index .before)) .start-is, codes .before .before .final-codes .ensures, c .before .before .dead-states .ensures)
+counts-by-state-requires : tie.Need-counts-by-state-requires
+counts-by-state-requires c κs =
+    let index = at-index c in
+    (ready index, head (at-header (index .before)) .start-is, c .before .before .final-codes .ensures)
 
 returns-2 : tie.Need-returns-2
 returns-2 c =
     let counted = c .before in
     let passed = at-header (at-index (at-codes counted) .before) .before in
-    count-endless (passed .before .refusal .ensures) (passed .if1 .left) (counted .counts-of .ensures .endless-is) (c .if2 .taken)
+    count-endless (passed .before .refusal .ensures) (passed .if1 .left) (counted .counts-by-state .ensures .endless-is) (c .if2 .taken)
 
 mul-all : tie.Need-mul-all
 mul-all c = omega (arith, head (at-header (at-index (at-codes (c .before .before)) .before)) .start-below)
@@ -101,8 +97,8 @@ returns-3 c =
     let counted = passed .before in
     let header = at-header (at-index (at-codes counted) .before) in
     let accepted = header .before in
-    count-found {cs = counted .counts-of .result .counts} {start = header .header .result .start} (size accepted) (accepted .before .refusal .ensures) (accepted .if1 .left)
-    (counted .counts-of .ensures .endless-is) (passed .if2 .left) (counted .counts-of .ensures .settled) (head header .start-is)
+    count-found {cs = counted .counts-by-state .result .counts} {start = header .header .result .start} (size accepted) (accepted .before .refusal .ensures) (accepted .if1 .left)
+    (counted .counts-by-state .ensures .endless-is) (passed .if2 .left) (counted .counts-by-state .ensures .settled) (head header .start-is)
 
 pub count-spec : {M : Type 1} → statement M
 count-spec =
@@ -119,8 +115,7 @@ count-spec =
     cast-first-arcs-by-blocks
     first-arcs-by-blocks-requires
     final-codes-requires
-    dead-states-requires
-    counts-of-requires
+    counts-by-state-requires
     returns-2
     mul-all
     array-copy-out-all

@@ -28,16 +28,16 @@ at-header c = c .before .before .before .before
 abbrev at-index : tie.After-codes → tie.After-first-arcs-by-blocks
 at-index c = c .before .before .before
 
-abbrev at-codes : tie.After-counts-of → tie.After-codes
-at-codes c = c .before .before .before .before
+abbrev at-codes : tie.After-counts-by-state → tie.After-codes
+at-codes c = c .before
 
-abbrev header-of : tie.After-counts-of → tie.After-header
+abbrev header-of : tie.After-counts-by-state → tie.After-header
 header-of c = at-header (at-index (at-codes c) .before)
 
 abbrev not-endless : tie.Else5 → tie.Else4
 not-endless c = c .before .before .before .before
 
-abbrev tested : tie.Else5 → tie.After-counts-of
+abbrev tested : tie.Else5 → tie.After-counts-by-state
 tested c = not-endless c .before
 
 -- The bytes are accepted.
@@ -59,22 +59,22 @@ ready c =
     record { opened = known .opened; states-are = known .states-are; indexed = c .first-arcs-by-blocks .ensures }
 
 -- The count at the start.
-counted : (c : tie.Else4) → at-state (c .before .counts-of .result .counts) (header-of (c .before) .header .result .start) ≡ path-count (decode (start (header-of (c .before) .before) .args .table .now))
+counted : (c : tie.Else4) → at-state (c .before .counts-by-state .result .counts) (header-of (c .before) .header .result .start) ≡ path-count (decode (start (header-of (c .before) .before) .args .table .now))
 counted c =
-    let totals = c .before .counts-of in
+    let totals = c .before .counts-by-state in
     let header = header-of (c .before) in
     start-count (decode (start (header .before) .args .table .now)) (size (header .before)) (totals .result .counts) (header .header .result .start)
     (totals .ensures .settled) (head header .start-is) (totals .ensures .endless-is) (c .if4 .left)
 
 finite : (c : tie.Else4) → endless (decode (start (header-of (c .before) .before) .args .table .now)) ≡ false
-finite c = sym (c .before .counts-of .ensures .endless-is) ∙ c .if4 .left
+finite c = sym (c .before .counts-by-state .ensures .endless-is) ∙ c .if4 .left
 
 there : (c : tie.Else5) → start (header-of (tested c) .before) .args .k < path-count (decode (start (header-of (tested c) .before) .args .table .now))
 unfolding at-state
 there c =
     let header = header-of (tested c) in
-    let below : start (header .before) .args .k < at-state (tested c .counts-of .result .counts) (header .header .result .start) = c .if5 .left in
-    let is : at-state (tested c .counts-of .result .counts) (header .header .result .start) ≡ path-count (decode (start (header .before) .args .table .now)) = counted (not-endless c) in
+    let below : start (header .before) .args .k < at-state (tested c .counts-by-state .result .counts) (header .header .result .start) = c .if5 .left in
+    let is : at-state (tested c .counts-by-state .result .counts) (header .header .result .start) ≡ path-count (decode (start (header .before) .args .table .now)) = counted (not-endless c) in
     omega arith
 
 -- The path that was walked.
@@ -141,14 +141,10 @@ first-arcs-by-blocks-requires c κs = let known = head (at-header c) in (known .
 final-codes-requires : tie.Need-final-codes-requires
 final-codes-requires c κs = let known = head (at-header (c .before)) in (known .opened .accepted, known .finals-are)
 
-dead-states-requires : tie.Need-dead-states-requires
-dead-states-requires c κs = (ready (at-index c), c .before .before .final-codes .ensures)
-
-counts-of-requires : tie.Need-counts-of-requires
-counts-of-requires c κs =
-    let codes = c .before .before .before in
-    let index = at-index codes in
-    (ready index, head (at-header (index .before)) .start-is, codes .before .before .final-codes .ensures, c .before .before .dead-states .ensures)
+counts-by-state-requires : tie.Need-counts-by-state-requires
+counts-by-state-requires c κs =
+    let index = at-index c in
+    (ready index, head (at-header (index .before)) .start-is, c .before .before .final-codes .ensures)
 
 refused-requires-4 : tie.Need-refused-requires-4
 refused-requires-4 c κs = tt
@@ -157,7 +153,7 @@ returns-4 : tie.Need-returns-4
 returns-4 c =
     let asked = c .before .before in
     let passed = header-of asked .before in
-    nth-endless (at-refusal passed .refusal .ensures) (passed .before .before .if1 .left) (passed .before .if2 .left) (passed .if3 .left) (asked .counts-of .ensures .endless-is) (c .before .if4 .taken) (c .refused4 .ensures)
+    nth-endless (at-refusal passed .refusal .ensures) (passed .before .before .if1 .left) (passed .before .if2 .left) (passed .if3 .left) (asked .counts-by-state .ensures .endless-is) (c .before .if4 .taken) (c .refused4 .ensures)
 
 mul-all : tie.Need-mul-all
 mul-all c = omega (arith, head (header-of (c .before .before)) .start-below)
@@ -176,16 +172,16 @@ returns-5 c =
     let header = header-of asked in
     let passed = header .before in
     let a = start passed .args in
-    let most : at-state (asked .counts-of .result .counts) (header .header .result .start) ≤ a .k = c .before .if5 .taken in
-    let is : at-state (asked .counts-of .result .counts) (header .header .result .start) ≡ path-count (decode (a .table .now)) = counted at in
-    nth-none (at-refusal passed .refusal .ensures) (passed .before .before .if1 .left) (passed .before .if2 .left) (passed .if3 .left) (asked .counts-of .ensures .endless-is) (at .if4 .left) (omega arith) (c .refused5 .ensures)
+    let most : at-state (asked .counts-by-state .result .counts) (header .header .result .start) ≤ a .k = c .before .if5 .taken in
+    let is : at-state (asked .counts-by-state .result .counts) (header .header .result .start) ≡ path-count (decode (a .table .now)) = counted at in
+    nth-none (at-refusal passed .refusal .ensures) (passed .before .before .if1 .left) (passed .before .if2 .left) (passed .if3 .left) (asked .counts-by-state .ensures .endless-is) (at .if4 .left) (omega arith) (c .refused5 .ensures)
 
 walk-requires : tie.Need-walk-requires
 walk-requires c κs =
     let at = c .before .before .before in
     let asked = tested at in
     let index = at-index (at-codes asked) in
-    (ready index, at-codes asked .before .before .final-codes .ensures, asked .counts-of .ensures .settled, head (header-of asked) .start-is, finite (not-endless at), there at, header-of asked .before .before .if2 .left)
+    (ready index, at-codes asked .before .before .final-codes .ensures, asked .counts-by-state .ensures .settled, head (header-of asked) .start-is, finite (not-endless at), there at, header-of asked .before .before .if2 .left)
 
 tell-requires : tie.Need-tell-requires
 tell-requires c κs =
@@ -206,7 +202,7 @@ returns-6 c =
     let at = walking told in
     let asked = tested at in
     let passed = header-of asked .before in
-    nth-found (at-refusal passed .refusal .ensures) (passed .before .before .if1 .left) (passed .before .if2 .left) (passed .if3 .left) (asked .counts-of .ensures .endless-is) (not-endless at .if4 .left) (there at)
+    nth-found (at-refusal passed .refusal .ensures) (passed .before .before .if1 .left) (passed .before .if2 .left) (passed .if3 .left) (asked .counts-by-state .ensures .endless-is) (not-endless at .if4 .left) (there at)
     (told .walk .ensures .0) (path told) (c .before .before .tell .ensures)
 
 pub nth-spec : {M : Type 1} → statement M
@@ -229,8 +225,7 @@ nth-spec =
     cast-first-arcs-by-blocks
     first-arcs-by-blocks-requires
     final-codes-requires
-    dead-states-requires
-    counts-of-requires
+    counts-by-state-requires
     refused-requires-4
     returns-4
     mul-all

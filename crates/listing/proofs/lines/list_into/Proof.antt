@@ -8,13 +8,13 @@ use Rattle.listing.specs.Text.{listing-text}
 use Rattle.paths.proofs.Ready.{sized}
 use Rattle.listing.proofs.Wrote.{wrote-whole}
 use Rattle.listing.proofs.NthLine.{listing-short}
-use Rattle.listing.proofs.listed.list_into.Statement.{statement}
-use Rattle.listing.proofs.listed.list_into.Tie as tie
+use Rattle.listing.proofs.lines.list_into.Statement.{statement}
+use Rattle.listing.proofs.lines.list_into.Tie as tie
 
 abbrev start : tie.After-put-listing → tie.Start
 start c = c .before .before .before .before
 
-short : (c : tie.After-put-listing) → length (listing-text (decode (start c .args .table .now))) ≤ 602908
+short : (c : tie.After-put-listing) → length (listing-text (decode (start c .args .table .now))) ≤ 602898
 short c =
     let x = start c in
     listing-short (decode (x .args .table .now)) (sized (x .args .table .now) (λ i. omega (arith, c .before .before .before .shared-slice-known .given i)) (x .pre .0))

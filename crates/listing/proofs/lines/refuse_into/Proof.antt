@@ -5,8 +5,8 @@ use Rattle.listing.specs.Text.{Wrote, refused-word, refused-text}
 use Rattle.listing.proofs.Decimal.{ten-digits}
 use Rattle.listing.proofs.Wrote.{wrote-then, wrote-whole}
 use Rattle.listing.proofs.Short.{refused-short}
-use Rattle.listing.proofs.listed.refuse_into.Statement.{statement}
-use Rattle.listing.proofs.listed.refuse_into.Tie as tie
+use Rattle.listing.proofs.lines.refuse_into.Statement.{statement}
+use Rattle.listing.proofs.lines.refuse_into.Tie as tie
 
 abbrev start : tie.After-put-bytes → tie.Start
 start c = c .before .before .before .before
