@@ -63,9 +63,9 @@ typedef struct forthwn_path {
 } forthwn_path;
 
 /* The library fills them as four numbers of 32 bits and three of 64. */
-#ifdef __cplusplus
+#if defined(__cplusplus) && __cplusplus >= 201103L
 static_assert(sizeof(forthwn_head) == 16 && sizeof(forthwn_path) == 24, "no padding");
-#else
+#elif defined(__STDC_VERSION__) && __STDC_VERSION__ >= 201112L
 _Static_assert(sizeof(forthwn_head) == 16 && sizeof(forthwn_path) == 24, "no padding");
 #endif
 

@@ -1,6 +1,7 @@
 #!/usr/bin/env python3
 """Round trips, refusals and origins through the Python module, on examples/keys and random tables."""
 import random
+import re
 import unittest
 from pathlib import Path
 
@@ -30,6 +31,12 @@ class Calls(unittest.TestCase):
     def test_words_are_those_of_the_file(self):
         lines = (ROOT / "bindings" / "refusals.txt").read_text().splitlines()[1:]
         self.assertEqual(lines, [f"{number}\t{name}\t{words}" for number, (name, words) in forthwn.REFUSALS.items()])
+
+    def test_lengths_are_those_of_the_header(self):
+        header = (ROOT / "bindings" / "c" / "forthwn.h").read_text()
+        said = dict(re.findall(r"FORTHWN_(\w+)_LEN = (\d+)", header))
+        self.assertEqual({name: int(number) for name, number in said.items()}, {name: getattr(forthwn, "_" + name) for name in said})
+        self.assertEqual(len(said), 9)
 
     def test_tables_go_there_and_back(self):
         dice = random.Random(11)

@@ -25,6 +25,9 @@ pub const WEIGHTS: usize = 3072;
 /// Least length of a buffer for a listing, in bytes.
 pub const TEXT: usize = 602898;
 
+/// Bytes of stack that a call needs at most, for whoever sizes the stack of a thread.
+pub const STACK: usize = 262144;
+
 /// The numbers at the head of a table.
 #[repr(C)]
 #[derive(Clone, Copy, Debug, Default, PartialEq, Eq, Hash)]

@@ -35,7 +35,7 @@
 //! [`readings`] does all of this from bytes to the count in one call, and [`list`] gives the readings as text. The module [`lent`] has
 //! every call of the library over slices that the caller lends, without allocation; the owned types here are made of them.
 //!
-//! Every call ends, has no state of its own and may run in several threads at once. It needs up to 256 KiB of stack.
+//! Every call ends, has no state of its own and may run in several threads at once. It needs at most [`lent::STACK`] bytes of stack.
 #![deny(missing_docs)]
 #![deny(unsafe_code)]
 

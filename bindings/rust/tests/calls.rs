@@ -1,15 +1,15 @@
 //! Round trips, refusals, lent buffers one cell too short, and origins.
-use forthwn::{Arc, Final, Head, Path, Refusal, Table, lent, list, readings};
+use forthwn::{Arc, Cost, Final, Head, Path, Refusal, Table, Weight, lent, list, readings};
 
 const LEFT: &[u8] = include_bytes!("../../../examples/keys/left.tab");
 const RIGHT: &[u8] = include_bytes!("../../../examples/keys/right.tab");
 const CODE: &[u8] = include_bytes!("../../../examples/keys/code.lab");
 
-fn arc(source: u16, input: u16, output: u16, target: u16, weight: u32) -> Arc {
+fn arc(source: u16, input: u16, output: u16, target: u16, weight: Weight) -> Arc {
     Arc { source, input, output, target, weight }
 }
 
-fn end(state: u16, weight: u32) -> Final {
+fn end(state: u16, weight: Weight) -> Final {
     Final { state, weight }
 }
 
@@ -26,9 +26,9 @@ impl Dice {
 /// A table of up to 40 states whose arcs may lead anywhere.
 fn random_table(dice: &mut Dice) -> Table {
     let states = 1 + dice.below(40);
-    let finals: Vec<Final> = (0..states).filter(|_| dice.below(3) == 0).map(|s| end(s as u16, 1_000_000 - s as u32)).collect();
+    let finals: Vec<Final> = (0..states).filter(|_| dice.below(3) == 0).map(|s| end(s as u16, 1_000_000 - s as Weight)).collect();
     let mut arcs: Vec<Arc> = (0..dice.below(90))
-        .map(|_| arc(dice.below(states) as u16, dice.below(4) as u16, 65_534, dice.below(states) as u16, dice.below(1_000_001) as u32))
+        .map(|_| arc(dice.below(states) as u16, dice.below(4) as u16, 65_534, dice.below(states) as u16, dice.below(1_000_001) as Weight))
         .collect();
     arcs.sort_by_key(|x| x.source);
     Table::new(states as u32, dice.below(states) as u32, &finals, &arcs).expect("a table")
@@ -43,6 +43,28 @@ fn words_are_those_of_the_file() {
         (part().parse().expect("a number"), part(), part())
     });
     assert_eq!(said, file.collect::<Vec<_>>());
+}
+
+#[test]
+fn lengths_are_those_of_the_header() {
+    let header = include_str!("../../c/forthwn.h");
+    for (name, number) in [
+        ("TABLE_LEN", lent::TABLE),
+        ("ORIGINS_LEN", lent::ORIGINS),
+        ("LATTICE_ORIGINS_LEN", lent::LATTICE_ORIGINS),
+        ("STATES_LEN", lent::STATES),
+        ("PATH_LEN", lent::PATH),
+        ("FINALS_LEN", lent::FINALS),
+        ("FIELDS_LEN", lent::FIELDS),
+        ("WEIGHTS_LEN", lent::WEIGHTS),
+        ("TEXT_LEN", lent::TEXT),
+        ("STACK", lent::STACK),
+        ("MANY", forthwn::MANY as usize),
+    ] {
+        let line = format!(" FORTHWN_{name} = {number}");
+        let behind = header.split(&line).nth(1).and_then(|x| x.chars().next());
+        assert!(behind.is_some_and(|x| !x.is_ascii_digit()), "the header says no {line}");
+    }
 }
 
 #[test]
@@ -104,7 +126,7 @@ fn a_reading_leads_to_its_pair() {
     let (left, right) = (Table::read(LEFT).expect("left"), Table::read(RIGHT).expect("right"));
     let composed = left.compose(&right).expect("composition");
     let lattice = composed.table.apply(&[7, 3]).expect("lattice");
-    let cost = |table: &Table, arcs: &[u16]| arcs.iter().map(|&x| u64::from(table.arcs()[usize::from(x)].weight)).sum::<u64>();
+    let cost = |table: &Table, arcs: &[u16]| arcs.iter().map(|&x| Cost::from(table.arcs()[usize::from(x)].weight)).sum::<Cost>();
     let mut said = Vec::new();
     for path in lattice.table.paths().expect("paths") {
         let (l, r) = composed.pair(&lattice, &path);
@@ -157,8 +179,8 @@ struct Buffers {
     table: Vec<u8>,
     origins: Vec<u16>,
     states: Vec<u32>,
-    finals: (Vec<u16>, Vec<u32>),
-    arcs: (Vec<u16>, Vec<u32>),
+    finals: (Vec<u16>, Vec<Weight>),
+    arcs: (Vec<u16>, Vec<Weight>),
     path: (Vec<u16>, Vec<u16>),
 }
 
