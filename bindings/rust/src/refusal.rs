@@ -12,7 +12,7 @@ use std::fmt;
 /// assert_eq!((refusal.number(), refusal.name()), (1, "CUT_SHORT"));
 /// assert_eq!(refusal.to_string(), "refused 1: a record runs past the end of the bytes");
 /// ```
-#[derive(Clone, Copy, Debug, PartialEq, Eq, PartialOrd, Ord, Hash)]
+#[derive(Clone, Copy, PartialEq, Eq, PartialOrd, Ord, Hash)]
 pub struct Refusal(u32);
 
 macro_rules! refusals {
@@ -79,6 +79,13 @@ impl Refusal {
 impl fmt::Display for Refusal {
     fn fmt(&self, f: &mut fmt::Formatter<'_>) -> fmt::Result {
         write!(f, "refused {}: {}", self.number(), self.words())
+    }
+}
+
+// With the words, since that is what a `main` that returns it prints.
+impl fmt::Debug for Refusal {
+    fn fmt(&self, f: &mut fmt::Formatter<'_>) -> fmt::Result {
+        f.debug_tuple("Refusal").field(&self.number()).field(&self.words()).finish()
     }
 }
 
