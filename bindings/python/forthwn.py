@@ -201,7 +201,9 @@ def _bytes(given) -> bytes:
 
 
 def _labels(given: Sequence[int]) -> array:
-    """Cells of 16 bits; a number that is none of them is an OverflowError."""
+    """Cells of 16 bits; a number that is none of them is an OverflowError. Bytes are no labels: array would take two of them for one."""
+    if isinstance(given, (bytes, bytearray, memoryview)):
+        raise TypeError("labels are numbers, and these are bytes")
     return array("H", given)
 
 

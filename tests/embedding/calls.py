@@ -101,6 +101,8 @@ class Calls(unittest.TestCase):
     def test_what_is_no_argument(self):
         self.assertRaises(TypeError, forthwn.count, 5)
         self.assertRaises(TypeError, forthwn.count, "text")
+        self.assertRaises(TypeError, forthwn.apply, "text", LEFT)
+        self.assertRaises(TypeError, forthwn.readings, LEFT, RIGHT, CODE)
         self.assertRaises(OverflowError, forthwn.apply, [65536 + 7], LEFT)
         self.assertRaises(OverflowError, forthwn.write, Table(1, 0, [Final(65536, 0)], []))
         self.assertRaises(ValueError, forthwn.nth, LEFT, -1)
