@@ -11,13 +11,17 @@
  *    many. The call touches no other memory, keeps no pointer, allocates nothing and has no state of its own, so calls may run in
  *    several threads at once.
  *  - A pointer of length 0 may be null. Every other pointer must point at that many cells, suitably aligned.
- *  - What is written must not overlap anything else that is lent to the same call. What is only read (const) may overlap.
+ *  - What is written (buffers, *len and the like) must not overlap anything else lent to the same call. What is only read may overlap.
  *  - On success, cells of a written buffer behind what was written are 0, and buffers lent to work in are all 0. After refusals 11 to 13
  *    every buffer lent for writing is all 0; after every other refusal each keeps its contents.
  *  - It always ends, and needs at most FORTHWN_STACK bytes of stack.
  *
  * A label is 16 bits: 0 reads or writes nothing, 1 to 65534 are symbols, 65535 is barred. States and arcs are numbered from 0, an arc's
- * number is its place. Bytes of a table are little-endian and the same on every machine.
+ * number is its place. A path is a run of arcs from the start; it accepts where it ends in a final state.
+ *
+ * The bytes of a table are records: the length of the body (2 bytes), a kind (2), the body. Kind 1, first and once: states, arcs, finals,
+ * start (2 each). Kind 2, for each final state, rising: state (2), weight (4). Kind 3, for each arc, sources never falling: source, input
+ * label, output label, target (2 each), weight (4). All numbers are little-endian. forthwn_write makes them.
  */
 #ifndef FORTHWN_H
 #define FORTHWN_H
