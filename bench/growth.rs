@@ -1,8 +1,5 @@
 //! Times our calls for bench/growth: for each line `CALL NAME FILE..` of the standard input a line `CALL NAME NANOSECONDS ANSWER`.
-#[path = "../bindings/forthwn.rs"]
-mod forthwn;
-
-use forthwn::{Chain, PATH};
+use forthwn::{Refusal, lent};
 use std::hint::black_box;
 use std::time::Instant;
 
@@ -31,31 +28,31 @@ fn states(table: &[u8]) -> usize {
 
 /// The call as a function that tells the number it comes to: states, a count (14 where infinitely many), a cost.
 fn call_of(call: &str, files: Vec<Vec<u8>>) -> Box<dyn FnMut() -> usize> {
-    let mut c = Chain::new();
-    let (mut arcs, mut labels) = (vec![0; PATH], vec![0; PATH]);
+    let (mut table, mut origins, mut work) = (vec![0; lent::TABLE], vec![0; lent::ORIGINS], vec![0; lent::STATES]);
+    let (mut arcs, mut labels) = (vec![0; lent::PATH], vec![0; lent::PATH]);
     match call {
         "refusal" => Box::new(move || {
-            forthwn::accepts(black_box(&files[0])).expect("accepts");
+            lent::accepts(black_box(&files[0])).expect("accepts");
             states(&files[0])
         }),
         "compose" => Box::new(move || {
-            forthwn::compose(&files[0], &files[1], &mut c.table, &mut c.origins, &mut c.states).expect("compose");
-            states(&c.table)
+            lent::compose(&files[0], &files[1], &mut table, &mut origins, &mut work).expect("compose");
+            states(&table)
         }),
         "apply" => Box::new(move || {
-            forthwn::apply(&[], &files[0], &mut c.lattice, &mut c.lattice_origins, &mut c.pairs).expect("apply");
-            states(&c.lattice)
+            lent::apply(&[], &files[0], &mut table, &mut origins[..lent::LATTICE_ORIGINS], &mut work).expect("apply");
+            states(&table)
         }),
         "trim" => Box::new(move || {
-            forthwn::trim(&files[0], &mut c.lattice, &mut c.lattice_origins).expect("trim");
-            states(&c.lattice)
+            lent::trim(&files[0], &mut table, &mut origins[..lent::LATTICE_ORIGINS]).expect("trim");
+            states(&table)
         }),
-        "count" => Box::new(move || forthwn::count(&files[0]).unwrap_or_else(|refusal| refusal) as usize),
+        "count" => Box::new(move || lent::count(&files[0]).unwrap_or_else(Refusal::number) as usize),
         "nth" => {
-            let last = forthwn::count(&files[0]).expect("count") - 1;
-            Box::new(move || forthwn::nth(&files[0], last, &mut arcs, &mut labels).expect("nth").cost as usize)
+            let last = lent::count(&files[0]).expect("count") - 1;
+            Box::new(move || lent::nth(&files[0], last, &mut arcs, &mut labels).expect("nth").cost as usize)
         }
-        "shortest" => Box::new(move || forthwn::shortest(&files[0], &mut arcs, &mut labels).expect("shortest").cost as usize),
+        "shortest" => Box::new(move || lent::shortest(&files[0], &mut arcs, &mut labels).expect("shortest").cost as usize),
         _ => panic!("no call {call}"),
     }
 }

@@ -1,28 +1,69 @@
-//! Reads left.tab, right.tab and code.lab of a folder and prints the count of readings and the cheapest one, or the refusal.
-#[path = "../../bindings/forthwn.rs"]
-mod forthwn;
+//! Reads left.tab, right.tab and code.lab of a folder and prints the number of readings, 99 standing for 99 or more: what a picking machine
+//! acts on. A refusal goes to standard error, with status 1; so does a file that cannot be read, with status 2.
+use forthwn::{Refusal, lent, readings};
+use std::fs::File;
+use std::io::{ErrorKind, Read};
+use std::process::ExitCode;
 
-use std::fs::read;
+const MOST: u64 = 65_536;
 
-fn pick(folder: &str) -> Result<String, u32> {
-    let file = |name: &str| read(format!("{folder}/{name}")).unwrap_or_default();
-    let (left, right, code) = (file("left.tab"), file("right.tab"), file("code.lab"));
-    let string: Vec<u16> = code.chunks_exact(2).map(|x| u16::from_le_bytes([x[0], x[1]])).collect();
-    let (mut table, mut origins, mut states) = (vec![0; forthwn::TABLE], vec![0; forthwn::ORIGINS], vec![0; forthwn::STATES]);
-    let len = forthwn::compose(&left, &right, &mut table, &mut origins, &mut states)?;
-    let (mut lattice, mut lattice_origins) = (vec![0; forthwn::TABLE], vec![0; forthwn::LATTICE_ORIGINS]);
-    let size = forthwn::apply(&string, &table[..len], &mut lattice, &mut lattice_origins, &mut states)?;
-    let lattice = &lattice[..size];
-    let count = forthwn::count(lattice)?;
-    let (mut arcs, mut labels) = (vec![0; forthwn::PATH], vec![0; forthwn::PATH]);
-    let best = forthwn::shortest(lattice, &mut arcs, &mut labels)?;
-    Ok(format!("{count}, the cheapest at {}: {:?}", best.cost, &labels[..best.labels]))
+/// Up to 65,536 bytes of a file; a missing one counts as empty.
+fn load(folder: &str, name: &str) -> Result<Vec<u8>, String> {
+    let path = format!("{folder}/{name}");
+    let mut bytes = Vec::new();
+    match File::open(&path).and_then(|file| file.take(MOST).read_to_end(&mut bytes)) {
+        Err(error) if error.kind() != ErrorKind::NotFound => Err(format!("{path}: {error}")),
+        _ => Ok(bytes),
+    }
 }
 
-fn main() {
+/// A label for each two bytes, the lower one first. An odd last byte is half a label; as label 0 it is refused by 9 in its turn.
+fn labels(code: &[u8]) -> Vec<u16> {
+    code.chunks(2)
+        .map(|x| {
+            if let [low, high] = *x {
+                u16::from_le_bytes([low, high])
+            } else {
+                0
+            }
+        })
+        .collect()
+}
+
+/// Which file a refusal is about.
+fn place(refusal: Refusal, left: &[u8]) -> &'static str {
+    match refusal.number() {
+        1..=8 if lent::accepts(left).is_err() => ", in left.tab",
+        1..=8 => ", in right.tab",
+        9 => ", in code.lab",
+        _ => "",
+    }
+}
+
+fn main() -> ExitCode {
     let folder = std::env::args().nth(1).unwrap_or_else(|| ".".into());
-    match pick(&folder) {
-        Ok(said) => println!("{said}"),
-        Err(number) => println!("refused {number}"),
+    let files = || {
+        Ok::<_, String>((
+            load(&folder, "left.tab")?,
+            load(&folder, "right.tab")?,
+            load(&folder, "code.lab")?,
+        ))
+    };
+    let (left, right, code) = match files() {
+        Ok(files) => files,
+        Err(said) => {
+            eprintln!("pick: {said}");
+            return ExitCode::from(2);
+        }
+    };
+    match readings(&left, &right, &labels(&code)) {
+        Ok(count) => {
+            println!("{count}");
+            ExitCode::SUCCESS
+        }
+        Err(refusal) => {
+            eprintln!("pick: {refusal}{}", place(refusal, &left));
+            ExitCode::from(1)
+        }
     }
 }

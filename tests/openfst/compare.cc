@@ -33,7 +33,7 @@
 #include <utility>
 #include <vector>
 
-#include "../../bindings/forthwn.h"
+#include "../../bindings/c/forthwn.h"
 #include "pairs.h"
 
 using Arc = fst::ArcTpl<fst::TropicalWeightTpl<double>>;
@@ -142,30 +142,30 @@ static double least_cost(const Fst &t) {
 
 // ---- ours
 
-static Bytes table(FORTHWN_TABLE), lattice(FORTHWN_TABLE), trimmed(FORTHWN_TABLE);
-static std::vector<uint16_t> origins(FORTHWN_ORIGINS), lattice_origins(FORTHWN_LATTICE_ORIGINS);
-static std::vector<uint16_t> path_arcs(FORTHWN_PATH), path_labels(FORTHWN_PATH);
-static std::vector<uint32_t> states(FORTHWN_STATES);
+static Bytes table(FORTHWN_TABLE_LEN), lattice(FORTHWN_TABLE_LEN), trimmed(FORTHWN_TABLE_LEN);
+static std::vector<uint16_t> origins(FORTHWN_ORIGINS_LEN), lattice_origins(FORTHWN_LATTICE_ORIGINS_LEN);
+static std::vector<uint16_t> path_arcs(FORTHWN_PATH_LEN), path_labels(FORTHWN_PATH_LEN);
+static std::vector<uint32_t> states(FORTHWN_STATES_LEN);
 
 static Bytes front(const Bytes &b, uint32_t len) { return Bytes(b.begin(), b.begin() + len); }
 
 static int our_count(const Bytes &b) {
   uint32_t n = 0;
   const uint32_t refused = forthwn_count(b.data(), b.size(), &n);
-  return refused == 14 ? ENDLESS : refused ? -100 - (int)refused : (int)n;
+  return refused == FORTHWN_ENDLESS ? ENDLESS : refused ? -100 - (int)refused : (int)n;
 }
 
 static double our_least(const Bytes &b) {
-  uint64_t told[3];
+  forthwn_path told;
   const uint32_t refused =
-      forthwn_shortest(b.data(), b.size(), path_arcs.data(), path_arcs.size(), path_labels.data(), path_labels.size(), told);
-  return refused == 16 ? NONE : refused ? -100. - refused : (double)told[0];
+      forthwn_shortest(b.data(), b.size(), path_arcs.data(), path_arcs.size(), path_labels.data(), path_labels.size(), &told);
+  return refused == FORTHWN_NO_PATH ? NONE : refused ? -100. - refused : (double)told.cost;
 }
 
 static Reading our_path(const Bytes &b, uint32_t k) {
-  uint64_t told[3];
-  forthwn_nth(b.data(), b.size(), k, path_arcs.data(), path_arcs.size(), path_labels.data(), path_labels.size(), told);
-  return {told[0], std::vector<int>(path_labels.begin(), path_labels.begin() + told[2])};
+  forthwn_path told;
+  forthwn_nth(b.data(), b.size(), k, path_arcs.data(), path_arcs.size(), path_labels.data(), path_labels.size(), &told);
+  return {told.cost, std::vector<int>(path_labels.begin(), path_labels.begin() + static_cast<std::ptrdiff_t>(told.labels))};
 }
 
 // ---- comparing
