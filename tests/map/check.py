@@ -1,9 +1,11 @@
 #!/usr/bin/env python3
-"""Whether what docs/MAP.md names is there: definitions, laws, proof files, functions, must-fail edits, cases and files.
+"""Whether what docs/MAP.md names is there: definitions, laws, proof files, functions, must-fail edits, cases and files, and sections of docs/reference.md.
 
   tests/map/check.py      prints each name that is not, with its line; status 1 where there is one
 
-A name `Module.name`, `file/function` or `function` stands behind the crate that was named last in its cell, as the map's own head says.
+A name `Module.name`, `file/function` or `function` stands behind the crate that was named last in its cell, as the map's own head says. Only tables whose first
+column is § are looked at: there each row has a section, `-` or `new`, and each heading above one names its sections. A § of any document must be there, and the
+refusals of the reference must be those of bindings/refusals.txt.
 """
 import re
 import sys
@@ -21,6 +23,8 @@ def text_of(crate, folder, suffix):
 
 SOURCES = {c: text_of(c, "src", ".rt") for c in CRATES}
 EDITS = {p.name for p in (ROOT / "crates").glob("*/must-fail/*.edit")}
+REFERENCE = (ROOT / "docs" / "reference.md").read_text()
+SECTIONS = set(re.findall(r"(?m)^#{2,4} (\d+(?:\.\d+)*) ", REFERENCE))
 CASES = "\n".join(p.read_text() for p in sorted((ROOT / "tests" / "limits").glob("*.py")))
 
 
@@ -66,25 +70,71 @@ def fault(crate, name):
     return None
 
 
-def main():
-    bad = checked = 0
-    for number, line in enumerate((ROOT / "docs" / "MAP.md").read_text().splitlines(), 1):
+def rows(text):
+    """The rows of the tables whose first column is §: line number, the heading above, the row."""
+    heading, inside = "", False
+    for number, line in enumerate(text.splitlines(), 1):
+        if line.startswith("#"):
+            heading = line
         if not line.startswith("|"):
-            continue
-        for cell in line.split("|"):
-            crate = None
-            for found in WORD.finditer(cell):
-                name, word = found.groups()
-                if word is not None:
-                    crate = word if word in CRATES else crate
-                    continue
-                checked += 1
-                wrong = fault(crate, name)
-                if wrong:
-                    bad += 1
-                    print(f"docs/MAP.md:{number}: `{name}`: {wrong}")
-    print(f"docs/MAP.md: {checked} names, {bad} not there")
-    return 1 if bad else 0
+            inside = False
+        elif line.startswith("| § |"):
+            inside = True
+        elif inside and not line.startswith("|---"):
+            yield number, heading, line
+
+
+def name_faults(line):
+    """Each name in backticks of a row with what is wrong with it, or nothing."""
+    for cell in line.split("|"):
+        crate = None
+        for found in WORD.finditer(cell):
+            name, word = found.groups()
+            if word is not None:
+                crate = word if word in CRATES else crate
+                continue
+            yield name, fault(crate, name)
+
+
+def key_fault(heading, line):
+    """What is wrong with the sections of a row and of its heading, or nothing."""
+    key = line.split("|")[1].strip()
+    if key not in ("-", "new") and not re.fullmatch(r"§[\d.]+(, §[\d.]+)*", key):
+        return "the row has no section"
+    if heading.startswith("## ") and key != "-" and "§" not in heading:
+        return "the heading has no section"
+    return None
+
+
+def section_faults():
+    """Each § of a document that the reference does not have."""
+    for path in [ROOT / "README.md", *sorted((ROOT / "docs").glob("*.md"))]:
+        for number, line in enumerate(path.read_text().splitlines(), 1):
+            for key in re.findall(r"§(\d+(?:\.\d+)*)", line):
+                if key not in SECTIONS:
+                    yield f"{path.relative_to(ROOT)}:{number}: §{key}: no such section of docs/reference.md"
+
+
+def refusal_faults():
+    """Each refusal of bindings/refusals.txt whose number and name are not a row of the reference."""
+    names = ROOT / "bindings" / "refusals.txt"
+    for line in names.read_text().splitlines() if names.exists() else []:
+        number, name, _ = line.split("\t")
+        if f"| {number} | `{name}` |" not in REFERENCE:
+            yield f"docs/reference.md: refusal {number}, {name}, is not in its table"
+
+
+def main():
+    faults, checked = [], 0
+    for number, heading, line in rows((ROOT / "docs" / "MAP.md").read_text()):
+        wrong = key_fault(heading, line)
+        faults += [f"docs/MAP.md:{number}: {wrong}"] if wrong else []
+        for name, wrong in name_faults(line):
+            checked += 1
+            faults += [f"docs/MAP.md:{number}: `{name}`: {wrong}"] if wrong else []
+    faults += [*section_faults(), *refusal_faults()]
+    print("\n".join([*faults, f"docs/MAP.md: {checked} names, {len(faults)} faults"]))
+    return 1 if faults else 0
 
 
 if __name__ == "__main__":
