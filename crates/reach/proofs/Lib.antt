@@ -1,0 +1,3 @@
+pub mod ByTarget
+pub mod Counted
+pub mod Sized
