@@ -166,28 +166,29 @@ uint32_t forthwn_apply(const uint16_t *string, size_t string_len, const uint8_t 
 /* Keeps the states and arcs that lie on an accepting path, in their order, renumbered; where there is none, the start alone. The bytes go
  * into `out`, their number into *len, and for each kept arc the number it had into `origins`.
  * Lent: FORTHWN_TABLE_LEN bytes, FORTHWN_LATTICE_ORIGINS_LEN origins. Refusals: 1 to 8, 10.
- * A few passes over the arcs where they lead from lower to higher states or the other way; at worst a pass for each state, which takes
- * milliseconds for the largest table. The same holds for the four calls below. */
+ * A few passes over the arcs where they lead mostly one way; at worst a pass for each state, which takes milliseconds. */
 uint32_t forthwn_trim(const uint8_t *table, size_t table_len, uint8_t *out, size_t out_len,
                       uint16_t *origins, size_t origins_len, uint32_t *len);
 
-/* Puts the number of accepting paths into *count, FORTHWN_MANY (99) standing for 99 or more. Refusals: 1 to 8, 14. */
+/* Puts the number of accepting paths into *count, FORTHWN_MANY (99) standing for 99 or more. Refusals: 1 to 8, 14.
+ * A few passes over the arcs where they lead mostly one way; at worst a pass for each state, which takes milliseconds. */
 uint32_t forthwn_count(const uint8_t *table, size_t table_len, uint32_t *count);
 
 /* The k-th accepting path, from 0 and below the count, in path order (arc numbers compared from the front, a path before its extensions):
  * its arc numbers and its non-empty output labels into the buffers, cost and lengths into *path.
- * Lent: FORTHWN_PATH_LEN arcs, FORTHWN_PATH_LEN labels. Refusals: 1 to 8, 10, 14, 15. */
+ * Lent: FORTHWN_PATH_LEN arcs, FORTHWN_PATH_LEN labels. Refusals: 1 to 8, 10, 14, 15. Time as for forthwn_count. */
 uint32_t forthwn_nth(const uint8_t *table, size_t table_len, uint32_t k, uint16_t *arcs, size_t arcs_len,
                      uint16_t *labels, size_t labels_len, forthwn_path *path);
 
 /* The accepting path of least cost, then of fewest arcs, then first in path order, told as forthwn_nth does. There is one where
- * accepting paths are infinitely many, too. Lent: FORTHWN_PATH_LEN arcs, FORTHWN_PATH_LEN labels. Refusals: 1 to 8, 10, 16. */
+ * accepting paths are infinitely many, too. Lent: FORTHWN_PATH_LEN arcs, FORTHWN_PATH_LEN labels. Refusals: 1 to 8, 10, 16.
+ * Time as for forthwn_count. */
 uint32_t forthwn_shortest(const uint8_t *table, size_t table_len, uint16_t *arcs, size_t arcs_len,
                           uint16_t *labels, size_t labels_len, forthwn_path *path);
 
 /* The main job in one call: composes two tables, applies a string of 0 to 64 symbols to the composition and puts the number of accepting
  * paths of the lattice (readings) into *count, FORTHWN_MANY (99) standing for 99 or more. Nothing is lent; the call works on its stack.
- * Refusals: those of forthwn_compose, then 9, then 11 and 12 of the lattice, then 14; never 10. */
+ * Refusals: those of forthwn_compose, then 9, then 11 and 12 of the lattice, then 14; never 10. Time is that of the three calls. */
 uint32_t forthwn_readings(const uint8_t *left, size_t left_len, const uint8_t *right, size_t right_len,
                           const uint16_t *string, size_t string_len, uint32_t *count);
 
@@ -196,7 +197,8 @@ uint32_t forthwn_readings(const uint8_t *left, size_t left_len, const uint8_t *r
  * follows for each reading, in path order: its number, its cost, its output labels, one blank between. Where the tables or the code are
  * refused the text is the one line `refused` and the number, which *said tells too; *said is 0 where the text lists.
  * Lent: FORTHWN_TEXT_LEN bytes. Returns 0, or 10 where fewer are lent; then *len and *said are 0.
- * Said: the refusals of forthwn_compose, then 9 (an odd last byte too), then 11 and 12 of the lattice. */
+ * Said: the refusals of forthwn_compose, then 9 (an odd last byte too), then 11 and 12 of the lattice.
+ * Time is that of forthwn_readings and of walking along each path that is listed. */
 uint32_t forthwn_list(const uint8_t *left, size_t left_len, const uint8_t *right, size_t right_len,
                       const uint8_t *code, size_t code_len, uint8_t *out, size_t out_len, uint32_t *len, uint32_t *said);
 
