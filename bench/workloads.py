@@ -1,5 +1,5 @@
 #!/usr/bin/env python3
-"""The workloads W1 to W4 in a folder each: left.tab, right.tab, code.lab, and joined.tab and lattice.tab, on which calls are timed alone.
+"""The workloads W1 to W4 in a folder each: left.tab, right.tab, code.lab; joined.tab and lattice.tab, on which calls are timed alone; the listing in stdout.
 
   bench/workloads.py [FOLDER]      target/workloads unless told otherwise
 
@@ -22,6 +22,12 @@ from model import Arc, Final, Transducer, composed, encode
 
 NAMES = ["W1", "W2", "W3", "W4"]
 FILES = ["left.tab", "right.tab", "code.lab", "joined.tab", "lattice.tab"]
+LISTINGS = {
+    "W1": "readings 99+\n",
+    "W2": "readings endless\n",
+    "W3": "readings 2\n0 8 1000\n1 9 1000 2000\n",
+    "W4": "readings 99+\n",
+}
 DIGESTS = {"W1": "f6d55163443a44ac", "W2": "d2d243c1c1f38c0f", "W3": "69ccefbbde67388f", "W4": "88cf020e1efb754a"}
 
 
@@ -72,6 +78,7 @@ def make(folder=FOLDER):
         (folder / name).mkdir(parents=True, exist_ok=True)
         for file, data in zip(FILES, content):
             (folder / name / file).write_bytes(data)
+        (folder / name / "stdout").write_text(LISTINGS[name])
     return folder
 
 
