@@ -50,8 +50,8 @@ inline StdVectorFst acceptor(const std::string &code) {
   return t;
 }
 
-// Accepting paths, held at 99; -1 where they are infinitely many. For a connected (trimmed) transducer.
-inline int count(const StdVectorFst &t) {
+// Accepting paths, held at 99; -1 where they are infinitely many. For a connected (trimmed) transducer. `counts` gets those from each state.
+inline int count(const StdVectorFst &t, std::vector<int> *counts = nullptr) {
   if (t.Start() < 0) return 0;
   std::vector<int> order;
   bool acyclic;
@@ -66,7 +66,9 @@ inline int count(const StdVectorFst &t) {
     for (fst::ArcIterator<StdVectorFst> it(t, s); !it.Done(); it.Next()) x = std::min(99, x + c[it.Value().nextstate]);
     c[s] = x;
   }
-  return c[t.Start()];
+  const int all = c[t.Start()];
+  if (counts) counts->swap(c);
+  return all;
 }
 
 #endif

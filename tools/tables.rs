@@ -1,19 +1,36 @@
-// Tables as text and as pictures.
+// Tables and codes as text, tables as pictures.
 //
-//   rustc -O --edition 2021 tools/tables.rs -o target/tables
-//   tables text FILE.tab              the text form of OpenFst
-//   tables compile FILE.txt [-o OUT]  text to a table, on stdout or to OUT
-//   tables dot FILE.tab               Graphviz text
-//   tables --selftest                 round trips of random tables
+//   rustc -O --edition 2024 tools/tables.rs -o target/tables
+//   target/tables --help
 //
-// A file named - is standard input. docs/tables.md describes the text form.
+// docs/tables.md describes the text form.
 
+use std::collections::HashMap;
 use std::fmt::Write as _;
 use std::io::{Read, Write};
 
 const MAX_STATES: usize = 1_024;
 const MAX_ARCS: usize = 3_072;
-const MAX_WEIGHT: u32 = 1_000_000;
+const MAX_CODE: usize = 64;
+const MAX_LABEL: u16 = 65_534;
+
+/// The weights that a table holds, and the four bytes of one.
+mod weights {
+    pub const LEAST: i64 = 0;
+    pub const MOST: i64 = 1_000_000;
+
+    pub fn from_bytes(bytes: [u8; 4]) -> i64 {
+        i64::from(u32::from_le_bytes(bytes))
+    }
+
+    pub fn to_bytes(weight: i64) -> [u8; 4] {
+        (weight as u32).to_le_bytes()
+    }
+
+    pub fn fits(weight: i64) -> bool {
+        (LEAST..=MOST).contains(&weight)
+    }
+}
 
 #[derive(Clone, Debug, PartialEq)]
 struct Arc {
@@ -21,14 +38,14 @@ struct Arc {
     input: u16,
     output: u16,
     target: u16,
-    weight: u32,
+    weight: i64,
 }
 
 #[derive(Clone, Debug, PartialEq)]
 struct Table {
     states: usize,
     start: u16,
-    finals: Vec<(u16, u32)>,
+    finals: Vec<(u16, i64)>,
     arcs: Vec<Arc>,
 }
 
@@ -36,12 +53,12 @@ struct Table {
 
 fn to_bytes(t: &Table) -> Vec<u8> {
     let mut out = Vec::new();
-    let mut two = |xs: &[u16], last: Option<u32>| {
+    let mut two = |xs: &[u16], last: Option<i64>| {
         for x in xs {
             out.extend(x.to_le_bytes());
         }
         if let Some(w) = last {
-            out.extend(w.to_le_bytes());
+            out.extend(weights::to_bytes(w));
         }
     };
     let (n, m, f) = (t.states as u16, t.arcs.len() as u16, t.finals.len() as u16);
@@ -58,7 +75,7 @@ fn to_bytes(t: &Table) -> Vec<u8> {
 /// Reads a table; an error names the refusal and the record.
 fn from_bytes(bytes: &[u8]) -> Result<Table, String> {
     let two = |at: usize| u16::from_le_bytes([bytes[at], bytes[at + 1]]);
-    let four = |at: usize| u32::from_le_bytes([bytes[at], bytes[at + 1], bytes[at + 2], bytes[at + 3]]);
+    let four = |at: usize| weights::from_bytes([bytes[at], bytes[at + 1], bytes[at + 2], bytes[at + 3]]);
     // Records as (kind, where the body begins, its length).
     let mut records = Vec::new();
     let mut at = 0;
@@ -93,7 +110,7 @@ fn from_bytes(bytes: &[u8]) -> Result<Table, String> {
         return Err(format!("refused 3: {n} states, {m} arcs, {f} finals, start {start}"));
     }
     let of = |kind: u16| records.iter().filter(move |r| r.0 == kind).map(|r| r.1);
-    let finals: Vec<(u16, u32)> = of(2).map(|at| (two(at), four(at + 2))).collect();
+    let finals: Vec<(u16, i64)> = of(2).map(|at| (two(at), four(at + 2))).collect();
     let arcs: Vec<Arc> = of(3)
         .map(|at| Arc {
             source: two(at),
@@ -120,21 +137,78 @@ fn from_bytes(bytes: &[u8]) -> Result<Table, String> {
     if let Some(i) = (1..m).find(|&i| arcs[i - 1].source > arcs[i].source) {
         return Err(format!("refused 6: arc {i} has source {} after {}", arcs[i].source, arcs[i - 1].source));
     }
-    if let Some(i) = arcs.iter().position(|a| a.input == 65_535 || a.output == 65_535) {
+    if let Some(i) = arcs.iter().position(|a| a.input > MAX_LABEL || a.output > MAX_LABEL) {
         return Err(format!("refused 7: arc {i} has label 65535"));
     }
-    if let Some(i) = finals.iter().position(|x| x.1 > MAX_WEIGHT) {
+    if let Some(i) = finals.iter().position(|x| !weights::fits(x.1)) {
         return Err(format!("refused 8: final {i} has weight {}", finals[i].1));
     }
-    if let Some(i) = arcs.iter().position(|a| a.weight > MAX_WEIGHT) {
+    if let Some(i) = arcs.iter().position(|a| !weights::fits(a.weight)) {
         return Err(format!("refused 8: arc {i} has weight {}", arcs[i].weight));
     }
     Ok(Table { states: n, start: start as u16, finals, arcs })
 }
 
+// -------------------------------------------------------------- symbols
+
+/// The words of labels. Without a file each label is its number.
+#[derive(Default)]
+struct Symbols {
+    file: Option<String>,
+    label_of: HashMap<String, u16>,
+    word_of: HashMap<u16, String>,
+}
+
+impl Symbols {
+    /// Lines of a word and its label, as OpenFst's symbol files have them.
+    fn read(file: &str, text: &str) -> Result<Symbols, String> {
+        let mut symbols = Symbols { file: Some(file.to_string()), ..Symbols::default() };
+        let mut line_of = HashMap::new();
+        for (i, line) in text.lines().enumerate() {
+            let number = i + 1;
+            let at = |e: String| format!("{file}: line {number}: {e}");
+            let fields: Vec<&str> = line.split_whitespace().collect();
+            let (word, label) = match fields[..] {
+                [] => continue,
+                [word, label] => (word, number_label(label).map_err(at)?),
+                _ => return Err(at(format!("{} fields; a symbol has 2, a word and its label", fields.len()))),
+            };
+            if let Some(old) = symbols.label_of.insert(word.to_string(), label) {
+                return Err(at(format!("{word} is label {old} already, see line {}", line_of[&old])));
+            }
+            if let Some(old) = symbols.word_of.insert(label, word.to_string()) {
+                return Err(at(format!("label {label} is {old} already, see line {}", line_of[&label])));
+            }
+            line_of.insert(label, number);
+        }
+        Ok(symbols)
+    }
+
+    fn label(&self, text: &str) -> Result<u16, String> {
+        match &self.file {
+            None => number_label(text),
+            Some(file) => self.label_of.get(text).copied().ok_or_else(|| format!("{text} is no word of {file}")),
+        }
+    }
+
+    fn word(&self, label: u16) -> Result<String, String> {
+        match &self.file {
+            None => Ok(label.to_string()),
+            Some(file) => self.word_of.get(&label).cloned().ok_or_else(|| format!("label {label} has no word in {file}")),
+        }
+    }
+}
+
+/// The words of input and of output labels.
+#[derive(Default)]
+struct Words {
+    input: Symbols,
+    output: Symbols,
+}
+
 // ----------------------------------------------------------------- text
 
-fn to_text(t: &Table) -> String {
+fn to_text(t: &Table, words: &Words) -> Result<String, String> {
     let mut out = String::new();
     let others = (0..t.states as u16).filter(|&s| s != t.start);
     let last = t.states as u16 - 1;
@@ -142,20 +216,23 @@ fn to_text(t: &Table) -> String {
     mentioned |= last == t.start || t.finals.iter().any(|x| x.0 == last);
     // The first line's source is the start, so its lines come first.
     for s in std::iter::once(t.start).chain(others) {
-        let arcs: Vec<_> = t.arcs.iter().filter(|a| a.source == s).collect();
-        for a in &arcs {
-            let _ = writeln!(out, "{}\t{}\t{}\t{}\t{}", a.source, a.target, a.input, a.output, a.weight);
+        let mut arcs = 0;
+        for (i, a) in t.arcs.iter().enumerate().filter(|x| x.1.source == s) {
+            let named = |e: String| format!("arc {i}: {e}");
+            let (input, output) = (words.input.word(a.input).map_err(named)?, words.output.word(a.output).map_err(named)?);
+            let _ = writeln!(out, "{}\t{}\t{input}\t{output}\t{}", a.source, a.target, a.weight);
+            arcs += 1;
         }
         let weight = t.finals.iter().find(|x| x.0 == s);
         if let Some((_, w)) = weight {
             let _ = writeln!(out, "{s}\t{w}");
-        } else if s == t.start && arcs.is_empty() || s == last && !mentioned {
+        } else if s == t.start && arcs == 0 || s == last && !mentioned {
             // A state no other line tells of: final with infinite weight,
             // which is to say not final.
             let _ = writeln!(out, "{s}\tInfinity");
         }
     }
-    out
+    Ok(out)
 }
 
 fn state(text: &str) -> Result<u16, String> {
@@ -166,33 +243,64 @@ fn state(text: &str) -> Result<u16, String> {
     }
 }
 
-fn label(text: &str) -> Result<u16, String> {
+fn number_label(text: &str) -> Result<u16, String> {
     match text.parse::<u64>() {
         Ok(65_535) => Err("label 65535 is barred".into()),
-        Ok(x) if x < 65_535 => Ok(x as u16),
-        Ok(x) => Err(format!("label {x} is above 65534")),
+        Ok(x) if x <= u64::from(MAX_LABEL) => Ok(x as u16),
+        Ok(x) => Err(format!("label {x} is above {MAX_LABEL}")),
         Err(_) => Err(format!("label {text} is not a number")),
     }
 }
 
-/// A whole number; also in the form of a float, such as 1e+06.
-fn weight(text: &str) -> Result<u32, String> {
-    let plain = text.bytes().all(|c| c.is_ascii_digit() || b".eE+-".contains(&c));
-    match text.parse::<f64>() {
-        Ok(x) if !plain || !x.is_finite() => Err(format!("weight {text} is not a number")),
-        Ok(x) if x.fract() != 0.0 => Err(format!("weight {text} is not a whole number")),
-        Ok(x) if x < 0.0 => Err(format!("weight {text} is below 0")),
-        Ok(x) if x > MAX_WEIGHT as f64 => Err(format!("weight {text} is above {MAX_WEIGHT}")),
-        Ok(x) => Ok(x as u32),
-        Err(_) => Err(format!("weight {text} is not a number")),
+/// The digits of a decimal number that is whole, its sign apart, as in 5, 5.0, -3 or 1e+06. Exact: nothing is rounded.
+fn whole_digits(text: &str) -> Option<Result<(bool, String), ()>> {
+    let (negative, rest) = match text.as_bytes().first()? {
+        b'-' => (true, &text[1..]),
+        b'+' => (false, &text[1..]),
+        _ => (false, text),
+    };
+    let (mantissa, exponent) = rest.split_once(['e', 'E']).unwrap_or((rest, "0"));
+    let (before, behind) = mantissa.split_once('.').unwrap_or((mantissa, ""));
+    let mut digits = format!("{before}{behind}");
+    if digits.is_empty() || !digits.bytes().all(|c| c.is_ascii_digit()) {
+        return None;
+    }
+    let shift = exponent.parse::<i64>().ok()?.saturating_sub(behind.len() as i64);
+    if digits.bytes().all(|c| c == b'0') {
+        return Some(Ok((negative, "0".into())));
+    }
+    let cut = usize::try_from(shift.saturating_neg()).unwrap_or(0);
+    if cut > 0 {
+        if cut >= digits.len() || !digits[digits.len() - cut..].bytes().all(|c| c == b'0') {
+            return Some(Err(()));
+        }
+        digits.truncate(digits.len() - cut);
+    }
+    // More zeros than any weight has digits say no more.
+    digits.push_str(&"0".repeat(shift.clamp(0, 20) as usize));
+    Some(Ok((negative, digits.trim_start_matches('0').to_string())))
+}
+
+/// A weight: a whole number within the bounds, also in the form of a float.
+fn weight(text: &str) -> Result<i64, String> {
+    let (negative, digits) = match whole_digits(text) {
+        None => return Err(format!("weight {text} is not a number")),
+        Some(Err(())) => return Err(format!("weight {text} is not a whole number")),
+        Some(Ok(found)) => found,
+    };
+    let size = digits.parse::<i64>().unwrap_or(i64::MAX);
+    match if negative { -size } else { size } {
+        w if w < weights::LEAST => Err(format!("weight {text} is below {}", weights::LEAST)),
+        w if w > weights::MOST => Err(format!("weight {text} is above {}", weights::MOST)),
+        w => Ok(w),
     }
 }
 
-fn from_text(text: &str) -> Result<Table, String> {
+fn from_text(text: &str, words: &Words) -> Result<Table, String> {
     let mut start = None;
     let mut states = 0;
     let mut arcs: Vec<Arc> = Vec::new();
-    let mut finals: Vec<(u16, u32, usize)> = Vec::new();
+    let mut finals: Vec<(u16, i64, usize)> = Vec::new();
     for (i, line) in text.lines().enumerate() {
         let number = i + 1;
         let fields: Vec<&str> = line.split_whitespace().collect();
@@ -214,7 +322,7 @@ fn from_text(text: &str) -> Result<Table, String> {
                 }
                 4 | 5 => {
                     let target = state(fields[1])?;
-                    let (input, output) = (label(fields[2])?, label(fields[3])?);
+                    let (input, output) = (words.input.label(fields[2])?, words.output.label(fields[3])?);
                     let w = fields.get(4).map_or(Ok(0), |x| weight(x))?;
                     if arcs.len() == MAX_ARCS {
                         return Err(format!("more than {MAX_ARCS} arcs"));
@@ -240,9 +348,45 @@ fn from_text(text: &str) -> Result<Table, String> {
     Ok(Table { states, start, finals, arcs })
 }
 
+// ----------------------------------------------------------------- code
+
+/// The bytes of a code: a label for each field, none of them 0. Fields come with what an error calls their place.
+fn code_of(fields: &[(String, &str)], symbols: &Symbols) -> Result<Vec<u8>, String> {
+    let mut out = Vec::new();
+    for (place, field) in fields {
+        let at = |e: String| format!("{place}: {e}");
+        match symbols.label(field).map_err(at)? {
+            0 => return Err(at(format!("{field} is label 0, and a code has none"))),
+            _ if out.len() == 2 * MAX_CODE => return Err(at(format!("more than {MAX_CODE} labels"))),
+            label => out.extend(label.to_le_bytes()),
+        }
+    }
+    Ok(out)
+}
+
+fn fields_of(text: &str) -> Vec<(String, &str)> {
+    text.lines().enumerate().flat_map(|(i, x)| x.split_whitespace().map(move |field| (format!("line {}", i + 1), field))).collect()
+}
+
+/// The labels of a code on one line.
+fn code_to_text(bytes: &[u8], symbols: &Symbols) -> Result<String, String> {
+    if bytes.len() % 2 != 0 {
+        return Err(format!("refused 9: {} bytes, and a label has two", bytes.len()));
+    }
+    let labels: Vec<u16> = bytes.chunks(2).map(|x| u16::from_le_bytes([x[0], x[1]])).collect();
+    if labels.len() > MAX_CODE {
+        return Err(format!("refused 9: {} labels, more than {MAX_CODE}", labels.len()));
+    }
+    if let Some(i) = labels.iter().position(|&x| x == 0 || x > MAX_LABEL) {
+        return Err(format!("refused 9: label {i} is {}", labels[i]));
+    }
+    let words: Vec<String> = labels.iter().map(|&x| symbols.word(x)).collect::<Result<_, _>>()?;
+    Ok(words.join(" ") + "\n")
+}
+
 // ------------------------------------------------------------------ dot
 
-fn to_dot(t: &Table) -> String {
+fn to_dot(t: &Table, words: &Words) -> Result<String, String> {
     let mut out = String::from("digraph table {\n  rankdir = LR;\n  node [shape = circle];\n");
     let _ = writeln!(out, "  begin [shape = point];\n  begin -> {};", t.start);
     for s in 0..t.states as u16 {
@@ -251,16 +395,31 @@ fn to_dot(t: &Table) -> String {
             None => writeln!(out, "  {s} [label = \"{s}\"];"),
         };
     }
-    for a in &t.arcs {
-        let text = format!("{}:{}/{}", a.input, a.output, a.weight);
+    for (i, a) in t.arcs.iter().enumerate() {
+        let named = |e: String| format!("arc {i}: {e}");
+        let (input, output) = (words.input.word(a.input).map_err(named)?, words.output.word(a.output).map_err(named)?);
+        let text = format!("{input}:{output}/{}", a.weight).replace('\\', "\\\\").replace('"', "\\\"");
         let _ = writeln!(out, "  {} -> {} [label = \"{text}\"];", a.source, a.target);
     }
-    out + "}\n"
+    Ok(out + "}\n")
 }
 
 // ------------------------------------------------------------- selftest
 
+/// Words for the labels of a table.
+fn named(t: &Table) -> Result<Words, String> {
+    let file = |letter: char, mut labels: Vec<u16>| {
+        labels.sort();
+        labels.dedup();
+        let lines: Vec<String> = labels.iter().map(|x| format!("{letter}{x}\t{x}\n")).collect();
+        Symbols::read("words", &lines.concat())
+    };
+    let (inputs, outputs) = (t.arcs.iter().map(|a| a.input).collect(), t.arcs.iter().map(|a| a.output).collect());
+    Ok(Words { input: file('i', inputs)?, output: file('o', outputs)? })
+}
+
 fn selftest() -> Result<String, String> {
+    let plain = Words::default();
     let mut seed = 7u64;
     let mut below = move |n: u64| {
         seed ^= seed << 13;
@@ -278,7 +437,7 @@ fn selftest() -> Result<String, String> {
             let mut small = |n: u64| below(n) as u16;
             let (source, target) = (small(n as u64), small(n as u64));
             let (input, output) = ([0, 1, 2, 65_534][small(4) as usize], small(65_535));
-            let weight = [0, 1, 7, 999_999, 1_000_000][small(5) as usize];
+            let weight = [weights::LEAST, 0, 1, 999_999, weights::MOST][small(5) as usize];
             arcs.push(Arc { source, input, output, target, weight });
         }
         arcs.sort_by_key(|a| a.source);
@@ -286,7 +445,7 @@ fn selftest() -> Result<String, String> {
         let mut finals = Vec::new();
         for s in 0..n as u16 {
             if below(odds + 1) == 0 {
-                finals.push((s, below(1_000_001) as u32));
+                finals.push((s, weights::LEAST + below((weights::MOST - weights::LEAST + 1) as u64) as i64));
             }
         }
         let t = Table { states: n as usize, start: below(n) as u16, finals, arcs };
@@ -295,18 +454,22 @@ fn selftest() -> Result<String, String> {
         if read != t {
             return Err(format!("round {round}: bytes changed the table {t:?}"));
         }
-        let text = to_text(&read);
-        let back = from_text(&text)?;
+        let text = to_text(&read, &plain)?;
+        let back = from_text(&text, &plain)?;
         if to_bytes(&back) != bytes {
             return Err(format!("round {round}: text changed the table {t:?}:\n{text}"));
         }
-        if to_dot(&t).lines().count() != 6 + t.states + t.arcs.len() {
+        let named = named(&t)?;
+        if to_bytes(&from_text(&to_text(&t, &named)?, &named)?) != bytes {
+            return Err(format!("round {round}: words changed the table {t:?}"));
+        }
+        if to_dot(&t, &plain)?.lines().count() != 6 + t.states + t.arcs.len() {
             return Err(format!("round {round}: dot has the wrong number of lines"));
         }
         // Lines of another order with the same first line.
         let mut lines: Vec<&str> = text.lines().collect();
         lines[1..].sort_by_key(|l| l.split('\t').next().map(|x| std::cmp::Reverse(x.parse::<u16>().ok())));
-        if to_bytes(&from_text(&lines.join("\n"))?) != bytes {
+        if to_bytes(&from_text(&lines.join("\n"), &plain)?) != bytes {
             return Err(format!("round {round}: order of lines mattered:\n{text}"));
         }
         // Every cut of the bytes is refused.
@@ -332,15 +495,46 @@ fn selftest() -> Result<String, String> {
         ("0 1 2", "line 1: 3 fields; an arc has 4 or 5, a final state 1 or 2"),
         ("0 1\n1 2\n0 3", "line 3: state 0 is final already, see line 1"),
     ] {
-        if from_text(text) != Err(wanted.to_string()) {
-            return Err(format!("{text:?} gives {:?}, not {wanted:?}", from_text(text)));
+        if from_text(text, &plain) != Err(wanted.to_string()) {
+            return Err(format!("{text:?} gives {:?}, not {wanted:?}", from_text(text, &plain)));
+        }
+    }
+    // Weights are read exactly: the last ones would pass, or come out otherwise, where a float is made of them.
+    for (text, wanted) in [
+        ("0", Ok(0)),
+        ("-0", Ok(0)),
+        ("+7", Ok(7)),
+        ("5.000", Ok(5)),
+        ("1e+06", Ok(1_000_000)),
+        ("1.25E2", Ok(125)),
+        ("500e-2", Ok(5)),
+        ("0.0e-9", Ok(0)),
+        ("1e7", Err("above")),
+        ("99999999999999999999999", Err("above")),
+        ("1e999999999999", Err("above")),
+        ("1e-999999999999", Err("not a whole number")),
+        ("1000000.00000000000000001", Err("not a whole number")),
+        ("0.99999999999999999999", Err("not a whole number")),
+        ("Infinity", Err("not a number")),
+        ("1e", Err("not a number")),
+        (".", Err("not a number")),
+        ("-", Err("not a number")),
+        ("0x10", Err("not a number")),
+    ] {
+        let same = match (weight(text), wanted) {
+            (Ok(x), Ok(y)) => x == y,
+            (Err(x), Err(y)) => x.contains(y),
+            _ => false,
+        };
+        if !same {
+            return Err(format!("weight {text} gives {:?}, not {wanted:?}", weight(text)));
         }
     }
     let many = "0 0 1 1\n".repeat(3_073);
-    if from_text(&many) != Err("line 3073: more than 3072 arcs".to_string()) {
+    if from_text(&many, &plain) != Err("line 3073: more than 3072 arcs".to_string()) {
         return Err("3,073 arcs pass".into());
     }
-    let t = from_text("2 1 0 3 1e+06\n1\n")?;
+    let t = from_text("2 1 0 3 1e+06\n1\n", &plain)?;
     if (t.start, t.states, t.arcs[0].weight, t.finals[0]) != (2, 3, 1_000_000, (1, 0)) {
         return Err(format!("short forms: {t:?}"));
     }
@@ -349,7 +543,93 @@ fn selftest() -> Result<String, String> {
 
 // ----------------------------------------------------------------- main
 
-fn file(name: &str) -> Result<Vec<u8>, String> {
+const HELP: &str = "\
+tables: tables and codes as text, tables as pictures
+
+  tables text FILE.tab      prints the text form of a table
+  tables compile FILE.txt   makes a table from its text form
+  tables dot FILE.tab       prints a picture of a table for Graphviz
+  tables code FIELD..       makes a code, with a label for each field
+  tables labels FILE.lab    prints the labels of a code
+  tables --selftest         tries round trips of random tables
+
+  tables COMMAND --help     tells more of a command
+
+A file named - is standard input. What is made goes to standard output, or with -o OUT to a file.
+Exit status: 0 done, 1 refused with the line or record named, 2 wrong usage.
+";
+
+const INPUT_WORDS: &str = "  --isymbols FILE    words for input labels: OpenFst's symbol file, lines of a word and its label\n";
+const OUTPUT_WORDS: &str = "  --osymbols FILE    words for output labels\n";
+const OPTIONS_END: &str = "  -o OUT             write to OUT and not to standard output
+With a symbol file a label is one of its words, and never a number; without one it is a number.
+";
+
+/// What each command says of itself: how it is used, and what it does.
+const COMMANDS: [(&str, &str, &str); 5] = [
+    (
+        "text",
+        "tables text FILE.tab [--isymbols FILE] [--osymbols FILE] [-o OUT]",
+        "Prints a table in OpenFst's text form: a line for each arc (source, target, input, output, weight), and for each final
+state (state, weight). `compile` gives the same bytes back. A table that is refused is told by its number and record.
+",
+    ),
+    (
+        "compile",
+        "tables compile FILE.txt [--isymbols FILE] [--osymbols FILE] [-o OUT]",
+        "Makes a table from OpenFst's text form. The source of the first line is the start. A weight is a whole number; what a
+table cannot hold exactly is refused, and the line is named.
+",
+    ),
+    (
+        "dot",
+        "tables dot FILE.tab [--isymbols FILE] [--osymbols FILE] [-o OUT]",
+        "Prints a table as a graph: tables dot left.tab | dot -Tsvg > left.svg
+",
+    ),
+    (
+        "code",
+        "tables code FIELD.. | --file FILE [--isymbols FILE] [-o OUT]",
+        "Makes a code (code.lab): two bytes for each field, which is a number from 1 to 65534, or a word of the symbol file. With
+--file the fields are those of a text, parted by blanks, tabs or new lines. At most 64; none at all is the empty code.
+",
+    ),
+    (
+        "labels",
+        "tables labels FILE.lab [--isymbols FILE] [-o OUT]",
+        "Prints the labels of a code on one line. A code that is refused is told by its number and label.
+",
+    ),
+];
+
+fn help_of(command: &str) -> Option<String> {
+    let (_, usage, what) = COMMANDS.iter().find(|x| x.0 == command)?;
+    let outputs = if usage.contains("--osymbols") { OUTPUT_WORDS } else { "" };
+    Some(format!("{usage}\n\n{what}\n{INPUT_WORDS}{outputs}{OPTIONS_END}"))
+}
+
+/// Why nothing was made: the words on the command line, or what they lead to.
+enum Failure {
+    Usage(String),
+    Refused(String),
+}
+
+impl From<String> for Failure {
+    fn from(text: String) -> Failure {
+        Failure::Refused(text)
+    }
+}
+
+/// The words behind a command.
+#[derive(Default)]
+struct Options {
+    names: Vec<String>,
+    file: Option<String>,
+    words: Words,
+    out: Option<String>,
+}
+
+fn bytes_of(name: &str) -> Result<Vec<u8>, String> {
     let mut bytes = Vec::new();
     let result = match name {
         "-" => std::io::stdin().read_to_end(&mut bytes).map(|_| ()),
@@ -358,41 +638,107 @@ fn file(name: &str) -> Result<Vec<u8>, String> {
     result.map_err(|e| format!("{name}: {e}")).map(|_| bytes)
 }
 
-fn run(args: &[&str]) -> Result<Vec<u8>, String> {
-    let named = |name: &str, e: String| format!("{name}: {e}");
+fn text_of(name: &str) -> Result<String, String> {
+    String::from_utf8(bytes_of(name)?).map_err(|_| format!("{name}: not text"))
+}
+
+fn options(command: &str, args: &[&str]) -> Result<Options, Failure> {
+    let mut found = Options::default();
+    let mut args = args.iter();
+    while let Some(&arg) = args.next() {
+        let (option, value) = match arg.split_once('=') {
+            Some((option, value)) if option.starts_with("--") => (option, Some(value)),
+            _ => (arg, None),
+        };
+        if option == "--" {
+            found.names.extend(args.by_ref().map(|x| x.to_string()));
+            continue;
+        }
+        if !option.starts_with('-') || option == "-" {
+            found.names.push(arg.to_string());
+            continue;
+        }
+        let known = match option {
+            "-o" | "--isymbols" => true,
+            "--osymbols" => !matches!(command, "code" | "labels"), // a code is read, never written
+            "--file" => command == "code",
+            _ => false,
+        };
+        if !known {
+            return Err(Failure::Usage(format!("{command} has no option {option}")));
+        }
+        let Some(value) = value.or_else(|| args.next().copied()) else {
+            return Err(Failure::Usage(format!("{option} wants a file")));
+        };
+        match option {
+            "-o" => found.out = Some(value.to_string()),
+            "--file" => found.file = Some(value.to_string()),
+            "--isymbols" => found.words.input = Symbols::read(value, &text_of(value)?)?,
+            _ => found.words.output = Symbols::read(value, &text_of(value)?)?,
+        }
+    }
+    Ok(found)
+}
+
+/// What a command makes.
+fn made(command: &str, options: &Options) -> Result<Vec<u8>, Failure> {
+    let words = &options.words;
+    if command == "code" {
+        let text = match &options.file {
+            Some(name) if options.names.is_empty() => text_of(name)?,
+            Some(_) => return Err(Failure::Usage("code takes fields or --file, not both".into())),
+            None => String::new(),
+        };
+        let told: Vec<(String, &str)> = options.names.iter().enumerate().map(|(i, x)| (format!("field {}", i + 1), x.as_str())).collect();
+        return Ok(match &options.file {
+            Some(name) => code_of(&fields_of(&text), &words.input).map_err(|e| format!("{name}: {e}"))?,
+            None => code_of(&told, &words.input)?,
+        });
+    }
+    let [name] = &options.names[..] else {
+        return Err(Failure::Usage(format!("{command} takes one file")));
+    };
+    let named = |e: String| format!("{name}: {e}");
+    Ok(match command {
+        "compile" => to_bytes(&from_text(&text_of(name)?, words).map_err(named)?),
+        "labels" => code_to_text(&bytes_of(name)?, &words.input).map_err(named)?.into_bytes(),
+        "text" => to_text(&from_bytes(&bytes_of(name)?).map_err(named)?, words).map_err(named)?.into_bytes(),
+        _ => to_dot(&from_bytes(&bytes_of(name)?).map_err(named)?, words).map_err(named)?.into_bytes(),
+    })
+}
+
+fn run(args: &[&str]) -> Result<Vec<u8>, Failure> {
     match args {
-        ["text", name] => {
-            let t = from_bytes(&file(name)?).map_err(|e| named(name, e))?;
-            Ok(to_text(&t).into_bytes())
-        }
-        ["dot", name] => {
-            let t = from_bytes(&file(name)?).map_err(|e| named(name, e))?;
-            Ok(to_dot(&t).into_bytes())
-        }
-        ["compile", name, rest @ ..] if rest.is_empty() || rest.len() == 2 && rest[0] == "-o" => {
-            let text = String::from_utf8(file(name)?).map_err(|_| named(name, "not text".into()))?;
-            let bytes = to_bytes(&from_text(&text).map_err(|e| named(name, e))?);
-            match rest.get(1) {
-                Some(out) => std::fs::write(out, bytes).map_err(|e| named(out, e.to_string())).map(|_| vec![]),
+        ["--help" | "-h" | "help"] => Ok(HELP.into()),
+        ["--selftest"] => Ok((selftest()? + "\n").into_bytes()),
+        [command, rest @ ..] if help_of(command).is_some() => {
+            if rest.iter().take_while(|&&x| x != "--").any(|&x| x == "--help" || x == "-h") {
+                return Ok(help_of(command).unwrap_or_default().into_bytes());
+            }
+            let options = options(command, rest)?;
+            let bytes = made(command, &options)?;
+            match &options.out {
+                Some(out) => Ok(std::fs::write(out, bytes).map(|_| vec![]).map_err(|e| format!("{out}: {e}"))?),
                 None => Ok(bytes),
             }
         }
-        ["--selftest"] => selftest().map(|x| (x + "\n").into_bytes()),
-        _ => Err("usage: tables text FILE.tab | compile FILE.txt [-o OUT] | dot FILE.tab | --selftest".into()),
+        [] => Err(Failure::Usage("no command".into())),
+        [command, ..] => Err(Failure::Usage(format!("no command {command}"))),
     }
 }
 
 fn main() {
     let args: Vec<String> = std::env::args().skip(1).collect();
     let args: Vec<&str> = args.iter().map(|x| x.as_str()).collect();
-    match run(&args) {
-        Ok(out) => {
+    let (text, status) = match run(&args) {
+        Ok(out) => match std::io::stdout().write_all(&out).and_then(|()| std::io::stdout().flush()) {
             // A closed pipe is no error worth telling of.
-            let _ = std::io::stdout().write_all(&out);
-        }
-        Err(e) => {
-            eprintln!("{e}");
-            std::process::exit(1);
-        }
-    }
+            Err(e) if e.kind() != std::io::ErrorKind::BrokenPipe => (format!("standard output: {e}"), 1),
+            _ => return,
+        },
+        Err(Failure::Refused(text)) => (text, 1),
+        Err(Failure::Usage(text)) => (format!("{text}; tables --help tells how it is used"), 2),
+    };
+    eprintln!("{text}");
+    std::process::exit(status);
 }
