@@ -33,7 +33,7 @@ by-test : {A : Type 0} (t : Bool) → (t ≡ true → A) → (t ≡ false → A)
 by-test true f g = f refl
 by-test false f g = g refl
 
-passed-both : (p q : ℕ) → or-else p q ≡ 0 → (p ≡ 0) × (q ≡ 0)
+pub passed-both : (p q : ℕ) → or-else p q ≡ 0 → (p ≡ 0) × (q ≡ 0)
 unfolding or-else
 passed-both p q h =
     by-test (eqb p 0) (λ e. (eqb-true p 0 e, rw e at h)) (λ e. let z : p ≡ 0 = rw e at h in (z, let t : eqb p 0 ≡ true = eq-eqb p 0 z in absurd (let y : _≡_ {A = ℕ} 0 1 = cc in omega arith)))
@@ -87,7 +87,7 @@ applied-number t cs s even e =
     by-test (string-good (labels-in cs)) (λ g. rw (e, good-whole (labels-in cs) g, g, eq-eqb (length cs % 2) 0 even))
     (λ g. rw (e, taken-good (labels-in cs), g, eq-eqb (length cs % 2) 0 even))
 
-applied-fine : (t : Transducer) (cs : List ℕ) → applied-refusal t cs ≡ 0 → (string-good (labels-in cs) ≡ true) × (built-refusal (applied (labels-in cs) t .result) ≡ 0)
+pub applied-fine : (t : Transducer) (cs : List ℕ) → applied-refusal t cs ≡ 0 → (string-good (labels-in cs) ≡ true) × (built-refusal (applied (labels-in cs) t .result) ≡ 0)
 unfolding applied-refusal code-refusal
 applied-fine t cs h =
     let good : Bool = eqb (length cs % 2) 0 && string-good (labels-in cs) in

@@ -61,7 +61,8 @@ fn list_composed(left: &[u8], right: &[u8], bytes: &[u8], out: &mut [u8]) -> Lis
 // The listing of two transducers and a code: the text from the front of `out`, zeros behind, its length, and the number of the refusal that it says:
 // a refusal of theirs is a text too. Where `out` is too short for the longest text, 10 is answered and nothing written.
 pub fn listing(left: &[u8], right: &[u8], bytes: &[u8], out: &mut [u8]) -> Listed
-    ensures { λ r. ⌜ Listing-says (now (left .entry)) (now (right .entry)) (now (bytes .entry)) (text-room (length (now (out .entry)))) r (now (out .entry)) (now (out .exit)) ⌝ }
+    ensures { λ r. ⌜ Listing-says (now (left .entry)) (now (right .entry)) (now (bytes .entry)) (text-room (length (now (out .entry))))
+        r (now (out .entry)) (now (out .exit)) ⌝ }
 {
     if out.len() < LEAST_ROOM {
         return Listed {

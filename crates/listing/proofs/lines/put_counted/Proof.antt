@@ -50,13 +50,16 @@ few c = c .before .before
 abbrev number : (c : tie.Else1) → ℕ
 number c = at-state (start (few c) .args .t7) (start (few c) .args .start)
 
-is-few : (c : tie.Else1) → counted-text (decode (start (few c) .args .table .now)) ≡ decimal (number c) ++ (10 ∷ lines (decode (start (few c) .args .table .now)) (number c))
+is-few : (c : tie.Else1)
+    → counted-text (decode (start (few c) .args .table .now))
+    ≡ decimal (number c) ++ (10 ∷ lines (decode (start (few c) .args .table .now)) (number c))
 unfolding at-state
 is-few c = counted-few (decode (start (few c) .args .table .now)) (number c) (count (few c)) (c .if1 .left)
 
 -- What the parts take, and that it is there.
 room : (c : tie.Else1)
-    → start (few c) .args .at + (length (decimal (number c)) + (1 + length (lines (decode (start (few c) .args .table .now)) (number c)))) ≤ length (start (few c) .args .out .now)
+    → start (few c) .args .at + (length (decimal (number c)) + (1 + length (lines (decode (start (few c) .args .table .now)) (number c))))
+    ≤ length (start (few c) .args .out .now)
 room c =
     let t = decode (start (few c) .args .table .now) in
     omega (arith, ap length (is-few c) ∙ length-append (decimal (number c)) (10 ∷ lines t (number c)), start (few c) .pre .1)

@@ -46,7 +46,9 @@ is-bytes c = λ i. omega (arith, c .before .shared-slice-known .given i)
 head : (c : tie.After-header) → Headed (start (c .before) .args .table .now) (c .header .result)
 head c = headed (start (c .before) .args .table .now) (is-bytes (c .before)) (start (c .before) .pre .0) (c .header .result) (c .header .ensures)
 
-ready : (c : tie.After-first-arcs-by-blocks) → Ready (start (at-header (c .before) .before) .args .table .now) (12 + 10 * at-header (c .before) .header .result .finals) (at-header (c .before) .header .result .states) (c .first-arcs-by-blocks .result)
+ready : (c : tie.After-first-arcs-by-blocks)
+    → Ready (start (at-header (c .before) .before) .args .table .now) (12 + 10 * at-header (c .before) .header .result .finals)
+    (at-header (c .before) .header .result .states) (c .first-arcs-by-blocks .result)
 ready c =
     let known = head (at-header (c .before)) in
     record { opened = known .opened; states-are = known .states-are; indexed = c .first-arcs-by-blocks .ensures }
@@ -63,7 +65,8 @@ finite c = sym (finite-way c .counts-by-state .ensures .endless-is) ∙ c .if1 .
 walkable : (c : tie.Else1)
     → Walkable (start-of (finite-way c) .args .table .now) (12 + 10 * header-of (finite-way c) .header .result .finals)
     (header-of (finite-way c) .header .result .states) (header-of (finite-way c) .header .result .start)
-    (at-index (finite-way c .before) .first-arcs-by-blocks .result) (finite-way c .before .before .before .final-codes .result) (finite-way c .counts-by-state .result .counts)
+    (at-index (finite-way c .before) .first-arcs-by-blocks .result) (finite-way c .before .before .before .final-codes .result)
+    (finite-way c .counts-by-state .result .counts)
 walkable c =
     let at = finite-way c in
     record {
@@ -140,7 +143,14 @@ put-counted-requires c κs =
     let asked = counted put in
     let t = decode (start-of asked .args .table .now) in (
       walkable at,
-      omega (arith, put .put-bytes .ensures .ends, put .put-bytes .kept .0, start-of asked .pre .1, short (header-of asked .before), ap length (listing-finite t (finite at))),
+      omega (
+        arith,
+        put .put-bytes .ensures .ends,
+        put .put-bytes .kept .0,
+        start-of asked .pre .1,
+        short (header-of asked .before),
+        ap length (listing-finite t (finite at)),
+      ),
     )
 
 same-length-2 : tie.Need-same-length-2
@@ -153,7 +163,8 @@ unfolding readings-word
 returns-2 c =
     let at = c .before .before .before .before .before .before .before in
     let put = word (at .before) in
-    rw (listing-finite (decode (start-of (counted put) .args .table .now)) (finite at)) (wrote-then (put .put-bytes .ensures) (c .before .before .put-counted .ensures))
+    rw (listing-finite (decode (start-of (counted put) .args .table .now)) (finite at))
+    (wrote-then (put .put-bytes .ensures) (c .before .before .put-counted .ensures))
 
 pub put-listing-spec : {M : Type 1} → statement M
 put-listing-spec =

@@ -31,7 +31,8 @@ path c =
 abbrev behind-walk : tie.After-tell → tie.After-walk
 behind-walk c = c .before .before .before .before
 
-told : (c : tie.After-tell) → Got (decode (start (behind-walk c) .args .table .now)) (start (behind-walk c) .args .k) (c .tell .result) (c .tell .last .1 .1 .1 .1 .1 .1 .0)
+told : (c : tie.After-tell)
+    → Got (decode (start (behind-walk c) .args .table .now)) (start (behind-walk c) .args .k) (c .tell .result) (c .tell .last .1 .1 .1 .1 .1 .1 .0)
 told c =
     let at = behind-walk c in
     let x = start at in

@@ -14,7 +14,8 @@ start c = c .before .before .before .before
 
 -- What the parts take, and that it is there.
 room : (x : tie.Start)
-    → x .args .at + (length (decimal (x .args .k)) + (1 + (length (decimal (x .args .cost)) + (length (labels-text (take (x .args .count) (x .args .labels .now))) + 1))))
+    → x .args .at + (length (decimal (x .args .k)) + (1 + (length (decimal (x .args .cost))
+    + (length (labels-text (take (x .args .count) (x .args .labels .now))) + 1))))
     ≤ length (x .args .out .now)
 room x = omega (arith, length-line (x .args .k) (x .args .cost) (take (x .args .count) (x .args .labels .now)), x .pre .1)
 
@@ -83,7 +84,8 @@ same-length c =
     let told = c .before .before .before .before .before .before in
     let cost = behind-labels told in
     let gap = behind-cost cost in
-    c .before .before .put-byte2 .kept .0 ∙ (told .put-labels .kept .0 ∙ (cost .put-decimal2 .kept .0 ∙ (gap .put-byte .kept .0 ∙ behind-gap gap .put-decimal .kept .0)))
+    c .before .before .put-byte2 .kept .0
+    ∙ (told .put-labels .kept .0 ∙ (cost .put-decimal2 .kept .0 ∙ (gap .put-byte .kept .0 ∙ behind-gap gap .put-decimal .kept .0)))
 
 returns : tie.Need-returns
 unfolding line

@@ -1,0 +1,152 @@
+-- Where nothing is refused, the lattice's paths are the pairs, and the text of the lattice has a line for each of them. Assumes nothing.
+use mathlib.Core.Path.{_≡_, refl, sym, ap, _∙_}
+use mathlib.Core.Bool.{true, false}
+use mathlib.Core.Logic.{_↔_}
+use mathlib.Core.List.{List, [], _∷_, _++_, map, append-assoc, append-nil, map-append}
+use Prim.Native.Nat.{ℕ, zero, suc, _+_, _≤_, _<_}
+use native.Mathlib.Omega.{arith}
+use lib.ListN.{length, getD, take, length-map}
+use lib.Seq.{take-suc, take-all, length-take-le}
+use Rattle.wire.specs.Bytes.{Bytes}
+use Rattle.transducer.specs.Format.{Transducer, Good, refusal, decode}
+use Rattle.transducer.specs.Path.{accepts}
+use Rattle.transducer.specs.Entry.{or-else}
+use Rattle.transducer.proofs.Members.{Distinct, distinct-places}
+use Rattle.transducer.proofs.RoundTrip.{accepted-good}
+use Rattle.transducer.proofs.Runs.{Within, good-within}
+use Rattle.explore.specs.Explore.{built-refusal}
+use Rattle.compose.specs.Claim.{Two-paths}
+use Rattle.compose.specs.Compose.{composed}
+use Rattle.compose.specs.Entry.{origin-pairs, compose-room, compose-refusal}
+use Rattle.compose.proofs.Claimed.{composed-one-to-one}
+use Rattle.compose.proofs.Written.{composed-good}
+use Rattle.lattice.specs.Apply.{string-good, applied}
+use Rattle.lattice.specs.Lattice.{lattice, lattice-origins}
+use Rattle.lattice.proofs.LatticeGood.{lattice-good}
+use Rattle.lattice.proofs.LatticeLaw.{lattice-one-to-one}
+use Rattle.paths.specs.Count.{paths, endless, nth-path}
+use Rattle.paths.proofs.Order.{sorted-places}
+use Rattle.paths.proofs.Endless.{mem-paths, paths-sorted}
+use Rattle.paths.proofs.NthPath.{nth-path-accepts}
+use Rattle.claim.specs.Claim.{Pair, pair-cost, pair-output, Stands-for, Paths-are-pairs, Infinitely-many, Each-once}
+use Rattle.claim.proofs.Chain.{chain-pairs}
+use Rattle.claim.proofs.Counting.{listed-all, listed-only, listed-distinct, endless-infinitely-many}
+use Rattle.claim.proofs.Pigeonhole.{places-distinct, no-longer}
+use Rattle.listing.specs.Code.{labels-in}
+use Rattle.listing.specs.Text.{line, line-of, lines}
+use Rattle.listing.specs.Entry.{applied-refusal, listing-refusal}
+use Rattle.listing.proofs.Steps.{passed-both, applied-fine}
+use Rattle.printed.specs.Printed.{lattice-for, leads-to, In-path-order, pair-lines}
+
+-- Two lists that have each pair once are as long.
+pub each-once-long : (xs ys cs : List ℕ) (l m : List Two-paths) → Each-once xs ys cs l → Each-once xs ys cs m → length l ≡ length m
+each-once-long xs ys cs l m p q =
+    let up : length l ≤ length m = no-longer l m (places-distinct l (p .once)) (λ x h. q .all x (p .only x h)) in
+    let down : length m ≤ length l = no-longer m l (places-distinct m (q .once)) (λ x h. p .all x (q .only x h)) in
+    omega arith
+
+-- One line more.
+pair-lines-snoc : (xs ys : List ℕ) (k : ℕ) (l : List Two-paths) (x : Two-paths)
+    → pair-lines xs ys k (l ++ (x ∷ [])) ≡ pair-lines xs ys k l ++ line (k + length l) (pair-cost xs ys x) (pair-output ys x)
+unfolding pair-lines
+pair-lines-snoc xs ys k [] x =
+    let e : k + 0 ≡ k = omega arith in
+    rw (e, append-nil (line k (pair-cost xs ys x) (pair-output ys x)))
+pair-lines-snoc xs ys k (y ∷ l) x =
+    let e : k + 1 + length l ≡ k + suc (length l) = omega arith in
+    rw (pair-lines-snoc xs ys (k + 1) l x, e, append-assoc)
+
+module _ (xs ys cs : List ℕ) (bytes-xs : Bytes xs) (bytes-ys : Bytes ys) (fine : listing-refusal xs ys cs ≡ 0) where
+  abbrev s : List ℕ
+  s = labels-in cs
+
+  abbrev z : Transducer
+  z = composed (decode xs) (decode ys) .result
+
+  abbrev w : Transducer
+  w = lattice-for xs ys s
+
+  record Passed : Type 0 where
+    left-good : Good (decode xs)
+    right-good : Good (decode ys)
+    composes : built-refusal z ≡ 0
+    string : string-good s ≡ true
+    applies : built-refusal (applied s z .result) ≡ 0
+
+  passed : Passed
+  unfolding listing-refusal compose-refusal
+  passed =
+      let rest : ℕ = or-else (compose-room 59404 6144 1024) (built-refusal z) in
+      let all = passed-both (compose-refusal xs ys 59404 6144 1024) (applied-refusal z cs) fine in
+      let one = passed-both (refusal xs) (or-else (refusal ys) rest) (all .0) in
+      let two = passed-both (refusal ys) rest (one .1) in
+      let code = applied-fine z cs (all .1) in
+      record {
+        left-good = accepted-good xs bytes-xs (one .0);
+        right-good = accepted-good ys bytes-ys (two .0);
+        composes = passed-both (compose-room 59404 6144 1024) (built-refusal z) (two .1) .1;
+        string = code .0;
+        applies = code .1;
+      }
+
+  good-z : Good z
+  good-z = composed-good (decode xs) (decode ys) (passed .left-good) (passed .right-good) (passed .composes)
+
+  within : Within w
+  within = good-within w (lattice-good s z good-z (passed .string) (passed .applies))
+
+  pairs : Paths-are-pairs xs ys s w (leads-to xs ys s)
+  pairs =
+      chain-pairs xs ys s z w (origin-pairs (composed (decode xs) (decode ys) .steps)) (lattice-origins s z)
+      (composed-one-to-one (decode xs) (decode ys) (passed .left-good) (passed .right-good) (passed .composes))
+      (lattice-one-to-one s z good-z (passed .string) (passed .applies))
+
+  pub infinite : (endless w ≡ true) ↔ Infinitely-many xs ys s
+  infinite = endless-infinitely-many w within (Pair xs ys s) (leads-to xs ys s) (λ q h. pairs .leads q h .pair) (pairs .never-two) (pairs .every)
+
+  -- The pairs that the paths lead to.
+  abbrev pub all-pairs : List Two-paths
+  all-pairs = map (leads-to xs ys s) (paths w)
+
+  pub listed-once : endless w ≡ false → Each-once xs ys s all-pairs
+  listed-once e =
+      let apart : Distinct (λ x. x) all-pairs =
+      listed-distinct w within (Pair xs ys s) (leads-to xs ys s) (λ q h. pairs .leads q h .pair) (pairs .never-two) (pairs .every) in
+      record {
+        only = listed-only w within (Pair xs ys s) (leads-to xs ys s) (λ q h. pairs .leads q h .pair) (pairs .never-two) (pairs .every);
+        all = listed-all w within (Pair xs ys s) (leads-to xs ys s) (λ q h. pairs .leads q h .pair) (pairs .never-two) (pairs .every) e;
+        once = λ i j d. distinct-places (λ x. x) all-pairs d i j apart;
+      }
+
+  pub in-path-order : In-path-order xs ys s all-pairs
+  in-path-order =
+      record {
+        paths = paths w;
+        accepted = mem-paths w;
+        rising = λ j k h l. sorted-places (paths w) j k (paths-sorted w) h l;
+        lead = refl;
+      }
+
+  -- The line of a path is that of the pair that it stands for.
+  line-of-pair : (k : ℕ) → k < length (paths w)
+      → line-of w k ≡ line k (pair-cost xs ys (leads-to xs ys s (nth-path w k))) (pair-output ys (leads-to xs ys s (nth-path w k)))
+  unfolding line-of
+  line-of-pair k h =
+      let r : Stands-for xs ys s w (nth-path w k) (leads-to xs ys s (nth-path w k)) = pairs .leads (nth-path w k) (nth-path-accepts w k h) in
+      rw (r .costs, r .writes)
+
+  lines-up-to : (n : ℕ) → n ≤ length (paths w) → lines w n ≡ pair-lines xs ys 0 (map (leads-to xs ys s) (take n (paths w)))
+  unfolding lines pair-lines nth-path
+  lines-up-to zero h = refl
+  lines-up-to (suc n) h =
+      let p : List ℕ = getD (paths w) n [] in
+      let l : List Two-paths = map (leads-to xs ys s) (take n (paths w)) in
+      let long : 0 + length l ≡ n = omega (arith, length-map (take n (paths w)) (leads-to xs ys s), length-take-le n (paths w) (omega arith)) in
+      let next : map (leads-to xs ys s) (take (suc n) (paths w)) ≡ l ++ (leads-to xs ys s p ∷ []) =
+      ap (map (leads-to xs ys s)) (take-suc (paths w) n [] (omega arith)) ∙ map-append (leads-to xs ys s) (take n (paths w)) (p ∷ []) in
+      rw (next, pair-lines-snoc xs ys 0 l (leads-to xs ys s p), long, lines-up-to n (omega arith), line-of-pair n (omega arith))
+
+  pub lines-are-pairs : lines w (length (paths w)) ≡ pair-lines xs ys 0 all-pairs
+  lines-are-pairs =
+      lines-up-to (length (paths w)) (omega arith)
+      ∙ ap (λ (l : List (List ℕ)). pair-lines xs ys 0 (map (leads-to xs ys s) l)) (take-all (length (paths w)) (paths w) (omega arith))
