@@ -10,7 +10,6 @@ use Rattle.transducer.specs.Format.{Transducer, decode}
 use Rattle.transducer.specs.Encode.{encode}
 use Rattle.transducer.specs.Entry.{or-else}
 use Rattle.explore.specs.Explore.{left-behind}
-use Rattle.compose.specs.declared.Answer.{Answer}
 use Rattle.compose.specs.Entry.{compose-refusal, Compose-says}
 use Rattle.lattice.specs.ApplyEntry.{apply-refusal, Apply-says}
 use Rattle.lattice.specs.Lattice.{lattice, lattice-origins}
@@ -51,7 +50,7 @@ module _ (m n : ℕ) (xs ys cs : List ℕ) where
 
 -- The composition's answer
 
-module _ (xs ys cs : List ℕ) (made : Answer) (a a' b b' c c' : List ℕ)
+module _ (xs ys cs : List ℕ) (made : Written) (a a' b b' c c' : List ℕ)
     (composing : Compose-says xs ys (compose-refusal xs ys (length a) (length b) (length c)) made a a' b b' c c') where
   abbrev m : ℕ
   m = compose-refusal xs ys (length a) (length b) (length c)

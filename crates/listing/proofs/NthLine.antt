@@ -33,7 +33,7 @@ pub record Got (t : Transducer) (k : ℕ) (r : Told) (labels : List ℕ) : Type 
 
 pub got : (t : Transducer) → Sized t → {k len : ℕ} {r : Told} {a b b' : List ℕ} → endless t ≡ false → k < path-count t → 1023 ≤ length b
     → Found t k len a → Tells t (take len a) r b b' → Got t k r b'
-unfolding line-of filled
+unfolding unless left-in line-of filled
 got t z {k} {len} {r} {a} {b} {b'} finite there room path told' =
     let told : Tells t (nth-path t k) r b b' = rw (path .taken) at told' in
     let known : Listable t k = listable t z finite k there in

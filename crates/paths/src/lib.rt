@@ -9,6 +9,7 @@ mod turn;
 pub use entry::count as path_count;
 pub use entry::counts_by_state;
 pub use entry::nth as nth_path;
+pub use entry::refused;
 pub use path::tell;
 pub use path::walk as nth_arcs;
 

@@ -10,7 +10,7 @@ ghost use Rattle.paths.specs.Entry.{Count-says, count-refusal, Nth-says, nth-re
 ghost use Rattle.shortest.specs.Entry.{Shortest-says, shortest-refusal};
 ghost use Rattle.claim.specs.Entry.{Readings-says};
 ghost use Rattle.listing.specs.Entry.{Listing-says, text-room};
-ghost use Rattle.reader.specs.Answer.{header, written, composed, counted, told, listed};
+ghost use Rattle.reader.specs.Answer.{header, written, counted, told, listed};
 
 // Refusals 1 to 8 of a transducer's bytes, or 0 where they are accepted.
 #[no_mangle]
@@ -88,7 +88,8 @@ pub extern "C" fn forthwn_compose(
 ) -> u32
     ensures { λ r. ⌜ Compose-says (now (left .entry)) (now (right .entry))
         (compose-refusal (now (left .entry)) (now (right .entry)) (length (now (table .entry))) (length (now (origins .entry))) (length (now (states .entry))))
-        (composed r (now (len .exit))) (now (table .entry)) (now (table .exit)) (now (origins .entry)) (now (origins .exit)) (now (states .entry)) (now (states .exit)) ⌝ }
+        (written r (now (len .exit))) (now (table .entry)) (now (table .exit)) (now (origins .entry)) (now (origins .exit))
+        (now (states .entry)) (now (states .exit)) ⌝ }
 {
     let answer = compose::compose(left, right, table, origins, states);
     *len = answer.len;
