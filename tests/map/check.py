@@ -13,7 +13,8 @@ from pathlib import Path
 
 ROOT = Path(__file__).resolve().parents[2]
 CRATES = sorted(p.name for p in (ROOT / "crates").iterdir() if p.is_dir())
-# `list` and `reader` are words of the text too, so a bare word is a crate only right before a name.
+# Folders of the repository: a name that begins with one is a file.
+FOLDERS = ("bench", "bindings", "crates", "docs", "examples", "tests", "tools")
 WORD = re.compile(r"`([^`]+)`|([A-Za-z_]+)")
 
 
@@ -42,13 +43,13 @@ def fault(crate, name):
     """What is wrong with a name in backticks, or nothing."""
     if name.endswith(".edit"):
         return None if name in EDITS else "no such must-fail edit"
-    if "/" in name and ("." in name.rsplit("/", 1)[-1] or name.endswith("/")) or name in ("bench/run", "bench/growth", "tests/second", "tests/openfst/run"):
+    if "/" in name and ("." in name.rsplit("/", 1)[-1] or name.endswith("/") or name.split("/", 1)[0] in FOLDERS):
         found = (ROOT / name).exists() or (crate and (ROOT / "crates" / crate / name).exists())
         return None if found else "no such file"
     if re.fullmatch(r"[a-z_]+_rows?", name):
         return None if re.search(rf"(?m)^def {name}\b", CASES) else "no such cases"
     if name.startswith("forthwn_") and name != "forthwn_..":
-        return None if f"fn {name}(" in SOURCES["reader"] else "no such export"
+        return None if any(f"fn {name}(" in text for text in SOURCES.values()) else "no such export"
     if "::" in name:
         owner, function = name.split("::", 1)
         if owner in CRATES:
