@@ -16,7 +16,6 @@ use Rattle.transducer.specs.Encode.{encode}
 use Rattle.transducer.specs.Entry.{or-else, unless, left-in}
 use Rattle.transducer.specs.Path.{written-by, path-cost}
 use Rattle.explore.specs.Explore.{built-refusal, left-behind}
-use Rattle.compose.specs.declared.Answer.{Answer}
 use Rattle.compose.specs.Compose.{composed}
 use Rattle.compose.specs.Entry.{origin-pairs, compose-room, compose-refusal, Compose-says}
 use Rattle.lattice.specs.Apply.{string-good, applied}
@@ -81,7 +80,7 @@ pub record Composed-well (xs ys bs os : List ℕ) : Type 0 where
   pub room : ℕ
   pub origins : os ≡ filled room (origin-pairs (composed (decode xs) (decode ys) .steps))
 
-pub composed-well : (xs ys : List ℕ) (r : Answer) (a a' b b' c c' : List ℕ)
+pub composed-well : (xs ys : List ℕ) (r : Written) (a a' b b' c c' : List ℕ)
     → Compose-says xs ys (compose-refusal xs ys (length a) (length b) (length c)) r a a' b b' c c' → r .refusal ≡ 0
     → Composed-well xs ys (take (r .len) a') b'
 unfolding compose-refusal
@@ -105,7 +104,7 @@ composed-well xs ys r a a' b b' c c' says well =
     }
 
 -- What is handed on lies within the buffer.
-pub composed-fits : (xs ys : List ℕ) (r : Answer) (a a' b b' c c' : List ℕ)
+pub composed-fits : (xs ys : List ℕ) (r : Written) (a a' b b' c c' : List ℕ)
     → Compose-says xs ys (compose-refusal xs ys (length a) (length b) (length c)) r a a' b b' c c' → r .refusal ≡ 0 → r .len ≤ length a'
 composed-fits xs ys r a a' b b' c c' says well =
     let z : Transducer = composed (decode xs) (decode ys) .result in

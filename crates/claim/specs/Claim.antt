@@ -12,7 +12,6 @@ use Rattle.transducer.specs.declared.Written.{Written}
 use Rattle.transducer.specs.Format.{Transducer, decode}
 use Rattle.transducer.specs.Path.{accepts, read-by, written-by, path-cost}
 use Rattle.transducer.specs.Weight.{plus}
-use Rattle.compose.specs.declared.Answer.{Answer}
 use Rattle.compose.specs.Claim.{met-at, Two-paths}
 use Rattle.compose.specs.Entry.{compose-refusal, Compose-says}
 use Rattle.lattice.specs.ApplyEntry.{apply-refusal, Apply-says}
@@ -27,7 +26,7 @@ pub record Calls : Type 0 where
   -- composing (paper 01: the join)
   pub left : List ℕ
   pub right : List ℕ
-  pub composing : Answer
+  pub composing : Written
   pub table : List ℕ
   pub table-left : List ℕ
   pub origins : List ℕ

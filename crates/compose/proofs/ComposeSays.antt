@@ -10,6 +10,7 @@ use lib.Seq.{sets, length-sets}
 use borrow.Author.Tests.{lt-ltb, le-ltb, ne-eqb}
 use Rattle.wire.specs.Bytes.{Bytes, cleared}
 use Rattle.transducer.specs.declared.Final.{Final}
+use Rattle.transducer.specs.declared.Written.{Written}
 use Rattle.transducer.specs.Format.{Transducer, Good, refusal, content-refusal, first-of, decode, framed, kinds-good, records, head-good, weights-good}
 use Rattle.transducer.specs.Format.{head-states, head-arcs, head-finals, head-start, states-good, order-good, all-labels-good}
 use Rattle.transducer.specs.Encode.{head-record, final-records, arc-records, encode}
@@ -37,7 +38,6 @@ use Rattle.explore.proofs.WalkTold.{
   table-written,
   origins-written,
 }
-use Rattle.compose.specs.declared.Answer.{Answer}
 use Rattle.compose.specs.Compose.{same-state, steps, final-state, state-weight, first-state, composed, origin-pair}
 use Rattle.compose.specs.Entry.{Compose-says, compose-refusal, compose-room, origin-pairs}
 use Rattle.compose.specs.Finished.{key-final, key-weight, key-finals, Finishable, Refused-with, Composable}
@@ -56,30 +56,31 @@ module _ (xs ys : List ℕ) (number : ℕ) where
   abbrev pairs : List ℕ
   pairs = origin-pairs (composed (decode xs) (decode ys) .steps)
 
-  says-early : (k : ℕ) (a b c : List ℕ) → number ≡ k → (k ≡ 0 → ⊥) → k ≤ 10 → Compose-says xs ys number (record { refusal = k; len = 0 }) a a b b c c
+  says-early : (k : ℕ) (a b c : List ℕ) → number ≡ k → (k ≡ 0 → ⊥) → k ≤ 10
+      → (r : Written) → r ≡ record { refusal = k; len = 0 } → Compose-says xs ys number r a a b b c c
   unfolding unless
-  says-early k a b c is bad small =
+  says-early k a b c is bad small r h =
       record {
-        refusal-is = sym is;
-        len-is = rw (is, ne-eqb k 0 bad);
+        refusal-is = ap (λ (r : Written). r .refusal) h ∙ sym is;
+        len-is = ap (λ (r : Written). r .len) h ∙ (rw (is, ne-eqb k 0 bad));
         table = rw is (sym (behind-early a bytes k bad small));
         origins = rw is (sym (behind-early b pairs k bad small));
         states = rw is (sym (behind-early c [] k bad small));
       }
 
-  says-zeroed : (k : ℕ) (r : Answer) (a a' b b' c c' : List ℕ) → number ≡ k → 10 < k → Refused-with k r a a' b b' c c'
+  says-zeroed : (k : ℕ) (r : Written) (a a' b b' c c' : List ℕ) → number ≡ k → 10 < k → Refused-with k r a a' b b' c c'
       → Compose-says xs ys number r a a' b b' c c'
   unfolding unless
   says-zeroed k r a a' b b' c c' is high z =
       record {
-        refusal-is = ap (λ (r : Answer). r .refusal) (z .answer) ∙ sym is;
-        len-is = ap (λ (r : Answer). r .len) (z .answer) ∙ (rw (is, ne-eqb k 0 (omega arith)));
+        refusal-is = ap (λ (r : Written). r .refusal) (z .answer) ∙ sym is;
+        len-is = ap (λ (r : Written). r .len) (z .answer) ∙ (rw (is, ne-eqb k 0 (omega arith)));
         table = rw is (z .table ∙ sym (behind-zeroed a bytes k high));
         origins = rw is (z .origins ∙ sym (behind-zeroed b pairs k high));
         states = rw is (z .states ∙ sym (behind-zeroed c [] k high));
       }
 
-  says-after : (r : Answer) (a a₀ a' b b₀ b' c c₀ c' : List ℕ) → (leb number 10 ≡ true → number ≡ 0)
+  says-after : (r : Written) (a a₀ a' b b₀ b' c c₀ c' : List ℕ) → (leb number 10 ≡ true → number ≡ 0)
       → length a ≡ length a₀ → length b ≡ length b₀ → length c ≡ length c₀
       → Compose-says xs ys number r a a' b b' c c' → Compose-says xs ys number r a₀ a' b₀ b' c₀ c'
   says-after r a a₀ a' b b₀ b' c c₀ c' late la lb lc s =
@@ -98,7 +99,7 @@ module _ (xs ys a b c : List ℕ) where
   number = compose-refusal xs ys (length a) (length b) (length c)
 
   abbrev pub Refused : (k : ℕ) → Type 0
-  Refused k = Compose-says xs ys number (record { refusal = k; len = 0 }) a a b b c c
+  Refused k = (r : Written) → r ≡ record { refusal = k; len = 0 } → Compose-says xs ys number r a a b b c c
 
   pub says-left : (k : ℕ) → k ≡ refusal xs → (k ≡ 0 → ⊥) → Refused k
   unfolding compose-refusal or-else
@@ -142,7 +143,7 @@ module _ (xs ys a b c : List ℕ) where
         unfolding compose-refusal or-else compose-room
         into = rw (left-ok, right-ok, le-ltb (length a) 59404 p, le-ltb (length b) 6144 q, le-ltb (length c) 1024 s)
 
-        pub says-into : (r : Answer) (a' b' c' : List ℕ)
+        pub says-into : (r : Written) (a' b' c' : List ℕ)
             → Compose-says xs ys (built-refusal (composed (decode xs) (decode ys) .result)) r a a' b b' c c' → Compose-says xs ys number r a a' b b' c c'
         says-into r a' b' c' h = rw into h
 
@@ -173,10 +174,10 @@ module _ (left right : List ℕ) (lb : Bytes left) (rb : Bytes right) (lok : ref
   keying : Keying same-state (steps t u) (first-state t u) pack origin-pair (key-steps t u) (Within t u)
   keying = composed-keying t u tg ug
 
-  abbrev Says : Answer → (a a' b b' c c' : List ℕ) → Type 0
+  abbrev Says : Written → (a a' b b' c c' : List ℕ) → Type 0
   Says r a a' b b' c c' = Compose-says left right (built-refusal (composed (decode left) (decode right) .result)) r a a' b b' c c'
 
-  pub says-11 : (r : Answer) (a a₀ a' b b₀ b' c c₀ c' : List ℕ) → 1024 < length (key-walk t u .keys)
+  pub says-11 : (r : Written) (a a₀ a' b b₀ b' c c₀ c' : List ℕ) → 1024 < length (key-walk t u .keys)
       → length a ≡ length a₀ → length b ≡ length b₀ → length c ≡ length c₀
       → Refused-with 11 r a a' b b' c c' → Says r a₀ a' b₀ b' c₀ c'
   unfolding composed
@@ -184,12 +185,12 @@ module _ (left right : List ℕ) (lb : Bytes left) (rb : Bytes right) (lok : ref
       says-after left right (built-refusal z) r a a₀ a' b b₀ b' c c₀ c' (built-late z) la lb lc
       (says-zeroed left right (built-refusal z) 11 r a a' b b' c c' (told-11 keying (final-state t u) (state-weight t u) over) (omega arith) z')
 
-  pub says-same : (r : Answer) (a a₀ a' b b₀ b' c c₀ c' : List ℕ) → length a ≡ length a₀ → length b ≡ length b₀ → length c ≡ length c₀
+  pub says-same : (r : Written) (a a₀ a' b b₀ b' c c₀ c' : List ℕ) → length a ≡ length a₀ → length b ≡ length b₀ → length c ≡ length c₀
       → Says r a a' b b' c c' → Says r a₀ a' b₀ b' c₀ c'
   says-same r a a₀ a' b b₀ b' c c₀ c' la lb lc s = says-after left right (built-refusal z) r a a₀ a' b b₀ b' c c₀ c' (built-late z) la lb lc s
 
   module _ (w : Walk) (table origins states : List ℕ) (told : Told 2 (key-walk t u) w table origins states) where
-    pub says-12 : (r : Answer) (a₀ a' b₀ b' c₀ c' : List ℕ) → 3072 < w .arcs
+    pub says-12 : (r : Written) (a₀ a' b₀ b' c₀ c' : List ℕ) → 3072 < w .arcs
         → length table ≡ length a₀ → length origins ≡ length b₀ → length states ≡ length c₀
         → Refused-with 12 r table a' origins b' states c' → Says r a₀ a' b₀ b' c₀ c'
     unfolding composed
@@ -199,7 +200,7 @@ module _ (left right : List ℕ) (lb : Bytes left) (rb : Bytes right) (lok : ref
         (omega arith) z')
 
     module _ (few-arcs : w .arcs ≤ 3072) where
-      says-13 : (r : Answer) (a a' b' c' : List ℕ) → built-refusal z ≡ 13 → length a ≡ length table
+      says-13 : (r : Written) (a a' b' c' : List ℕ) → built-refusal z ≡ 13 → length a ≡ length table
           → Refused-with 13 r a a' origins b' states c' → Says r table a' origins b' states c'
       says-13 r a a' b' c' is la z' =
           says-after left right (built-refusal z) r a table a' origins origins b' states states c' (built-late z) la refl refl
@@ -231,13 +232,13 @@ module _ (left right : List ℕ) (lb : Bytes left) (rb : Bytes right) (lok : ref
           pub finals-kept : length t1 ≡ length table
           finals-kept = ap length (finals-put .stored) ∙ length-sets table 12 (final-records (z .finals))
 
-          pub says-13-arcs : (r : Answer) (a' b' c' : List ℕ) → w .dear ≡ true → Refused-with 13 r t1 a' origins b' states c'
+          pub says-13-arcs : (r : Written) (a' b' c' : List ℕ) → w .dear ≡ true → Refused-with 13 r t1 a' origins b' states c'
               → Says r table a' origins b' states c'
           unfolding composed
           says-13-arcs r a' b' c' dear z' =
               says-13 r t1 a' b' c' (told-13-arcs keying (final-state t u) (state-weight t u) told few-arcs dear) finals-kept z'
 
-          pub says-13-finals : (r : Answer) (a' b' c' : List ℕ) → f .dear ≡ true → Refused-with 13 r t1 a' origins b' states c'
+          pub says-13-finals : (r : Written) (a' b' c' : List ℕ) → f .dear ≡ true → Refused-with 13 r t1 a' origins b' states c'
               → Says r table a' origins b' states c'
           unfolding composed
           says-13-finals r a' b' c' dear z' =

@@ -5,12 +5,12 @@ use mathlib.Core.List.{List, []}
 use Prim.Native.Nat.{ℕ}
 use lib.Dec.{ltb}
 use lib.ListN.{length}
+use Rattle.transducer.specs.declared.Written.{Written}
 use Rattle.transducer.specs.Format.{refusal, decode}
 use Rattle.transducer.specs.Encode.{encode}
 use Rattle.transducer.specs.Entry.{or-else, unless}
 use Rattle.explore.specs.Explore.{Step, built-refusal, left-behind}
 use Rattle.explore.specs.Walk.{all-origins}
-use Rattle.compose.specs.declared.Answer.{Answer}
 use Rattle.compose.specs.declared.State.{State}
 use Rattle.compose.specs.declared.Origin.{Origin}
 use Rattle.compose.specs.Compose.{composed, origin-pair}
@@ -28,7 +28,7 @@ unfoldable pub compose-refusal : (left right : List ℕ) → (table origins stat
 compose-refusal xs ys a b c =
     or-else (refusal xs) (or-else (refusal ys) (or-else (compose-room a b c) (built-refusal (composed (decode xs) (decode ys) .result))))
 
-pub record Compose-says (left right : List ℕ) (number : ℕ) (r : Answer) (a a' b b' c c' : List ℕ) : Type 0 where
+pub record Compose-says (left right : List ℕ) (number : ℕ) (r : Written) (a a' b b' c c' : List ℕ) : Type 0 where
   pub refusal-is : r .refusal ≡ number
   pub len-is : r .len ≡ unless number (length (encode (composed (decode left) (decode right) .result)))
   pub table : a' ≡ left-behind number a (encode (composed (decode left) (decode right) .result))

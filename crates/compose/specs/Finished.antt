@@ -7,12 +7,12 @@ use lib.Dec.{eqb}
 use lib.ListN.{length, getD}
 use Rattle.wire.specs.Bytes.{filled}
 use Rattle.transducer.specs.declared.Final.{Final}
+use Rattle.transducer.specs.declared.Written.{Written}
 use Rattle.transducer.specs.Format.{refusal, decode}
 use Rattle.transducer.specs.Weight.{plus}
 use Rattle.explore.specs.declared.Walk.{Walk}
 use Rattle.explore.specs.Explore.{finals-from}
 use Rattle.explore.specs.Walk.{Told}
-use Rattle.compose.specs.declared.Answer.{Answer}
 use Rattle.compose.specs.Walk.{unpacked, key-walk}
 
 -- Whether the state of a key is final, by the final codes of its parts, and with which weight.
@@ -35,7 +35,7 @@ pub record Finishable (lcodes rcodes states : List ℕ) (count : ℕ) (table : L
   pub right : (s : ℕ) → s < 1024 → getD rcodes s 0 ≤ 1000001
 
 -- A refusal once the buffers have been written to.
-pub record Refused-with (number : ℕ) (r : Answer) (a a' b b' c c' : List ℕ) : Type 0 where
+pub record Refused-with (number : ℕ) (r : Written) (a a' b b' c c' : List ℕ) : Type 0 where
   pub answer : r ≡ record { refusal = number; len = 0 }
   pub table : a' ≡ filled (length a) []
   pub origins : b' ≡ filled (length b) []

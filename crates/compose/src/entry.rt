@@ -6,11 +6,11 @@ ghost use Rattle.explore.specs.Explore.{built-refusal};
 ghost use Rattle.compose.specs.Compose.{composed};
 ghost use Rattle.compose.specs.Entry.{Compose-says, compose-refusal};
 ghost use Rattle.compose.specs.Finished.{Composable, Walked-through};
-use crate::Answer;
 use crate::finish;
 use crate::runs;
 use crate::walking;
 use explore::Walk;
+use transducer::Written;
 
 // Composes two transducers: the composed one's bytes, and the origins of its arcs, the left one and the right one in turn.
 pub fn compose(
@@ -19,36 +19,27 @@ pub fn compose(
     table: &mut [u8],
     origins: &mut [u16],
     states: &mut [u32],
-) -> Answer
+) -> Written
     ensures { λ r. ⌜ Compose-says (now (left .entry)) (now (right .entry))
         (compose-refusal (now (left .entry)) (now (right .entry)) (length (now (table .entry))) (length (now (origins .entry))) (length (now (states .entry))))
         r (now (table .entry)) (now (table .exit)) (now (origins .entry)) (now (origins .exit)) (now (states .entry)) (now (states .exit)) ⌝ }
 {
     let a = transducer::refusal(left);
     if a != 0 {
-        return Answer { refusal: a, len: 0 };
+        return transducer::refused(a);
     }
     let b = transducer::refusal(right);
     if b != 0 {
-        return Answer { refusal: b, len: 0 };
+        return transducer::refused(b);
     }
     if table.len() < 59404 {
-        return Answer {
-            refusal: 10,
-            len: 0,
-        };
+        return transducer::refused(10);
     }
     if origins.len() < 6144 {
-        return Answer {
-            refusal: 10,
-            len: 0,
-        };
+        return transducer::refused(10);
     }
     if states.len() < 1024 {
-        return Answer {
-            refusal: 10,
-            len: 0,
-        };
+        return transducer::refused(10);
     }
     compose_into(left, right, table, origins, states)
 }
@@ -60,7 +51,7 @@ fn compose_into(
     table: &mut [u8],
     origins: &mut [u16],
     states: &mut [u32],
-) -> Answer
+) -> Written
     requires { ⌜ Composable (now left) (now right) (length (now table)) (length (now origins)) (length (now states)) ⌝ }
     ensures { λ r. ⌜ Compose-says (now (left .entry)) (now (right .entry)) (built-refusal (composed (decode (now (left .entry))) (decode (now (right .entry))) .result))
         r (now (table .entry)) (now (table .exit)) (now (origins .entry)) (now (origins .exit)) (now (states .entry)) (now (states .exit)) ⌝ }
@@ -108,7 +99,7 @@ fn write_out(
     table: &mut [u8],
     origins: &mut [u16],
     states: &mut [u32],
-) -> Answer
+) -> Written
     requires { ⌜ Composable (now left) (now right) (length (now table)) (length (now origins)) (length (now states)) ⌝ }
     requires { ⌜ Finals-by-state (decode (now left)) (now lcodes) × Finals-by-state (decode (now right)) (now rcodes) ⌝ }
     requires { ⌜ Walked-through (now left) (now right) w (now table) (now origins) (now states) ⌝ }
@@ -132,7 +123,7 @@ fn write_out(
     wire::clear8(table, end);
     wire::clear16(origins, 2 * arcs);
     wire::clear32(states, 0);
-    Answer {
+    Written {
         refusal: 0,
         len: end as u32,
     }

@@ -4,10 +4,10 @@ ghost use Prim.Native.Nat.{_<_};
 ghost use lib.ListN.{take};
 ghost use Rattle.explore.specs.Walk.{Finals-stored};
 ghost use Rattle.compose.specs.Finished.{key-finals, Finishable, Refused-with};
-use crate::Answer;
 use crate::runs;
 use explore::FinalsPut;
 use transducer::Final;
+use transducer::Written;
 
 // States are final by their parts in both filter states.
 const FINAL_FILTERS: u32 = 2;
@@ -66,14 +66,11 @@ pub fn put_finals(
 }
 
 // Refuses with 11, 12 or 13: every buffer is all zeros.
-pub fn refuse(table: &mut [u8], origins: &mut [u16], states: &mut [u32], number: u32) -> Answer
+pub fn refuse(table: &mut [u8], origins: &mut [u16], states: &mut [u32], number: u32) -> Written
     ensures { λ r. ⌜ Refused-with number r (now (table .entry)) (now (table .exit)) (now (origins .entry)) (now (origins .exit)) (now (states .entry)) (now (states .exit)) ⌝ }
 {
     wire::clear8(table, 0);
     wire::clear16(origins, 0);
     wire::clear32(states, 0);
-    Answer {
-        refusal: number,
-        len: 0,
-    }
+    transducer::refused(number)
 }

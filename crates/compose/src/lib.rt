@@ -46,9 +46,3 @@ pub struct Begin {
     pub i: usize,
     pub j: usize,
 }
-
-// What composing answers: the refusal or 0, and the number of bytes written, 0 on refusal.
-pub struct Answer {
-    pub refusal: u32,
-    pub len: u32,
-}

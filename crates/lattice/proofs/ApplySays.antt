@@ -31,10 +31,11 @@ module _ (cs bs : List ℕ) (number : ℕ) where
   abbrev origins-left : List ℕ
   origins-left = lattice-origins cs (decode bs)
 
-  says-early : (k : ℕ) (a b c : List ℕ) → number ≡ k → (k ≡ 0 → ⊥) → k ≤ 10 → Apply-says cs bs number (record { refusal = k; len = 0 }) a a b b c c
+  says-early : (k : ℕ) (a b c : List ℕ) → number ≡ k → (k ≡ 0 → ⊥) → k ≤ 10
+      → (r : Written) → r ≡ record { refusal = k; len = 0 } → Apply-says cs bs number r a a b b c c
   unfolding unless
-  says-early k a b c is bad small =
-      rw is
+  says-early k a b c is bad small r h =
+      rw (is, h)
       (record {
         refusal-is = refl;
         len-is = rw (ne-eqb k 0 bad);
@@ -78,7 +79,7 @@ module _ (cs bs a b c : List ℕ) where
   number = apply-refusal cs bs (length a) (length b) (length c)
 
   abbrev pub Refused : (k : ℕ) → Type 0
-  Refused k = Apply-says cs bs number (record { refusal = k; len = 0 }) a a b b c c
+  Refused k = (r : Written) → r ≡ record { refusal = k; len = 0 } → Apply-says cs bs number r a a b b c c
 
   pub says-bytes : (k : ℕ) → k ≡ refusal bs → (k ≡ 0 → ⊥) → Refused k
   unfolding apply-refusal or-else

@@ -283,10 +283,7 @@ fn refuse(lattice: &mut [u8], origins: &mut [u16], pairs: &mut [u32], number: u3
     wire::clear8(lattice, 0);
     wire::clear16(origins, 0);
     wire::clear32(pairs, 0);
-    Written {
-        refusal: number,
-        len: 0,
-    }
+    transducer::refused(number)
 }
 
 // Applies a good string to an accepted transducer, into buffers that are long enough.
@@ -356,31 +353,19 @@ pub fn apply(
 {
     let number = transducer::refusal(table);
     if number != 0 {
-        return Written {
-            refusal: number,
-            len: 0,
-        };
+        return transducer::refused(number);
     }
     if !string_ok(string) {
-        return Written { refusal: 9, len: 0 };
+        return transducer::refused(9);
     }
     if lattice.len() < 59404 {
-        return Written {
-            refusal: 10,
-            len: 0,
-        };
+        return transducer::refused(10);
     }
     if origins.len() < 3072 {
-        return Written {
-            refusal: 10,
-            len: 0,
-        };
+        return transducer::refused(10);
     }
     if pairs.len() < 1024 {
-        return Written {
-            refusal: 10,
-            len: 0,
-        };
+        return transducer::refused(10);
     }
     apply_into(string, table, lattice, origins, pairs)
 }

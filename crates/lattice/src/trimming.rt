@@ -136,22 +136,13 @@ pub fn trim(table: &[u8], out: &mut [u8], origins: &mut [u16]) -> Written
 {
     let number = transducer::refusal(table);
     if number != 0 {
-        return Written {
-            refusal: number,
-            len: 0,
-        };
+        return transducer::refused(number);
     }
     if out.len() < 59404 {
-        return Written {
-            refusal: 10,
-            len: 0,
-        };
+        return transducer::refused(10);
     }
     if origins.len() < 3072 {
-        return Written {
-            refusal: 10,
-            len: 0,
-        };
+        return transducer::refused(10);
     }
     let len = trim_into(table, false, out, origins);
     Written {

@@ -2,7 +2,7 @@
 use crate::lent;
 use crate::load;
 use crate::show;
-use compose::Answer;
+use transducer::Written;
 
 // The least lengths of paper 01.
 const BYTES: usize = 59404;
@@ -12,7 +12,7 @@ const ORIGINS: usize = 6144;
 const STATES: usize = 1024;
 
 // Prints what composing answered, and the three buffers.
-fn show_composed(answer: Answer, table: &[u8], origins: &[u16], states: &[u32]) {
+fn show_composed(answer: Written, table: &[u8], origins: &[u16], states: &[u32]) {
     show::number(b" refusal ", answer.refusal as u64);
     show::number(b" length ", answer.len as u64);
     show::number(b" sums ", show::sum8(table));
@@ -28,7 +28,7 @@ fn compose_into(
     table: &mut [u8],
     origins: &mut [u16],
     states: &mut [u32],
-) -> Answer {
+) -> Written {
     let a = lent::cells(room, 6, table.len());
     let b = lent::cells(room, 7, origins.len());
     let c = lent::cells(room, 8, states.len());

@@ -65,10 +65,10 @@ pub record Got (t : Transducer) (k : ℕ) (r : Told) (labels : List ℕ) : Type 
   pub inside : r .labels ≤ length labels
   pub is-line : line k (r .cost) (take (r .labels) labels) ≡ line-of t k
 
-pub got : {bs : List ℕ} {k : ℕ} {r : Told} {a a' b b' : List ℕ} → Bytes bs → refusal bs ≡ 0 → endless (decode bs) ≡ false → k < path-count (decode bs)
+pub got : (bs : List ℕ) (k : ℕ) {r : Told} {a a' b b' : List ℕ} → Bytes bs → refusal bs ≡ 0 → endless (decode bs) ≡ false → k < path-count (decode bs)
     → 1023 ≤ length a → 1023 ≤ length b → Nth-says bs k (nth-refusal bs k (length a) (length b)) r a a' b b' → Got (decode bs) k r b'
 unfolding unless left-in line-of filled
-got {bs} {k} {r} {a} {a'} {b} {b'} bytes ok finite there la lb says' =
+got bs k {r} {a} {a'} {b} {b'} bytes ok finite there la lb says' =
     let says : Nth-says bs k 0 r a a' b b' = rw (nth-accepted bs k (length a) (length b) ok finite there la lb) at says' in
     let known : Listable (decode bs) k = listable (decode bs) (sized bs bytes ok) finite k there in
     let w : List ℕ = written-by (decode bs) (nth-path (decode bs) k) in

@@ -16,7 +16,6 @@ use Rattle.transducer.specs.Encode.{encode}
 use Rattle.transducer.specs.Entry.{or-else, unless, left-in}
 use Rattle.transducer.proofs.RoundTrip.{accepted-good}
 use Rattle.explore.specs.Explore.{built-refusal, left-behind}
-use Rattle.compose.specs.declared.Answer.{Answer}
 use Rattle.compose.specs.Compose.{composed}
 use Rattle.compose.specs.Entry.{compose-room, compose-refusal, Compose-says}
 use Rattle.compose.proofs.Written.{refusal-composed, decode-composed}
@@ -142,7 +141,7 @@ module _ {bs s : List ℕ} {r : Written} {a a' b b' c c' : List ℕ} (cs : List 
 
 -- Composing
 
-module _ {xs ys : List ℕ} {r : Answer} {a a' b b' c c' : List ℕ} (bx : Bytes xs) (by : Bytes ys) (cs : List ℕ)
+module _ {xs ys : List ℕ} {r : Written} {a a' b b' c c' : List ℕ} (bx : Bytes xs) (by : Bytes ys) (cs : List ℕ)
     (la : length a ≡ 59404) (lb : length b ≡ 6144) (lc : length c ≡ 1024)
     (says : Compose-says xs ys (compose-refusal xs ys (length a) (length b) (length c)) r a a' b b' c c') where
   compose-is : r .refusal ≡ compose-refusal xs ys 59404 6144 1024

@@ -16,4 +16,5 @@ pub mod DeadMarks
 pub mod CountSays
 pub mod Steps
 pub mod Telling
+pub mod PathTold
 pub mod NthSays

@@ -1,5 +1,5 @@
 -- What `nth` answers, case by case: a refusal of 1 to 8, a buffer that is too short, 14, 15, and success. Assumes nothing.
-use mathlib.Core.Path.{_≡_, refl, sym, ap, _∙_}
+use mathlib.Core.Path.{_≡_, sym, ap, _∙_}
 use mathlib.Core.Bool.{Bool, true, false, _||_, cond}
 use mathlib.Core.List.{List}
 use Prim.Native.Nat.{ℕ, _-_, _≤_, _<_}
@@ -12,7 +12,7 @@ use Rattle.wire.specs.Bytes.{filled}
 use Rattle.wire.proofs.Places.{length-filled}
 use Rattle.transducer.specs.Format.{Transducer, decode, refusal}
 use Rattle.transducer.specs.Path.{accepts}
-use Rattle.transducer.specs.Entry.{or-else, unless, left-in}
+use Rattle.transducer.specs.Entry.{or-else}
 use Rattle.paths.specs.declared.Count.{Count}
 use Rattle.paths.specs.declared.Told.{Told}
 use Rattle.paths.specs.Count.{endless, path-count, nth-path}
@@ -20,23 +20,8 @@ use Rattle.paths.specs.Sweep.{at-state, Settled}
 use Rattle.paths.specs.Entry.{nth-refusal, Nth-says, Tells}
 use Rattle.paths.proofs.Sweep.{settled-path-count}
 use Rattle.paths.proofs.NthPath.{nth-path-accepts, path-count-listed, nth-path-short}
+use Rattle.paths.proofs.PathTold.{refused-told, told-refused, told-found}
 use Rattle.paths.proofs.Ready.{Sized}
-
-abbrev pub refused-told : ℕ → Told
-refused-told n = record { refusal = n; cost = 0; arcs = 0; labels = 0 }
-
-says-refused : (bs : List ℕ) (k number n : ℕ) (r : Told) (a b : List ℕ) → number ≡ n → (n ≡ 0 → ⊥) → r ≡ refused-told n → Nth-says bs k number r a a b b
-unfolding unless left-in
-says-refused bs k number n r a b e nonzero h =
-    let test : eqb n 0 ≡ false = ne-eqb n 0 nonzero in
-    rw (e, h) (record {
-      refusal-is = refl;
-      cost-is = rw test;
-      arcs-is = rw test;
-      labels-is = rw test;
-      arcs = rw test;
-      labels = rw test;
-    })
 
 -- The path in its buffer, as it is told.
 pub record Found (t : Transducer) (k len : ℕ) (a' : List ℕ) : Type 0 where
@@ -45,27 +30,29 @@ pub record Found (t : Transducer) (k len : ℕ) (a' : List ℕ) : Type 0 where
   pub few : len ≤ 1023
   pub accepted : accepts t (take len a') ≡ true
 
-module _ {bs a b : List ℕ} {k n : ℕ} {r : Told} where
+module _ (bs : List ℕ) (k : ℕ) {a b : List ℕ} {n : ℕ} {r : Told} where
   -- 1 to 8
   pub nth-bad : n ≡ refusal bs → (n ≡ 0 → ⊥) → r ≡ refused-told n → Nth-says bs k (nth-refusal bs k (length a) (length b)) r a a b b
   unfolding nth-refusal or-else
   nth-bad e nonzero h =
       let rest : ℕ = cond (ltb (length a) 1023 || ltb (length b) 1023) 10 (cond (endless (decode bs)) 14 (cond (leb (path-count (decode bs)) k) 15 0)) in
       let number : cond (eqb (refusal bs) 0) rest (refusal bs) ≡ n = rw (← e, ne-eqb n 0 nonzero) in
-      says-refused bs k (nth-refusal bs k (length a) (length b)) n r a b number nonzero h
+      told-refused (decode bs) (nth-path (decode bs) k) (nth-refusal bs k (length a) (length b)) n r a b number nonzero h
 
   -- 10
   pub nth-short-arcs : n ≡ refusal bs → n ≡ 0 → length a < 1023 → r ≡ refused-told 10 → Nth-says bs k (nth-refusal bs k (length a) (length b)) r a a b b
   unfolding nth-refusal or-else
   nth-short-arcs e z l h =
       let ok : refusal bs ≡ 0 = sym e ∙ z in
-      says-refused bs k (nth-refusal bs k (length a) (length b)) 10 r a b (rw (ok, lt-ltb (length a) 1023 l)) (λ q. omega arith) h
+      told-refused (decode bs) (nth-path (decode bs) k) (nth-refusal bs k (length a) (length b)) 10 r a b (rw (ok, lt-ltb (length a) 1023 l))
+      (λ q. omega arith) h
 
   pub nth-short-labels : n ≡ refusal bs → n ≡ 0 → 1023 ≤ length a → length b < 1023 → r ≡ refused-told 10 → Nth-says bs k (nth-refusal bs k (length a) (length b)) r a a b b
   unfolding nth-refusal or-else
   nth-short-labels e z la l h =
       let ok : refusal bs ≡ 0 = sym e ∙ z in
-      says-refused bs k (nth-refusal bs k (length a) (length b)) 10 r a b (rw (ok, le-ltb (length a) 1023 la, lt-ltb (length b) 1023 l)) (λ q. omega arith) h
+      told-refused (decode bs) (nth-path (decode bs) k) (nth-refusal bs k (length a) (length b)) 10 r a b
+      (rw (ok, le-ltb (length a) 1023 la, lt-ltb (length b) 1023 l)) (λ q. omega arith) h
 
   module _ (e : n ≡ refusal bs) (z : n ≡ 0) (la : 1023 ≤ length a) (lb : 1023 ≤ length b) where
     -- 14
@@ -74,7 +61,8 @@ module _ {bs a b : List ℕ} {k n : ℕ} {r : Told} where
     nth-endless l q h =
         let ok : refusal bs ≡ 0 = sym e ∙ z in
         let on : endless (decode bs) ≡ true = sym l ∙ q in
-        says-refused bs k (nth-refusal bs k (length a) (length b)) 14 r a b (rw (ok, le-ltb (length a) 1023 la, le-ltb (length b) 1023 lb, on)) (λ q'. omega arith) h
+        told-refused (decode bs) (nth-path (decode bs) k) (nth-refusal bs k (length a) (length b)) 14 r a b
+        (rw (ok, le-ltb (length a) 1023 la, le-ltb (length b) 1023 lb, on)) (λ q'. omega arith) h
 
     -- 15
     pub nth-none : {is : Bool} → is ≡ endless (decode bs) → is ≡ false → path-count (decode bs) ≤ k → r ≡ refused-told 15
@@ -83,25 +71,19 @@ module _ {bs a b : List ℕ} {k n : ℕ} {r : Told} where
     nth-none l q many h =
         let ok : refusal bs ≡ 0 = sym e ∙ z in
         let off : endless (decode bs) ≡ false = sym l ∙ q in
-        says-refused bs k (nth-refusal bs k (length a) (length b)) 15 r a b
+        told-refused (decode bs) (nth-path (decode bs) k) (nth-refusal bs k (length a) (length b)) 15 r a b
         (rw (ok, le-ltb (length a) 1023 la, le-ltb (length b) 1023 lb, off, le-leb (path-count (decode bs)) k many)) (λ q'. omega arith) h
 
     pub nth-found : {is : Bool} {len : ℕ} {a' b' : List ℕ} → is ≡ endless (decode bs) → is ≡ false → k < path-count (decode bs)
         → a' ≡ filled (length a) (nth-path (decode bs) k) → Found (decode bs) k len a' → Tells (decode bs) (take len a') r b b'
         → Nth-says bs k (nth-refusal bs k (length a) (length b)) r a a' b b'
-    unfolding nth-refusal or-else unless left-in
-    nth-found {b' = b'} l q there put path told' =
+    unfolding nth-refusal or-else
+    nth-found {a' = a'} {b' = b'} l q there put path told' =
         let told : Tells (decode bs) (nth-path (decode bs) k) r b b' = rw (path .taken) at told' in
         let ok : refusal bs ≡ 0 = sym e ∙ z in
         let off : endless (decode bs) ≡ false = sym l ∙ q in
-        rw (ok, le-ltb (length a) 1023 la, le-ltb (length b) 1023 lb, off, lt-leb (path-count (decode bs)) k there) (record {
-          refusal-is = told .refusal-is;
-          cost-is = told .cost-is;
-          arcs-is = told .arcs-is;
-          labels-is = told .labels-is;
-          arcs = put;
-          labels = told .labels;
-        })
+        told-found (decode bs) (nth-path (decode bs) k) (nth-refusal bs k (length a) (length b)) r a a' b b'
+        (rw (ok, le-ltb (length a) 1023 la, le-ltb (length b) 1023 lb, off, lt-leb (path-count (decode bs)) k there)) put told
 
 -- The count that was found at the start.
 pub start-count : (t : Transducer) → Sized t → (cs : List Count) (start : ℕ) {is : Bool} → Settled t cs → start ≡ t .start → is ≡ endless t → is ≡ false

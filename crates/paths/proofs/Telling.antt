@@ -12,6 +12,7 @@ use Rattle.transducer.specs.declared.Arc.{Arc}
 use Rattle.transducer.specs.declared.Final.{Final}
 use Rattle.transducer.specs.Format.{Transducer}
 use Rattle.transducer.specs.Path.{arc, no-arc, is-final, final-weight, ends, accepts, written-by, arcs-cost, path-cost}
+use Rattle.transducer.specs.Entry.{unless, left-in}
 use Rattle.transducer.specs.Leaf.{final-code, Finals-by-state}
 use Rattle.transducer.proofs.Good.{arc-weight-most, final-weight-most}
 use Rattle.transducer.proofs.Paths.{empty-passed, symbol-kept}
@@ -137,8 +138,9 @@ pub record Told-all (t : Transducer) (p : List ℕ) (room : ℕ) (labels : List 
 
 pub tells : (t : Transducer) (p : List ℕ) (labels labels' old : List ℕ) (s cost m code len : ℕ) → Told-all t p (length old) labels s cost m code → len ≡ length p
     → labels' ≡ cleared m labels → Tells t p (record { refusal = 0; cost = cost + (code - 1); arcs = len; labels = m }) old labels'
+unfolding unless left-in
 tells t p labels labels' old s cost m code len k l e =
-    record { refusal-is = refl; cost-is = k .costs; arcs-is = l; labels-is = k .many; labels = e ∙ k .behind }
+    record { refusal-is = refl; cost-is = k .costs; arcs-is = l; labels-is = k .many; arcs = refl; labels = e ∙ k .behind }
 
 pub telling-stop : (t : Transducer) → Sized t → (p : List ℕ) (room : ℕ) (labels codes : List ℕ) (s cost m i code : ℕ) → Telling t p room labels s cost m i → length p ≤ i
     → Finals-by-state t codes → s < 1024 → code ≡ getD codes s 0 → Told-all t p room labels s cost m code

@@ -1,7 +1,7 @@
 -- What the path count and the k-th path answer and leave behind. Assumes nothing: these are definitions.
 use mathlib.Core.Path.{_≡_}
 use mathlib.Core.Bool.{_||_, cond}
-use mathlib.Core.List.{List}
+use mathlib.Core.List.{List, []}
 use Prim.Native.Nat.{ℕ}
 use lib.Dec.{ltb, leb}
 use lib.ListN.{length}
@@ -29,18 +29,18 @@ nth-refusal bs k a b =
     (cond (endless (decode bs)) 14
     (cond (leb (path-count (decode bs)) k) 15 0)))
 
-pub record Nth-says (bs : List ℕ) (k number : ℕ) (r : Told) (a a' b b' : List ℕ) : Type 0 where
+-- A path told, or a refusal: its cost, how many arcs and labels it has, and both in lent buffers.
+pub record Path-told (t : Transducer) (p : List ℕ) (number : ℕ) (r : Told) (a a' b b' : List ℕ) : Type 0 where
   pub refusal-is : r .refusal ≡ number
-  pub cost-is : r .cost ≡ unless number (path-cost (decode bs) (nth-path (decode bs) k))
-  pub arcs-is : r .arcs ≡ unless number (length (nth-path (decode bs) k))
-  pub labels-is : r .labels ≡ unless number (length (written-by (decode bs) (nth-path (decode bs) k)))
-  pub arcs : a' ≡ left-in number a (nth-path (decode bs) k)
-  pub labels : b' ≡ left-in number b (written-by (decode bs) (nth-path (decode bs) k))
+  pub cost-is : r .cost ≡ unless number (path-cost t p)
+  pub arcs-is : r .arcs ≡ unless number (length p)
+  pub labels-is : r .labels ≡ unless number (length (written-by t p))
+  pub arcs : a' ≡ left-in number a p
+  pub labels : b' ≡ left-in number b (written-by t p)
 
--- A path told: its cost, how many arcs and labels it has, and its labels in a lent buffer.
-pub record Tells (t : Transducer) (p : List ℕ) (r : Told) (b b' : List ℕ) : Type 0 where
-  pub refusal-is : r .refusal ≡ 0
-  pub cost-is : r .cost ≡ path-cost t p
-  pub arcs-is : r .arcs ≡ length p
-  pub labels-is : r .labels ≡ length (written-by t p)
-  pub labels : b' ≡ filled (length b) (written-by t p)
+abbrev pub Nth-says : (bs : List ℕ) → (k number : ℕ) → Told → (a a' b b' : List ℕ) → Type 0
+Nth-says bs k number r a a' b b' = Path-told (decode bs) (nth-path (decode bs) k) number r a a' b b'
+
+-- The same without refusal, and with no buffer for the arcs.
+abbrev pub Tells : (t : Transducer) → (p : List ℕ) → Told → (b b' : List ℕ) → Type 0
+Tells t p r b b' = Path-told t p 0 r [] (filled 0 p) b b'

@@ -44,7 +44,8 @@ pub fn count(table: &[u8]) -> Counted
     }
 }
 
-fn refused(number: u32) -> Told
+// What is answered where no path is told: the refusal, and zeros.
+pub fn refused(number: u32) -> Told
     ensures { λ r. ⌜ r ≡ record { refusal = number; cost = 0; arcs = 0; labels = 0 } ⌝ }
 {
     Told {

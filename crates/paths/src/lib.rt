@@ -8,6 +8,7 @@ mod turn;
 
 pub use entry::count as path_count;
 pub use entry::nth as nth_path;
+pub use entry::refused;
 pub use path::tell;
 
 // A count of paths: 99 stands for 99 or more.

@@ -12,32 +12,17 @@ use Rattle.wire.specs.Bytes.{filled}
 use Rattle.wire.proofs.Places.{length-filled}
 use Rattle.transducer.specs.Format.{Transducer, decode, refusal}
 use Rattle.transducer.specs.Path.{accepts, runs}
-use Rattle.transducer.specs.Entry.{or-else, unless, left-in}
+use Rattle.transducer.specs.Entry.{or-else}
 use Rattle.transducer.proofs.Runs.{accepting-accepts}
 use Rattle.paths.specs.declared.Told.{Told}
 use Rattle.paths.specs.Count.{can-accept}
 use Rattle.paths.specs.Entry.{Tells}
+use Rattle.paths.proofs.PathTold.{refused-told, told-refused, told-found}
 use Rattle.paths.proofs.Ready.{Sized}
 use Rattle.shortest.specs.Shortest.{shortest, no-path}
 use Rattle.shortest.specs.Nearest.{by-state, Settled, Settled-says, first-tight, follow}
 use Rattle.shortest.specs.Entry.{shortest-refusal, Shortest-says}
 use Rattle.shortest.proofs.Settled.{Followed, followed, follow-shortest, few-arcs, reached-accepting, no-path-none}
-
-abbrev pub refused-told : ℕ → Told
-refused-told n = record { refusal = n; cost = 0; arcs = 0; labels = 0 }
-
-says-refused : (bs : List ℕ) (number n : ℕ) (r : Told) (a b : List ℕ) → number ≡ n → (n ≡ 0 → ⊥) → r ≡ refused-told n → Shortest-says bs number r a a b b
-unfolding unless left-in
-says-refused bs number n r a b e nonzero h =
-    let test : eqb n 0 ≡ false = ne-eqb n 0 nonzero in
-    rw (e, h) (record {
-      refusal-is = refl;
-      cost-is = rw test;
-      arcs-is = rw test;
-      labels-is = rw test;
-      arcs = rw test;
-      labels = rw test;
-    })
 
 -- The shortest path along an arc for each state.
 pub record Found (t : Transducer) (v : ℕ → ℕ) (start len : ℕ) : Type 0 where
@@ -87,28 +72,30 @@ stored t v start len a a' f room put =
     let taken : take len a' ≡ p = ap (λ (x : List ℕ). take len x) put ∙ take-at p (replicate (length a - length p) 0) len many in
     record { taken = taken ∙ f .is; inside = omega arith; accepted = rw taken (f .accepted) }
 
-module _ {bs a b : List ℕ} {n : ℕ} {r : Told} where
+module _ (bs : List ℕ) {a b : List ℕ} {n : ℕ} {r : Told} where
   -- 1 to 8
   pub shortest-bad : n ≡ refusal bs → (n ≡ 0 → ⊥) → r ≡ refused-told n → Shortest-says bs (shortest-refusal bs (length a) (length b)) r a a b b
   unfolding shortest-refusal or-else
   shortest-bad e nonzero h =
       let rest : ℕ = cond (ltb (length a) 1023 || ltb (length b) 1023) 10 (cond (can-accept (decode bs .states) (decode bs) (decode bs .start)) 0 16) in
       let number : cond (eqb (refusal bs) 0) rest (refusal bs) ≡ n = rw (← e, ne-eqb n 0 nonzero) in
-      says-refused bs (shortest-refusal bs (length a) (length b)) n r a b number nonzero h
+      told-refused (decode bs) (shortest (decode bs)) (shortest-refusal bs (length a) (length b)) n r a b number nonzero h
 
   -- 10
   pub shortest-short-arcs : n ≡ refusal bs → n ≡ 0 → length a < 1023 → r ≡ refused-told 10 → Shortest-says bs (shortest-refusal bs (length a) (length b)) r a a b b
   unfolding shortest-refusal or-else
   shortest-short-arcs e z l h =
       let ok : refusal bs ≡ 0 = sym e ∙ z in
-      says-refused bs (shortest-refusal bs (length a) (length b)) 10 r a b (rw (ok, lt-ltb (length a) 1023 l)) (λ q. omega arith) h
+      told-refused (decode bs) (shortest (decode bs)) (shortest-refusal bs (length a) (length b)) 10 r a b (rw (ok, lt-ltb (length a) 1023 l))
+      (λ q. omega arith) h
 
   pub shortest-short-labels : n ≡ refusal bs → n ≡ 0 → 1023 ≤ length a → length b < 1023 → r ≡ refused-told 10
       → Shortest-says bs (shortest-refusal bs (length a) (length b)) r a a b b
   unfolding shortest-refusal or-else
   shortest-short-labels e z la l h =
       let ok : refusal bs ≡ 0 = sym e ∙ z in
-      says-refused bs (shortest-refusal bs (length a) (length b)) 10 r a b (rw (ok, le-ltb (length a) 1023 la, lt-ltb (length b) 1023 l)) (λ q. omega arith) h
+      told-refused (decode bs) (shortest (decode bs)) (shortest-refusal bs (length a) (length b)) 10 r a b
+      (rw (ok, le-ltb (length a) 1023 la, lt-ltb (length b) 1023 l)) (λ q. omega arith) h
 
   module _ (e : n ≡ refusal bs) (z : n ≡ 0) (la : 1023 ≤ length a) (lb : 1023 ≤ length b) where
     -- 16
@@ -119,20 +106,15 @@ module _ {bs a b : List ℕ} {n : ℕ} {r : Told} where
         let ok : refusal bs ≡ 0 = sym e ∙ z in
         let none : can-accept (decode bs .states) (decode bs) (decode bs .start) ≡ false =
         no-path-none (decode bs) size (by-state cs) (by-state ls) (says .settled) (decode bs .start) (size .within .starts) (rw s at q) in
-        says-refused bs (shortest-refusal bs (length a) (length b)) 16 r a b (rw (ok, le-ltb (length a) 1023 la, le-ltb (length b) 1023 lb, none)) (λ q'. omega arith) h
+        told-refused (decode bs) (shortest (decode bs)) (shortest-refusal bs (length a) (length b)) 16 r a b
+        (rw (ok, le-ltb (length a) 1023 la, le-ltb (length b) 1023 lb, none)) (λ q'. omega arith) h
 
     pub shortest-told : {v : ℕ → ℕ} {start len : ℕ} {a' b' : List ℕ} → Found (decode bs) v start len → a' ≡ filled (length a) (follow len (decode bs) v start)
         → Tells (decode bs) (take len a') r b b' → Shortest-says bs (shortest-refusal bs (length a) (length b)) r a a' b b'
-    unfolding shortest-refusal or-else unless left-in
+    unfolding shortest-refusal or-else
     shortest-told {v} {start} {len} {a'} {b'} f put told' =
         let st : Stored (decode bs) len a' = stored (decode bs) v start len a a' f la put in
         let told : Tells (decode bs) (shortest (decode bs)) r b b' = rw (st .taken) at told' in
         let ok : refusal bs ≡ 0 = sym e ∙ z in
-        rw (ok, le-ltb (length a) 1023 la, le-ltb (length b) 1023 lb, f .some) (record {
-          refusal-is = told .refusal-is;
-          cost-is = told .cost-is;
-          arcs-is = told .arcs-is;
-          labels-is = told .labels-is;
-          arcs = put ∙ ap (filled (length a)) (f .is);
-          labels = told .labels;
-        })
+        told-found (decode bs) (shortest (decode bs)) (shortest-refusal bs (length a) (length b)) r a a' b b'
+        (rw (ok, le-ltb (length a) 1023 la, le-ltb (length b) 1023 lb, f .some)) (put ∙ ap (filled (length a)) (f .is)) told

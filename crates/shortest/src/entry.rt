@@ -1,20 +1,8 @@
 // The shortest path of a transducer.
-ghost use mathlib.Core.Path.{_≡_};
 ghost use lib.ListN.{length};
 ghost use Rattle.shortest.specs.Entry.{Shortest-says, shortest-refusal};
 use crate::near;
 use paths::Told;
-
-fn refused(number: u32) -> Told
-    ensures { λ r. ⌜ r ≡ record { refusal = number; cost = 0; arcs = 0; labels = 0 } ⌝ }
-{
-    Told {
-        refusal: number,
-        cost: 0,
-        arcs: 0,
-        labels: 0,
-    }
-}
 
 // The shortest path: its arc numbers and the labels that it writes go into two lent buffers.
 pub fn shortest_path(table: &[u8], arcs: &mut [u16], labels: &mut [u16]) -> Told
@@ -24,13 +12,13 @@ pub fn shortest_path(table: &[u8], arcs: &mut [u16], labels: &mut [u16]) -> Told
 {
     let number = transducer::refusal(table);
     if number != 0 {
-        return refused(number);
+        return paths::refused(number);
     }
     if arcs.len() < 1023 {
-        return refused(10);
+        return paths::refused(10);
     }
     if labels.len() < 1023 {
-        return refused(10);
+        return paths::refused(10);
     }
     let head = transducer::head_of(table);
     let n = head.states as usize;
@@ -47,7 +35,7 @@ pub fn shortest_path(table: &[u8], arcs: &mut [u16], labels: &mut [u16]) -> Told
     let mut lens = [0u16; 1024];
     near::settle(table, first, m, &index, &mut costs, &mut lens);
     if costs[start] == near::NO_PATH {
-        return refused(16);
+        return paths::refused(16);
     }
     let len = lens[start] as usize;
     near::walk(table, first, start, len, &index, &costs, &lens, arcs);

@@ -116,7 +116,7 @@ compose-promised xs ys r a a' b b' c c' ha hb hc says =
     let e = compose-enough xs ys (length a) (length b) (length c) ha hb hc in
     let told = subst (λ (m : ℕ). Compose-says xs ys m r a a' b b' c c') e says in
     record {
-      refused = told .refusal-is ∙ refusal-of n y refl;
+      refusal = told .refusal-is ∙ refusal-of n y refl;
       length-told = told .len-is ∙ number-of n y 0;
       table = told .table ∙ left-behind-of n y 0 a refl;
       origins = told .origins ∙ left-behind-of n y 1 b refl;
@@ -131,7 +131,7 @@ apply-promised cs bs r a a' b b' c c' ha hb hc says =
     let e = apply-enough cs bs (length a) (length b) (length c) ha hb hc in
     let told = subst (λ (m : ℕ). Apply-says cs bs m r a a' b b' c c') e says in
     record {
-      refused = told .refusal-is ∙ refusal-of n y refl;
+      refusal = told .refusal-is ∙ refusal-of n y refl;
       length-told = told .len-is ∙ number-of n y 0;
       table = told .table ∙ left-behind-of n y 0 a refl;
       origins = told .origins ∙ left-behind-of n y 1 b refl;

@@ -9,7 +9,6 @@ use Rattle.transducer.specs.declared.Header.{Header}
 use Rattle.transducer.specs.declared.Written.{Written}
 use Rattle.transducer.specs.Entry.{left-in, read-refusal, Read-says}
 use Rattle.explore.specs.Explore.{left-behind}
-use Rattle.compose.specs.declared.Answer.{Answer as Composed}
 use Rattle.compose.specs.Entry.{compose-refusal, Compose-says}
 use Rattle.lattice.specs.ApplyEntry.{apply-refusal, Apply-says}
 use Rattle.paths.specs.declared.Counted.{Counted}
@@ -37,9 +36,9 @@ pub record Tells-as (x : Answer) (r : Told) (a a' b b' : List ℕ) : Type 0 wher
   pub labels : b' ≡ left-in (x .refusal) b (buffer x 1)
 
 -- A transducer written with its origins, and a buffer lent only to work in.
-pub record Writes-as (x : Answer) (refusal len : ℕ) (a a' b b' c c' : List ℕ) : Type 0 where
-  pub refused : refusal ≡ x .refusal
-  pub length-told : len ≡ number x 0
+pub record Writes-as (x : Answer) (r : Written) (a a' b b' c c' : List ℕ) : Type 0 where
+  pub refusal : r .refusal ≡ x .refusal
+  pub length-told : r .len ≡ number x 0
   pub table : a' ≡ left-behind (x .refusal) a (buffer x 0)
   pub origins : b' ≡ left-behind (x .refusal) b (buffer x 1)
   pub work : c' ≡ left-behind (x .refusal) c []
@@ -69,11 +68,11 @@ Promises (reading bs) x =
     (r : Header) (a a' b b' c c' d d' : List ℕ) → 1024 ≤ length a → 1024 ≤ length b → 12288 ≤ length c → 3072 ≤ length d
     → Read-says bs (read-refusal bs (length a) (length b) (length c) (length d)) r a a' b b' c c' d d' → Reads-as x r a a' b b' c c' d d'
 Promises (composing xs ys) x =
-    (r : Composed) (a a' b b' c c' : List ℕ) → 59404 ≤ length a → 6144 ≤ length b → 1024 ≤ length c
-    → Compose-says xs ys (compose-refusal xs ys (length a) (length b) (length c)) r a a' b b' c c' → Writes-as x (r .refusal) (r .len) a a' b b' c c'
+    (r : Written) (a a' b b' c c' : List ℕ) → 59404 ≤ length a → 6144 ≤ length b → 1024 ≤ length c
+    → Compose-says xs ys (compose-refusal xs ys (length a) (length b) (length c)) r a a' b b' c c' → Writes-as x r a a' b b' c c'
 Promises (applying cs bs) x =
     (r : Written) (a a' b b' c c' : List ℕ) → 59404 ≤ length a → 3072 ≤ length b → 1024 ≤ length c
-    → Apply-says cs bs (apply-refusal cs bs (length a) (length b) (length c)) r a a' b b' c c' → Writes-as x (r .refusal) (r .len) a a' b b' c c'
+    → Apply-says cs bs (apply-refusal cs bs (length a) (length b) (length c)) r a a' b b' c c' → Writes-as x r a a' b b' c c'
 Promises (counting bs) x = (r : Counted) → Count-says bs (count-refusal bs) r → Counts-as x r
 Promises (kth-path bs k) x =
     (r : Told) (a a' b b' : List ℕ) → 1023 ≤ length a → 1023 ≤ length b → Nth-says bs k (nth-refusal bs k (length a) (length b)) r a a' b b'

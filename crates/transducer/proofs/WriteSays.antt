@@ -10,6 +10,7 @@ use lib.ListN.{length}
 use lib.Seq.{sets}
 use Rattle.wire.specs.Bytes.{places, filled, cleared}
 use Rattle.wire.proofs.Places.{and-true, length-places}
+use Rattle.transducer.specs.declared.Written.{Written}
 use Rattle.transducer.specs.Format.{Transducer, head-good, content-refusal}
 use Rattle.transducer.specs.Encode.{head-record, final-records, arc-records, encode}
 use Rattle.transducer.specs.Entry.{Write-says, write-refusal, given, final-of, arc-of, too-few, or-else, unless, left-in}
@@ -68,9 +69,10 @@ module _ (f m a b c d : ℕ) where
 
 -- Write-says
 
-says-refused : (t : Transducer) (number k : ℕ) (out : List ℕ) → number ≡ k → eqb k 0 ≡ false → Write-says t number (record { refusal = k; len = 0 }) out out
+says-refused : (t : Transducer) (number k : ℕ) (out : List ℕ) (r : Written) → number ≡ k → eqb k 0 ≡ false → r ≡ record { refusal = k; len = 0 }
+    → Write-says t number r out out
 unfolding unless left-in
-says-refused t number k out is bad = record { refusal-is = sym is; len-is = rw (is, bad); bytes = rw (is, bad) }
+says-refused t number k out r is bad h = rw h (record { refusal-is = sym is; len-is = rw (is, bad); bytes = rw (is, bad) })
 
 says-written : (t : Transducer) (number len : ℕ) (out out' : List ℕ) → number ≡ 0 → len ≡ length (encode t) → out' ≡ filled (length out) (encode t) →
     Write-says t number (record { refusal = 0; len = len }) out out'
@@ -80,10 +82,11 @@ says-written t number len out out' is long bytes = record { refusal-is = sym is;
 -- One law for each answer, in the order of the tests.
 module _ (n m f start : ℕ) (a b c d out : List ℕ) where
   abbrev pub Refused : (k : ℕ) → Type 0
-  Refused k = Write-says (given n m f start a b c d) (write-refusal n m f start a b c d (length out)) (record { refusal = k; len = 0 }) out out
+  Refused k =
+      (r : Written) → r ≡ record { refusal = k; len = 0 } → Write-says (given n m f start a b c d) (write-refusal n m f start a b c d (length out)) r out out
 
   refused : (k : ℕ) → write-refusal n m f start a b c d (length out) ≡ k → eqb k 0 ≡ false → Refused k
-  refused k is bad = says-refused (given n m f start a b c d) (write-refusal n m f start a b c d (length out)) k out is bad
+  refused k is bad r h = says-refused (given n m f start a b c d) (write-refusal n m f start a b c d (length out)) k out r is bad h
 
   pub says-3 : head-good n m f start ≡ false → Refused 3
   unfolding write-refusal

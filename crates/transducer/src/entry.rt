@@ -17,7 +17,8 @@ use crate::leaf;
 use crate::store;
 use crate::walk;
 
-fn refused(number: u32) -> Header
+// What reading answers where it refuses.
+fn unread(number: u32) -> Header
     ensures { λ r. ⌜ r ≡ record { refusal = number; states = 0; arcs = 0; finals = 0; start = 0 } ⌝ }
 {
     Header {
@@ -94,19 +95,19 @@ pub fn read(
 {
     let number = walk::refusal(bytes);
     if number != 0 {
-        return refused(number);
+        return unread(number);
     }
     if final_states.len() < 1024 {
-        return refused(10);
+        return unread(10);
     }
     if final_weights.len() < 1024 {
-        return refused(10);
+        return unread(10);
     }
     if fields.len() < 12288 {
-        return refused(10);
+        return unread(10);
     }
     if arc_weights.len() < 3072 {
-        return refused(10);
+        return unread(10);
     }
     let head = leaf::header(bytes);
     let f = head.finals as usize;
@@ -176,6 +177,16 @@ fn content_number(
     check::number(check::check_given_arcs(fields, arc_weights, m, n, finals))
 }
 
+// What is answered where nothing is written: the refusal, and no bytes.
+pub fn refused(number: u32) -> Written
+    ensures { λ r. ⌜ r ≡ record { refusal = number; len = 0 } ⌝ }
+{
+    Written {
+        refusal: number,
+        len: 0,
+    }
+}
+
 // Writes a transducer from its four numbers and four runs into a lent buffer.
 pub fn write(
     n: u32,
@@ -194,21 +205,21 @@ pub fn write(
         r (now (out .entry)) (now (out .exit)) ⌝ }
 {
     if !walk::head_ok(n, m, f, start) {
-        return Written { refusal: 3, len: 0 };
+        return refused(3);
     }
     let finals = f as usize;
     let arcs = m as usize;
     if final_states.len() < finals {
-        return Written { refusal: 4, len: 0 };
+        return refused(4);
     }
     if final_weights.len() < finals {
-        return Written { refusal: 4, len: 0 };
+        return refused(4);
     }
     if fields.len() < 4 * arcs {
-        return Written { refusal: 4, len: 0 };
+        return refused(4);
     }
     if arc_weights.len() < arcs {
-        return Written { refusal: 4, len: 0 };
+        return refused(4);
     }
     let number = content_number(
         n,
@@ -220,16 +231,10 @@ pub fn write(
         arc_weights,
     );
     if number != 0 {
-        return Written {
-            refusal: number,
-            len: 0,
-        };
+        return refused(number);
     }
     if out.len() < 59404 {
-        return Written {
-            refusal: 10,
-            len: 0,
-        };
+        return refused(10);
     }
     let first = 12 + 10 * finals;
     let end = first + 16 * arcs;

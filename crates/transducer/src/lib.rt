@@ -9,6 +9,7 @@ pub use check::load_arc;
 pub use check::load_final;
 pub use check::weight_ok;
 pub use entry::read;
+pub use entry::refused;
 pub use entry::write;
 pub use leaf::arc_of;
 pub use leaf::final_codes;
@@ -56,7 +57,7 @@ pub struct Header {
     pub start: u32,
 }
 
-// What writing answers: the refusal or 0, then the number of bytes written, 0 on refusal.
+// What a call that writes bytes answers: the refusal or 0, then the number of bytes written, 0 on refusal.
 pub struct Written {
     pub refusal: u32,
     pub len: u32,

@@ -18,6 +18,9 @@ clear16-requires c κs = search needs
 clear32-requires : tie.Need-clear32-requires
 clear32-requires c κs = search needs
 
+refused-requires : tie.Need-refused-requires
+refused-requires c κs = tt
+
 same-length : tie.Need-same-length
 same-length c = search needs
 
@@ -29,12 +32,13 @@ same-length-3 c = search needs
 
 returns : tie.Need-returns
 returns c =
-    let x = entry c .args in
+    let done = c .before in
+    let x = entry done .args in
     record {
-      answer = refl;
-      table = filled-front [] (x .table .now) _ 0 refl refl (c .before .before .before .before .before .before .before .before .before .before .clear8 .ensures);
-      origins = filled-front [] (x .origins .now) _ 0 refl refl (c .before .before .before .before .before .before .clear16 .ensures);
-      states = filled-front [] (x .states .now) _ 0 refl refl (c .before .before .clear32 .ensures);
+      answer = c .refused .ensures;
+      table = filled-front [] (x .table .now) _ 0 refl refl (done .before .before .before .before .before .before .before .before .before .before .clear8 .ensures);
+      origins = filled-front [] (x .origins .now) _ 0 refl refl (done .before .before .before .before .before .before .clear16 .ensures);
+      states = filled-front [] (x .states .now) _ 0 refl refl (done .before .before .clear32 .ensures);
     }
 
 pub refuse-spec : {M : Type 1} → statement M
@@ -44,6 +48,7 @@ refuse-spec =
     clear8-requires
     clear16-requires
     clear32-requires
+    refused-requires
     same-length
     same-length-2
     same-length-3

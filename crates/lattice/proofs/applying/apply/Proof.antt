@@ -22,35 +22,53 @@ fine c = let s = c .before .string-ok in sym (not-false (s .result) (c .if2 .lef
 refusal-requires : tie.Need-refusal-requires
 refusal-requires c κs = search needs
 
+refused-requires : tie.Need-refused-requires
+refused-requires c κs = tt
+
 returns : tie.Need-returns
-returns c = let n = c .before .refusal in says-bytes _ _ _ _ _ (n .result) (n .ensures) (c .if1 .taken)
+returns c = let n = c .before .before .refusal in says-bytes _ _ _ _ _ (n .result) (n .ensures) (c .before .if1 .taken) _ (c .refused .ensures)
 
 string-ok-requires : tie.Need-string-ok-requires
 string-ok-requires c κs = search needs
 
+refused-requires-2 : tie.Need-refused-requires-2
+refused-requires-2 c κs = tt
+
 returns-2 : tie.Need-returns-2
 returns-2 c =
-    let s = c .before .string-ok in
-    let n = c .before .before .before .refusal in
-    says-string _ _ _ _ _ (n .result) (n .ensures) (c .before .before .if1 .left) (sym (not-true (s .result) (c .if2 .taken)) ∙ s .ensures)
+    let s = c .before .before .string-ok in
+    let n = c .before .before .before .before .refusal in
+    says-string _ _ _ _ _ (n .result) (n .ensures) (c .before .before .before .if1 .left)
+    (sym (not-true (s .result) (c .before .if2 .taken)) ∙ s .ensures) _ (c .refused2 .ensures)
+
+refused-requires-3 : tie.Need-refused-requires-3
+refused-requires-3 c κs = tt
 
 returns-3 : tie.Need-returns-3
 returns-3 c =
-    let else2 = c .before in
+    let else2 = c .before .before in
     let n = read else2 .refusal in
-    says-table _ _ _ _ _ (n .result) (n .ensures) (else2 .before .before .if1 .left) (fine else2) (c .if3 .taken)
+    says-table _ _ _ _ _ (n .result) (n .ensures) (else2 .before .before .if1 .left) (fine else2) (c .before .if3 .taken) _ (c .refused3 .ensures)
+
+refused-requires-4 : tie.Need-refused-requires-4
+refused-requires-4 c κs = tt
 
 returns-4 : tie.Need-returns-4
 returns-4 c =
-    let else2 = c .before .before in
+    let else2 = c .before .before .before in
     let n = read else2 .refusal in
-    says-origins _ _ _ _ _ (n .result) (n .ensures) (else2 .before .before .if1 .left) (fine else2) (c .before .if3 .left) (c .if4 .taken)
+    says-origins _ _ _ _ _ (n .result) (n .ensures) (else2 .before .before .if1 .left) (fine else2) (c .before .before .if3 .left)
+    (c .before .if4 .taken) _ (c .refused4 .ensures)
+
+refused-requires-5 : tie.Need-refused-requires-5
+refused-requires-5 c κs = tt
 
 returns-5 : tie.Need-returns-5
 returns-5 c =
-    let else2 = c .before .before .before in
+    let else2 = c .before .before .before .before in
     let n = read else2 .refusal in
-    says-pairs _ _ _ _ _ (n .result) (n .ensures) (else2 .before .before .if1 .left) (fine else2) (c .before .before .if3 .left) (c .before .if4 .left) (c .if5 .taken)
+    says-pairs _ _ _ _ _ (n .result) (n .ensures) (else2 .before .before .if1 .left) (fine else2) (c .before .before .before .if3 .left)
+    (c .before .before .if4 .left) (c .before .if5 .taken) _ (c .refused5 .ensures)
 
 apply-into-requires : tie.Need-apply-into-requires
 apply-into-requires c κs =
@@ -83,11 +101,16 @@ apply-spec =
     tie.close
     (tie.spec
     refusal-requires
+    refused-requires
     returns
     string-ok-requires
+    refused-requires-2
     returns-2
+    refused-requires-3
     returns-3
+    refused-requires-4
     returns-4
+    refused-requires-5
     returns-5
     apply-into-requires
     same-length

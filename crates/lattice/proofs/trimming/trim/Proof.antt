@@ -22,14 +22,25 @@ is-bytes c = λ i. omega (arith, c .before .before .before .shared-slice-known .
 refusal-requires : tie.Need-refusal-requires
 refusal-requires c κs = search needs
 
+refused-requires : tie.Need-refused-requires
+refused-requires c κs = tt
+
 returns : tie.Need-returns
-returns c = says-bad (c .before .refusal .ensures) (c .if1 .taken) refl
+returns c = says-bad (c .before .before .refusal .ensures) (c .before .if1 .taken) (c .refused .ensures)
+
+refused-requires-2 : tie.Need-refused-requires-2
+refused-requires-2 c κs = tt
 
 returns-2 : tie.Need-returns-2
-returns-2 c = says-short-table (c .before .before .refusal .ensures) (c .before .if1 .left) (c .if2 .taken) refl
+returns-2 c = says-short-table (c .before .before .before .refusal .ensures) (c .before .before .if1 .left) (c .before .if2 .taken) (c .refused2 .ensures)
+
+refused-requires-3 : tie.Need-refused-requires-3
+refused-requires-3 c κs = tt
 
 returns-3 : tie.Need-returns-3
-returns-3 c = says-short-origins (c .before .before .before .refusal .ensures) (c .before .before .if1 .left) (c .before .if2 .left) (c .if3 .taken) refl
+returns-3 c =
+    says-short-origins (c .before .before .before .before .refusal .ensures) (c .before .before .before .if1 .left) (c .before .before .if2 .left)
+    (c .before .if3 .taken) (c .refused3 .ensures)
 
 trim-into-requires : tie.Need-trim-into-requires
 trim-into-requires c κs =
@@ -62,8 +73,11 @@ trim-spec =
     tie.close
     (tie.spec
     refusal-requires
+    refused-requires
     returns
+    refused-requires-2
     returns-2
+    refused-requires-3
     returns-3
     trim-into-requires
     cast-t12

@@ -14,8 +14,8 @@ start c = c .before .before .before .before .before
 path : (c : tie.After-nth) → Got (decode (start c .args .table .now)) (start c .args .k) (c .nth .result) (c .nth .last .1 .1 .1 .0)
 path c =
     let x = start c in
-    got (λ i. omega (arith, c .before .before .before .before .shared-slice-known .given i)) (x .pre .0) (x .pre .1) (x .pre .2)
-    (omega (arith, length-replicate {A = ℕ} 1023 0)) (omega (arith, length-replicate {A = ℕ} 1023 0)) (c .nth .ensures)
+    got (x .args .table .now) (x .args .k) (λ i. omega (arith, c .before .before .before .before .shared-slice-known .given i)) (x .pre .0)
+    (x .pre .1) (x .pre .2) (omega (arith, length-replicate {A = ℕ} 1023 0)) (omega (arith, length-replicate {A = ℕ} 1023 0)) (c .nth .ensures)
 
 slice-aggregate-nth : tie.Need-slice-aggregate-nth
 slice-aggregate-nth c = search needs

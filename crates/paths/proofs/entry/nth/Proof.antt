@@ -19,8 +19,11 @@ use Rattle.paths.proofs.entry.nth.Tie as tie
 abbrev at-refusal : tie.Else3 → tie.After-refusal
 at-refusal c = c .before .before .before
 
+abbrev entry : tie.After-refusal → tie.Start
+entry c = c .before .before .before .before
+
 abbrev start : tie.Else3 → tie.Start
-start c = at-refusal c .before .before .before .before
+start c = entry (at-refusal c)
 
 abbrev at-header : tie.After-struct-known4 → tie.After-header
 at-header c = c .before .before .before .before
@@ -99,20 +102,27 @@ refused-requires : tie.Need-refused-requires
 refused-requires c κs = tt
 
 returns : tie.Need-returns
-returns c = nth-bad (c .before .before .refusal .ensures) (c .before .if1 .taken) (c .refused .ensures)
+returns c =
+    let a = entry (c .before .before) .args in
+    nth-bad (a .table .now) (a .k) (c .before .before .refusal .ensures) (c .before .if1 .taken) (c .refused .ensures)
 
 refused-requires-2 : tie.Need-refused-requires-2
 refused-requires-2 c κs = tt
 
 returns-2 : tie.Need-returns-2
-returns-2 c = nth-short-arcs (c .before .before .before .refusal .ensures) (c .before .before .if1 .left) (c .before .if2 .taken) (c .refused2 .ensures)
+returns-2 c =
+    let a = entry (c .before .before .before) .args in
+    nth-short-arcs (a .table .now) (a .k) (c .before .before .before .refusal .ensures) (c .before .before .if1 .left) (c .before .if2 .taken)
+    (c .refused2 .ensures)
 
 refused-requires-3 : tie.Need-refused-requires-3
 refused-requires-3 c κs = tt
 
 returns-3 : tie.Need-returns-3
 returns-3 c =
-    nth-short-labels (c .before .before .before .before .refusal .ensures) (c .before .before .before .if1 .left) (c .before .before .if2 .left) (c .before .if3 .taken) (c .refused3 .ensures)
+    let a = entry (c .before .before .before .before) .args in
+    nth-short-labels (a .table .now) (a .k) (c .before .before .before .before .refusal .ensures) (c .before .before .before .if1 .left)
+    (c .before .before .if2 .left) (c .before .if3 .taken) (c .refused3 .ensures)
 
 header-requires : tie.Need-header-requires
 header-requires c κs = omega (arith, length-accepted (start c .args .table .now) (is-bytes c) (accepted c))
@@ -157,7 +167,9 @@ returns-4 : tie.Need-returns-4
 returns-4 c =
     let asked = c .before .before in
     let passed = header-of asked .before in
-    nth-endless (at-refusal passed .refusal .ensures) (passed .before .before .if1 .left) (passed .before .if2 .left) (passed .if3 .left) (asked .counts-of .ensures .endless-is) (c .before .if4 .taken) (c .refused4 .ensures)
+    let a = start passed .args in
+    nth-endless (a .table .now) (a .k) (at-refusal passed .refusal .ensures) (passed .before .before .if1 .left) (passed .before .if2 .left)
+    (passed .if3 .left) (asked .counts-of .ensures .endless-is) (c .before .if4 .taken) (c .refused4 .ensures)
 
 mul-all : tie.Need-mul-all
 mul-all c = omega (arith, head (header-of (c .before .before)) .start-below)
@@ -178,7 +190,8 @@ returns-5 c =
     let a = start passed .args in
     let most : at-state (asked .counts-of .result .counts) (header .header .result .start) ≤ a .k = c .before .if5 .taken in
     let is : at-state (asked .counts-of .result .counts) (header .header .result .start) ≡ path-count (decode (a .table .now)) = counted at in
-    nth-none (at-refusal passed .refusal .ensures) (passed .before .before .if1 .left) (passed .before .if2 .left) (passed .if3 .left) (asked .counts-of .ensures .endless-is) (at .if4 .left) (omega arith) (c .refused5 .ensures)
+    nth-none (a .table .now) (a .k) (at-refusal passed .refusal .ensures) (passed .before .before .if1 .left) (passed .before .if2 .left)
+    (passed .if3 .left) (asked .counts-of .ensures .endless-is) (at .if4 .left) (omega arith) (c .refused5 .ensures)
 
 walk-requires : tie.Need-walk-requires
 walk-requires c κs =
@@ -206,7 +219,9 @@ returns-6 c =
     let at = walking told in
     let asked = tested at in
     let passed = header-of asked .before in
-    nth-found (at-refusal passed .refusal .ensures) (passed .before .before .if1 .left) (passed .before .if2 .left) (passed .if3 .left) (asked .counts-of .ensures .endless-is) (not-endless at .if4 .left) (there at)
+    let a = start passed .args in
+    nth-found (a .table .now) (a .k) (at-refusal passed .refusal .ensures) (passed .before .before .if1 .left) (passed .before .if2 .left)
+    (passed .if3 .left) (asked .counts-of .ensures .endless-is) (not-endless at .if4 .left) (there at)
     (told .walk .ensures .0) (path told) (c .before .before .tell .ensures)
 
 pub nth-spec : {M : Type 1} → statement M

@@ -20,8 +20,11 @@ use Rattle.shortest.proofs.entry.shortest_path.Tie as tie
 abbrev at-refusal : tie.Else3 → tie.After-refusal
 at-refusal c = c .before .before .before
 
+abbrev entry : tie.After-refusal → tie.Start
+entry c = c .before .before .before .before
+
 abbrev start : tie.Else3 → tie.Start
-start c = at-refusal c .before .before .before .before
+start c = entry (at-refusal c)
 
 abbrev at-header : tie.After-struct-known3 → tie.After-header
 at-header c = c .before .before .before
@@ -89,20 +92,27 @@ refused-requires : tie.Need-refused-requires
 refused-requires c κs = tt
 
 returns : tie.Need-returns
-returns c = shortest-bad (c .before .before .refusal .ensures) (c .before .if1 .taken) (c .refused .ensures)
+returns c =
+    let a = entry (c .before .before) .args in
+    shortest-bad (a .table .now) (c .before .before .refusal .ensures) (c .before .if1 .taken) (c .refused .ensures)
 
 refused-requires-2 : tie.Need-refused-requires-2
 refused-requires-2 c κs = tt
 
 returns-2 : tie.Need-returns-2
-returns-2 c = shortest-short-arcs (c .before .before .before .refusal .ensures) (c .before .before .if1 .left) (c .before .if2 .taken) (c .refused2 .ensures)
+returns-2 c =
+    let a = entry (c .before .before .before) .args in
+    shortest-short-arcs (a .table .now) (c .before .before .before .refusal .ensures) (c .before .before .if1 .left) (c .before .if2 .taken)
+    (c .refused2 .ensures)
 
 refused-requires-3 : tie.Need-refused-requires-3
 refused-requires-3 c κs = tt
 
 returns-3 : tie.Need-returns-3
 returns-3 c =
-    shortest-short-labels (c .before .before .before .before .refusal .ensures) (c .before .before .before .if1 .left) (c .before .before .if2 .left) (c .before .if3 .taken) (c .refused3 .ensures)
+    let a = entry (c .before .before .before .before) .args in
+    shortest-short-labels (a .table .now) (c .before .before .before .before .refusal .ensures) (c .before .before .before .if1 .left)
+    (c .before .before .if2 .left) (c .before .if3 .taken) (c .refused3 .ensures)
 
 header-requires : tie.Need-header-requires
 header-requires c κs = omega (arith, length-accepted (start c .args .table .now) (is-bytes c) (accepted c))
@@ -165,7 +175,9 @@ returns-4 c =
     let at = c .before .before in
     let header = header-of at in
     let passed = header .before in
-    shortest-none (at-refusal passed .refusal .ensures) (passed .before .before .if1 .left) (passed .before .if2 .left) (passed .if3 .left) (size passed) (at .settle .ensures) (head header .start-is)
+    let a = start passed .args in
+    shortest-none (a .table .now) (at-refusal passed .refusal .ensures) (passed .before .before .if1 .left) (passed .before .if2 .left)
+    (passed .if3 .left) (size passed) (at .settle .ensures) (head header .start-is)
     (c .before .if4 .taken) (c .refused4 .ensures)
 
 mul-len : tie.Need-mul-len
@@ -202,7 +214,9 @@ returns-5 : tie.Need-returns-5
 returns-5 c =
     let walked = c .before .before .before .before .before .before .before .before in
     let passed = header-of (walking walked .before) .before in
-    shortest-told (at-refusal passed .refusal .ensures) (passed .before .before .if1 .left) (passed .before .if2 .left) (passed .if3 .left) (path (walking walked)) (walked .walk .ensures) (c .before .before .tell .ensures)
+    let a = start passed .args in
+    shortest-told (a .table .now) (at-refusal passed .refusal .ensures) (passed .before .before .if1 .left) (passed .before .if2 .left)
+    (passed .if3 .left) (path (walking walked)) (walked .walk .ensures) (c .before .before .tell .ensures)
 
 pub shortest-path-spec : {M : Type 1} → statement M
 shortest-path-spec =

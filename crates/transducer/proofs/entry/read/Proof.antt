@@ -47,51 +47,51 @@ head-counted c = counted (bytes-of (c .before)) (is-bytes (c .before)) (accepted
 refusal-requires : tie.Need-refusal-requires
 refusal-requires c κs = search needs
 
-refused-requires : tie.Need-refused-requires
-refused-requires c κs = search needs
+unread-requires : tie.Need-unread-requires
+unread-requires c κs = search needs
 
 returns : tie.Need-returns
-returns c = says-bad (c .before .before .refusal .ensures) (c .before .if1 .taken) (c .refused .ensures)
+returns c = says-bad (c .before .before .refusal .ensures) (c .before .if1 .taken) (c .unread .ensures)
 
-refused-requires-2 : tie.Need-refused-requires-2
-refused-requires-2 c κs = search needs
+unread-requires-2 : tie.Need-unread-requires-2
+unread-requires-2 c κs = search needs
 
 returns-2 : tie.Need-returns-2
 returns-2 c =
     let at-refusal = c .before .before .before in
     let a = entry at-refusal .args in
     let room = short-states (length (a .final-states .now)) (length (a .final-weights .now)) (length (a .fields .now)) (length (a .arc-weights .now)) in
-    says-short (at-refusal .refusal .ensures) (c .before .before .if1 .left) (room (c .before .if2 .taken)) (c .refused2 .ensures)
+    says-short (at-refusal .refusal .ensures) (c .before .before .if1 .left) (room (c .before .if2 .taken)) (c .unread2 .ensures)
 
-refused-requires-3 : tie.Need-refused-requires-3
-refused-requires-3 c κs = search needs
+unread-requires-3 : tie.Need-unread-requires-3
+unread-requires-3 c κs = search needs
 
 returns-3 : tie.Need-returns-3
 returns-3 c =
     let at-refusal = c .before .before .before .before in
     let a = entry at-refusal .args in
     let room = short-weights (length (a .final-states .now)) (length (a .final-weights .now)) (length (a .fields .now)) (length (a .arc-weights .now)) in
-    says-short (at-refusal .refusal .ensures) (c .before .before .before .if1 .left) (room (c .before .if3 .taken)) (c .refused3 .ensures)
+    says-short (at-refusal .refusal .ensures) (c .before .before .before .if1 .left) (room (c .before .if3 .taken)) (c .unread3 .ensures)
 
-refused-requires-4 : tie.Need-refused-requires-4
-refused-requires-4 c κs = search needs
+unread-requires-4 : tie.Need-unread-requires-4
+unread-requires-4 c κs = search needs
 
 returns-4 : tie.Need-returns-4
 returns-4 c =
     let at-refusal = c .before .before .before .before .before in
     let a = entry at-refusal .args in
     let room = short-fields (length (a .final-states .now)) (length (a .final-weights .now)) (length (a .fields .now)) (length (a .arc-weights .now)) in
-    says-short (at-refusal .refusal .ensures) (c .before .before .before .before .if1 .left) (room (c .before .if4 .taken)) (c .refused4 .ensures)
+    says-short (at-refusal .refusal .ensures) (c .before .before .before .before .if1 .left) (room (c .before .if4 .taken)) (c .unread4 .ensures)
 
-refused-requires-5 : tie.Need-refused-requires-5
-refused-requires-5 c κs = search needs
+unread-requires-5 : tie.Need-unread-requires-5
+unread-requires-5 c κs = search needs
 
 returns-5 : tie.Need-returns-5
 returns-5 c =
     let at-refusal = c .before .before .before .before .before .before in
     let a = entry at-refusal .args in
     let room = short-arc-weights (length (a .final-states .now)) (length (a .final-weights .now)) (length (a .fields .now)) (length (a .arc-weights .now)) in
-    says-short (at-refusal .refusal .ensures) (c .before .before .before .before .before .if1 .left) (room (c .before .if5 .taken)) (c .refused5 .ensures)
+    says-short (at-refusal .refusal .ensures) (c .before .before .before .before .before .if1 .left) (room (c .before .if5 .taken)) (c .unread5 .ensures)
 
 header-requires : tie.Need-header-requires
 header-requires c κs = omega (arith, length-accepted (bytes-of c) (is-bytes c) (accepted c))
@@ -158,15 +158,15 @@ read-spec =
     tie.close
     (tie.spec
     refusal-requires
-    refused-requires
+    unread-requires
     returns
-    refused-requires-2
+    unread-requires-2
     returns-2
-    refused-requires-3
+    unread-requires-3
     returns-3
-    refused-requires-4
+    unread-requires-4
     returns-4
-    refused-requires-5
+    unread-requires-5
     returns-5
     header-requires
     cast-f

@@ -53,43 +53,69 @@ enough c =
 head-ok-requires : tie.Need-head-ok-requires
 head-ok-requires c κs = search needs
 
+refused-requires : tie.Need-refused-requires
+refused-requires c κs = tt
+
 returns : tie.Need-returns
-returns c = says-3 _ _ _ _ _ _ _ _ _ (sym (c .before .head-ok .ensures) ∙ not-true (c .before .head-ok .result) (c .if1 .taken))
+returns c =
+    says-3 _ _ _ _ _ _ _ _ _ (sym (c .before .before .head-ok .ensures) ∙ not-true (c .before .before .head-ok .result) (c .before .if1 .taken)) _
+    (c .refused .ensures)
+
+refused-requires-2 : tie.Need-refused-requires-2
+refused-requires-2 c κs = tt
 
 returns-2 : tie.Need-returns-2
-returns-2 c = says-4-states _ _ _ _ _ _ _ _ _ (head-is-good (c .before)) (c .if2 .taken)
+returns-2 c = says-4-states _ _ _ _ _ _ _ _ _ (head-is-good (c .before .before)) (c .before .if2 .taken) _ (c .refused2 .ensures)
+
+refused-requires-3 : tie.Need-refused-requires-3
+refused-requires-3 c κs = tt
 
 returns-3 : tie.Need-returns-3
-returns-3 c = says-4-weights _ _ _ _ _ _ _ _ _ (head-is-good (c .before .before)) (c .before .if2 .left) (c .if3 .taken)
+returns-3 c =
+    says-4-weights _ _ _ _ _ _ _ _ _ (head-is-good (c .before .before .before)) (c .before .before .if2 .left) (c .before .if3 .taken) _
+    (c .refused3 .ensures)
 
 mul-if4 : tie.Need-mul-if4
 mul-if4 c = search needs
 
+refused-requires-4 : tie.Need-refused-requires-4
+refused-requires-4 c κs = tt
+
 returns-4 : tie.Need-returns-4
 returns-4 c =
-    says-4-fields _ _ _ _ _ _ _ _ _ (head-is-good (c .before .before .before)) (c .before .before .if2 .left) (c .before .if3 .left) (c .if4 .taken)
+    says-4-fields _ _ _ _ _ _ _ _ _ (head-is-good (c .before .before .before .before)) (c .before .before .before .if2 .left)
+    (c .before .before .if3 .left) (c .before .if4 .taken) _ (c .refused4 .ensures)
+
+refused-requires-5 : tie.Need-refused-requires-5
+refused-requires-5 c κs = tt
 
 returns-5 : tie.Need-returns-5
 returns-5 c =
-    says-4-arc-weights _ _ _ _ _ _ _ _ _ (head-is-good (c .before .before .before .before)) (c .before .before .before .if2 .left)
-    (c .before .before .if3 .left) (c .before .if4 .left) (c .if5 .taken)
+    says-4-arc-weights _ _ _ _ _ _ _ _ _ (head-is-good (c .before .before .before .before .before)) (c .before .before .before .before .if2 .left)
+    (c .before .before .before .if3 .left) (c .before .before .if4 .left) (c .before .if5 .taken) _ (c .refused5 .ensures)
 
 content-number-requires : tie.Need-content-number-requires
 content-number-requires c κs = search needs
 
+refused-requires-6 : tie.Need-refused-requires-6
+refused-requires-6 c κs = tt
+
 returns-6 : tie.Need-returns-6
 returns-6 c =
-    let here = c .before .before in
-    let tested = c .before .content-number in
+    let here = c .before .before .before in
+    let tested = c .before .before .content-number in
     says-content _ _ _ _ _ _ _ _ _ (head-is-good (first here)) (enough here) (tested .result) (tested .ensures (entry (first here) .args .start))
-    (c .if6 .taken)
+    (c .before .if6 .taken) _ (c .refused6 .ensures)
+
+refused-requires-7 : tie.Need-refused-requires-7
+refused-requires-7 c κs = tt
 
 returns-7 : tie.Need-returns-7
 returns-7 c =
-    let here = c .before .before .before in
-    let tested = c .before .before .content-number in
+    let here = c .before .before .before .before in
+    let tested = c .before .before .before .content-number in
     says-10 _ _ _ _ _ _ _ _ _ (head-is-good (first here)) (enough here) (tested .result) (tested .ensures (entry (first here) .args .start))
-    (c .before .if6 .left) (c .if7 .taken)
+    (c .before .before .if6 .left) (c .before .if7 .taken) _ (c .refused7 .ensures)
 
 mul-first : tie.Need-mul-first
 mul-first c = search needs
@@ -156,14 +182,21 @@ write-spec =
     tie.close
     (tie.spec
     head-ok-requires
+    refused-requires
     returns
+    refused-requires-2
     returns-2
+    refused-requires-3
     returns-3
     mul-if4
+    refused-requires-4
     returns-4
+    refused-requires-5
     returns-5
     content-number-requires
+    refused-requires-6
     returns-6
+    refused-requires-7
     returns-7
     mul-first
     add-first

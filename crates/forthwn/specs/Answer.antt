@@ -4,7 +4,6 @@ use mathlib.Core.List.{List}
 use lib.ListN.{getD}
 use Rattle.transducer.specs.declared.Header.{Header}
 use Rattle.transducer.specs.declared.Written.{Written}
-use Rattle.compose.specs.declared.Answer.{Answer}
 use Rattle.paths.specs.declared.Counted.{Counted}
 use Rattle.paths.specs.declared.Told.{Told}
 
@@ -14,9 +13,6 @@ header r h = record { refusal = r; states = getD h 0 0; arcs = getD h 1 0; final
 
 abbrev pub written : (refusal len : ℕ) → Written
 written r l = record { refusal = r; len = l }
-
-abbrev pub composed : (refusal len : ℕ) → Answer
-composed r l = record { refusal = r; len = l }
 
 abbrev pub counted : (refusal count : ℕ) → Counted
 counted r n = record { refusal = r; count = n }
