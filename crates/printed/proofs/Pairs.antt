@@ -92,8 +92,11 @@ module _ (xs ys cs : List ℕ) (bytes-xs : Bytes xs) (bytes-ys : Bytes ys) (fine
   good-z : Good z
   good-z = composed-good (decode xs) (decode ys) (passed .left-good) (passed .right-good) (passed .composes)
 
+  pub good-lattice : Good w
+  good-lattice = lattice-good s z good-z (passed .string) (passed .applies)
+
   within : Within w
-  within = good-within w (lattice-good s z good-z (passed .string) (passed .applies))
+  within = good-within w good-lattice
 
   pairs : Paths-are-pairs xs ys s w (leads-to xs ys s)
   pairs =

@@ -1,4 +1,5 @@
 -- `says-short` and `says-whole` have the two answers.
+use native.Mathlib.Omega.{arith}
 use Rattle.listing.proofs.Steps.{says-short, says-whole}
 use Rattle.listing.proofs.entry.listing.Statement.{statement}
 use Rattle.listing.proofs.entry.listing.Tie as tie
@@ -6,7 +7,7 @@ use Rattle.listing.proofs.entry.listing.Tie as tie
 returns : tie.Need-returns
 returns c =
     let x = c .before .before .before .before .before .args in
-    says-short (x .left .now) (x .right .now) (x .bytes .now) (x .out .now) (c .if1 .taken)
+    says-short (x .left .now) (x .right .now) (x .bytes .now) (x .out .now) (omega (arith, c .if1 .taken))
 
 list-composed-requires : tie.Need-list-composed-requires
 list-composed-requires c κs = c .before .if1 .left

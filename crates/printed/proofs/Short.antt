@@ -1,0 +1,77 @@
+-- No text is longer than the least length of its buffer. Assumes nothing.
+use mathlib.Core.Path.{_≡_, refl}
+use mathlib.Core.Bool.{Bool, true, false, _&&_, _||_, cond}
+use mathlib.Core.List.{List}
+use Prim.Native.Nat.{ℕ, _%_, _≤_}
+use native.Mathlib.Omega.{arith}
+use borrow.Author.Tests.{eqb-true}
+use lib.Dec.{eqb, ltb}
+use lib.ListN.{length}
+use Rattle.wire.specs.Bytes.{Bytes}
+use Rattle.transducer.specs.Format.{Transducer, Good, refusal, decode, weights-good, max-states, max-arcs}
+use Rattle.transducer.specs.Encode.{encode}
+use Rattle.transducer.specs.Entry.{or-else}
+use Rattle.transducer.proofs.Most.{refusal-most}
+use Rattle.transducer.proofs.RoundTrip.{bytes-encode, decode-encode, refusal-encode}
+use Rattle.explore.specs.Explore.{built-refusal}
+use Rattle.compose.specs.Compose.{composed}
+use Rattle.compose.specs.Entry.{compose-room, compose-refusal}
+use Rattle.lattice.specs.Apply.{string-good, applied}
+use Rattle.paths.proofs.Ready.{Sized, sized}
+use Rattle.listing.specs.Code.{labels-in}
+use Rattle.listing.specs.Text.{listing-text, refused-text, least-room}
+use Rattle.listing.specs.Entry.{code-refusal, applied-refusal, listing-refusal, text-unless, text-of}
+use Rattle.listing.proofs.Short.{refused-short}
+use Rattle.listing.proofs.NthLine.{listing-short}
+use Rattle.printed.specs.Printed.{lattice-for}
+use Rattle.printed.proofs.Pairs.{good-lattice}
+
+-- A refusal is at most 13.
+
+or-else-most : (a b : ℕ) → a ≤ 13 → b ≤ 13 → or-else a b ≤ 13
+unfolding or-else
+or-else-most a b p q = on (eqb a 0)
+  where
+    on : (t : Bool) → cond t b a ≤ 13
+    on true = q
+    on false = p
+
+cond-most : (t : Bool) (a b : ℕ) → a ≤ 13 → b ≤ 13 → cond t a b ≤ 13
+cond-most true a b p q = p
+cond-most false a b p q = q
+
+built-most : (t : Transducer) → built-refusal t ≤ 13
+unfolding built-refusal
+built-most t =
+    cond-most (ltb max-states (t .states)) 11 (cond (ltb max-arcs (length (t .arcs))) 12 (cond (weights-good t) 0 13)) (omega arith)
+    (cond-most (ltb max-arcs (length (t .arcs))) 12 (cond (weights-good t) 0 13) (omega arith) (cond-most (weights-good t) 0 13 (omega arith) (omega arith)))
+
+listing-most : (xs ys cs : List ℕ) → listing-refusal xs ys cs ≤ 13
+unfolding listing-refusal compose-refusal compose-room applied-refusal code-refusal
+listing-most xs ys cs =
+    let z : Transducer = composed (decode xs) (decode ys) .result in
+    let room : ℕ = cond (ltb 59404 59404 || (ltb 6144 6144 || ltb 1024 1024)) 10 0 in
+    let code : ℕ = cond (eqb (length cs % 2) 0 && string-good (labels-in cs)) 0 9 in
+    let built : ℕ = built-refusal (applied (labels-in cs) z .result) in
+    let inner : or-else room (built-refusal z) ≤ 13 =
+    or-else-most room (built-refusal z) (cond-most (ltb 59404 59404 || (ltb 6144 6144 || ltb 1024 1024)) 10 0 (omega arith) (omega arith)) (built-most z) in
+    or-else-most (or-else (refusal xs) (or-else (refusal ys) (or-else room (built-refusal z)))) (or-else code built)
+    (or-else-most (refusal xs) (or-else (refusal ys) (or-else room (built-refusal z))) (omega (arith, refusal-most xs))
+    (or-else-most (refusal ys) (or-else room (built-refusal z)) (omega (arith, refusal-most ys)) inner))
+    (or-else-most code built (cond-most (eqb (length cs % 2) 0 && string-good (labels-in cs)) 0 9 (omega arith) (omega arith))
+    (built-most (applied (labels-in cs) z .result)))
+
+-- A transducer that can be written has a short listing.
+good-short : (t : Transducer) → Good t → length (listing-text t) ≤ least-room
+good-short t good =
+    let size : Sized t = rw (decode-encode t good) at (sized (encode t) (bytes-encode t) (refusal-encode t good)) in
+    listing-short t size
+
+pub text-short : (xs ys cs : List ℕ) → Bytes xs → Bytes ys → length (text-of xs ys cs) ≤ least-room
+unfolding text-of text-unless
+text-short xs ys cs bytes-xs bytes-ys = on (eqb (listing-refusal xs ys cs) 0) refl
+  where
+    on : (b : Bool) → eqb (listing-refusal xs ys cs) 0 ≡ b
+        → length (cond (eqb (listing-refusal xs ys cs) 0) (listing-text (lattice-for xs ys (labels-in cs))) (refused-text (listing-refusal xs ys cs))) ≤ least-room
+    on true e = rw e (good-short (lattice-for xs ys (labels-in cs)) (good-lattice xs ys cs bytes-xs bytes-ys (eqb-true (listing-refusal xs ys cs) 0 e)))
+    on false e = rw e (omega (arith, refused-short (listing-refusal xs ys cs) (omega (arith, listing-most xs ys cs))))
