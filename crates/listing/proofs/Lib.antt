@@ -1,4 +1,5 @@
 pub mod Decimal
+pub mod Digits
 pub mod Wrote
 pub mod Short
 pub mod NthLine

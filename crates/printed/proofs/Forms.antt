@@ -5,8 +5,8 @@ use Prim.Native.Nat.{ℕ}
 use native.Mathlib.Omega.{arith}
 use lib.ListN.{getD, drop}
 use Rattle.listing.specs.Text.{decimal, readings-word, endless-word, many-word, refused-word, refused-text}
+use Rattle.listing.proofs.Digits.{is-digit, decimal-injective, front-digits, behind-digits, front-decimal, behind-decimal}
 use Rattle.printed.specs.Printed.{Begins}
-use Rattle.printed.proofs.Digits.{is-digit, decimal-injective, front-digits, behind-digits, front-decimal, behind-decimal}
 
 -- A refusal and a listing
 

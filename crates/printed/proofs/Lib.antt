@@ -1,6 +1,5 @@
-pub mod Digits
 pub mod Forms
 pub mod Pairs
 pub mod PrintedClaim
-pub mod Short
+pub mod LeastRoom
 pub mod Longest

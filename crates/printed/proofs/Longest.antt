@@ -18,7 +18,8 @@ use Rattle.transducer.specs.Format.{order-good, finals-rise, sources-stay, all-
 use Rattle.transducer.specs.Encode.{encode}
 use Rattle.transducer.specs.Path.{arc, no-arc, is-final, final-weight, ends, accepts, written-by, non-empty, arcs-cost, path-cost}
 use Rattle.transducer.proofs.Members.{Distinct, getD-in}
-use Rattle.transducer.proofs.Runs.{Accepting, AcceptingBy, Within, accepts-accepting, accepting-accepts, accepting-nil, nil-accepting, accepting-cons, cons-accepting}
+use Rattle.transducer.proofs.Runs.{Accepting, AcceptingBy, Within, accepts-accepting, accepting-accepts}
+use Rattle.transducer.proofs.Runs.{accepting-nil, nil-accepting, accepting-cons, cons-accepting}
 use Rattle.transducer.proofs.RoundTrip.{bytes-encode, decode-encode, refusal-encode}
 use Rattle.paths.specs.Count.{paths, endless, path-count, nth-path}
 use Rattle.paths.proofs.Endless.{mem-paths, paths-distinct, short-finite, not-endless-listed}
@@ -301,11 +302,14 @@ longest-line =
     }
 
 longest-good : Good longest
-unfolding longest head-good content-refusal first-of states-good order-good finals-rise sources-stay all-labels-good labels-good weights-good weight-good every places
+unfolding longest head-good content-refusal first-of states-good order-good finals-rise sources-stay all-labels-good labels-good weights-good weight-good
+    every places
 longest-good = record { head = refl; content = refl }
 
 -- There are accepted bytes whose listing has that length.
 pub longest-listing : (bs : List ℕ) × Bytes bs × (refusal bs ≡ 0) × (length (listing-text (decode bs)) ≡ least-room)
 longest-listing =
     let same-again : decode (encode longest) ≡ longest = decode-encode longest longest-good in
-    (encode longest, bytes-encode longest, refusal-encode longest longest-good, ap (λ (t : Transducer). length (listing-text t)) same-again ∙ text-long longest longest-line)
+    let long : length (listing-text (decode (encode longest))) ≡ least-room =
+    ap (λ (t : Transducer). length (listing-text t)) same-again ∙ text-long longest longest-line in
+    (encode longest, bytes-encode longest, refusal-encode longest longest-good, long)

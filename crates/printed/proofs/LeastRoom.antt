@@ -72,6 +72,7 @@ unfolding text-of text-unless
 text-short xs ys cs bytes-xs bytes-ys = on (eqb (listing-refusal xs ys cs) 0) refl
   where
     on : (b : Bool) → eqb (listing-refusal xs ys cs) 0 ≡ b
-        → length (cond (eqb (listing-refusal xs ys cs) 0) (listing-text (lattice-for xs ys (labels-in cs))) (refused-text (listing-refusal xs ys cs))) ≤ least-room
+        → length (cond (eqb (listing-refusal xs ys cs) 0) (listing-text (lattice-for xs ys (labels-in cs))) (refused-text (listing-refusal xs ys cs)))
+        ≤ least-room
     on true e = rw e (good-short (lattice-for xs ys (labels-in cs)) (good-lattice xs ys cs bytes-xs bytes-ys (eqb-true (listing-refusal xs ys cs) 0 e)))
     on false e = rw e (omega (arith, refused-short (listing-refusal xs ys cs) (omega (arith, listing-most xs ys cs))))
