@@ -16,7 +16,7 @@ use Rattle.compose.specs.Compose.{composed}
 use Rattle.compose.specs.Entry.{origin-pairs}
 use Rattle.compose.proofs.Claimed.{bytes-one-to-one}
 use Rattle.compose.proofs.MetPaths.{met-filled}
-use Rattle.compose.proofs.Written.{composed-good}
+use Rattle.compose.proofs.Written.{composed-good, refusal-composed}
 use Rattle.lattice.specs.Lattice.{lattice, lattice-origins, through, Reads-one-to-one}
 use Rattle.lattice.proofs.LatticeGood.{lattice-good, refusal-lattice, decode-lattice}
 use Rattle.lattice.proofs.LatticeLaw.{through-filled, lattice-one-to-one}
@@ -44,6 +44,12 @@ module _ {xs ys zs os : List ℕ} (bytes-xs : Bytes xs) (bytes-ys : Bytes ys) (c
 
   pub composition-read : decode zs ≡ composed (decode xs) (decode ys) .result
   composition-read = ap decode (composing .bytes) ∙ decode-encode (composed (decode xs) (decode ys) .result) composition-good
+
+  pub composition-accepted : refusal zs ≡ 0
+  composition-accepted =
+      rw (composing .bytes)
+      (refusal-composed (decode xs) (decode ys) (accepted-good xs bytes-xs (composing .left-good)) (accepted-good ys bytes-ys (composing .right-good))
+      (composing .fine))
 
 -- The calls: zs and ws are the composition's and the lattice's bytes as handed on, os and ls their origins as left behind, r the count's answer.
 pub record Chained (xs ys cs zs os ws ls : List ℕ) (r : Counted) : Type 0 where

@@ -2,24 +2,15 @@
 ghost use Rattle.claim.specs.Entry.{Readings-says};
 use paths::Counted;
 
-// Composes two transducers, applies a string and counts the accepting paths, in buffers that are lent: they hold afterwards what the calls
-// left in them. What a picking machine acts on.
-pub fn readings(
-    left: &[u8],
-    right: &[u8],
-    string: &[u16],
-    table: &mut [u8],
-    origins: &mut [u16],
-    states: &mut [u32],
-    lattice: &mut [u8],
-    lattice_origins: &mut [u16],
-    pairs: &mut [u32],
-) -> Counted
-    ensures { λ r. ⌜ Readings-says (now (left .entry)) (now (right .entry)) (now (string .entry)) r
-        (now (table .entry)) (now (table .exit)) (now (origins .entry)) (now (origins .exit)) (now (states .entry)) (now (states .exit))
-        (now (lattice .entry)) (now (lattice .exit)) (now («lattice_origins» .entry)) (now («lattice_origins» .exit)) (now (pairs .entry)) (now (pairs .exit)) ⌝ }
+// Composes two transducers, applies a string and counts the accepting paths: what a picking machine acts on. Nothing is lent: the calls
+// work in arrays of this one's own, which are long enough, so that 10 is never answered.
+pub fn readings(left: &[u8], right: &[u8], string: &[u16]) -> Counted
+    ensures { λ r. ⌜ Readings-says (now (left .entry)) (now (right .entry)) (now (string .entry)) r ⌝ }
 {
-    let composed = compose::compose(left, right, table, origins, states);
+    let mut table = [0u8; 59404];
+    let mut origins = [0u16; 6144];
+    let mut states = [0u32; 1024];
+    let composed = compose::compose(left, right, &mut table, &mut origins, &mut states);
     if composed.refusal != 0 {
         return Counted {
             refusal: composed.refusal,
@@ -27,7 +18,10 @@ pub fn readings(
         };
     }
     let size = composed.len as usize;
-    let applied = lattice::apply(string, &table[..size], lattice, lattice_origins, pairs);
+    let mut lattice = [0u8; 59404];
+    let mut arcs = [0u16; 3072];
+    let mut pairs = [0u32; 1024];
+    let applied = lattice::apply(string, &table[..size], &mut lattice, &mut arcs, &mut pairs);
     if applied.refusal != 0 {
         return Counted {
             refusal: applied.refusal,

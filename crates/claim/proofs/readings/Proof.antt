@@ -1,169 +1,148 @@
--- One call after the other, each answer with its law in `ReadingsSays`.
+-- One call after the other, each answer with its law in `ReadingsSays`; the arrays are as long as the calls ask.
 use borrow.Author.Needs.{needs}
-use native.Mathlib.Omega.{arith}
 use mathlib.Core.Path.{sym}
+use Prim.Native.Nat.{ℕ, _≤_}
+use native.Mathlib.Omega.{arith}
+use lib.ListN.{length, length-replicate}
 use lib.Seq.{length-take-le}
 use Rattle.wire.specs.Bytes.{Bytes}
-use Rattle.claim.proofs.Answers.{composed-fits, applied-fits}
-use Rattle.claim.proofs.ReadingsSays.{says-uncomposed, says-unapplied, says-counted}
+use Rattle.claim.proofs.ReadingsSays.{says-uncomposed, made-fits, says-unapplied, put-fits, says-counted}
 use Rattle.claim.proofs.readings.Statement.{statement}
 use Rattle.claim.proofs.readings.Tie as tie
 
 -- The way back from a place to an earlier one.
+abbrev start : tie.After-compose → tie.Start
+start c = c .before .before .before .before .before .before .before
+
 abbrev composing : tie.Else1 → tie.After-compose
-composing c = c .before .before .before .before .before .before .before .before
+composing c = c .before .before .before .before .before
 
 abbrev composed : tie.After-apply → tie.Else1
 composed c = c .before .before .before .before .before .before
 
 abbrev applying : tie.Else2 → tie.After-apply
-applying c = c .before .before .before .before .before .before .before .before
+applying c = c .before .before .before .before .before
 
-abbrev lent : tie.After-compose → tie.After-shared-slice-known2
-lent c = c .before .before .before .before .before .before .before .before .before .before .before
+left-bytes : (c : tie.After-compose) → Bytes (start c .args .left .now)
+left-bytes c = λ i. omega (arith, c .before .before .before .before .before .before .shared-slice-known .given i)
 
-left-bytes : (c : tie.After-shared-slice-known2) → Bytes (c .before .before .args .left .now)
-left-bytes c = λ i. omega (arith, c .before .shared-slice-known .given i)
+right-bytes : (c : tie.After-compose) → Bytes (start c .args .right .now)
+right-bytes c = λ i. omega (arith, c .before .before .before .before .before .shared-slice-known2 .given i)
 
-right-bytes : (c : tie.After-shared-slice-known2) → Bytes (c .before .before .args .right .now)
-right-bytes c = λ i. omega (arith, c .shared-slice-known2 .given i)
+-- What is handed on lies within its array.
+table-fits : (c : tie.Else1) → composing c .compose .result .len ≤ length (composing c .compose .last .1 .1 .0)
+table-fits c =
+    let made = composing c in
+    let x = start made .args in
+    made-fits (x .left .now) (x .right .now) (x .string .now) (made .compose .result) (length-replicate {A = ℕ} 59404 0)
+    (length-replicate {A = ℕ} 6144 0) (length-replicate {A = ℕ} 1024 0) (made .compose .ensures) (left-bytes made) (right-bytes made) (c .if1 .left)
+
+lattice-fits : (c : tie.Else2) → applying c .apply .result .len ≤ length (applying c .apply .last .1 .1 .0)
+lattice-fits c =
+    let put = applying c in
+    let made = composing (composed put) in
+    let x = start made .args in
+    put-fits (x .left .now) (x .right .now) (x .string .now) (made .compose .result) (length-replicate {A = ℕ} 59404 0)
+    (length-replicate {A = ℕ} 6144 0) (length-replicate {A = ℕ} 1024 0) (made .compose .ensures) (left-bytes made) (right-bytes made)
+    (composed put .if1 .left) (put .apply .result) (length-replicate {A = ℕ} 59404 0) (length-replicate {A = ℕ} 3072 0)
+    (length-replicate {A = ℕ} 1024 0) (put .apply .ensures) (c .if2 .left)
+
+slice-aggregate-compose : tie.Need-slice-aggregate-compose
+slice-aggregate-compose c = search needs
+
+slice-aggregate-compose-2 : tie.Need-slice-aggregate-compose-2
+slice-aggregate-compose-2 c = search needs
+
+slice-aggregate-compose-3 : tie.Need-slice-aggregate-compose-3
+slice-aggregate-compose-3 c = search needs
 
 compose-requires : tie.Need-compose-requires
-compose-requires c κs = search needs
-
-same-length : tie.Need-same-length
-same-length c = search needs
-
-same-length-2 : tie.Need-same-length-2
-same-length-2 c = search needs
-
-same-length-3 : tie.Need-same-length-3
-same-length-3 c = search needs
+compose-requires c κs = tt
 
 returns : tie.Need-returns
 returns c =
-    let made = c .before .before .before .before .before .before .before .before .compose in
-    says-uncomposed _ _ _ (made .result) _ _ _ _ _ _ (made .ensures) _ _ _ (c .if1 .taken)
+    let made = c .before .before .before .before .before in
+    let x = start made .args in
+    says-uncomposed (x .left .now) (x .right .now) (x .string .now) (made .compose .result) (length-replicate {A = ℕ} 59404 0)
+    (length-replicate {A = ℕ} 6144 0) (length-replicate {A = ℕ} 1024 0) (made .compose .ensures) (c .if1 .taken)
 
 cast-size : tie.Need-cast-size
 cast-size c = search needs
 
-slice-reshare-prefix-apply : tie.Need-slice-reshare-prefix-apply
-slice-reshare-prefix-apply c =
-    let else1 = c .before in
-    let made = composing else1 .compose in
-    composed-fits _ _ (made .result) _ _ _ _ _ _ (made .ensures) (else1 .if1 .left)
+array-share-prefix-table : tie.Need-array-share-prefix-table
+array-share-prefix-table c = table-fits (c .before)
 
 slice-aggregate-apply : tie.Need-slice-aggregate-apply
 slice-aggregate-apply c =
-    let else1 = c .before .before in
-    let made = composing else1 .compose in
-    sym (length-take-le _ _ (composed-fits _ _ (made .result) _ _ _ _ _ _ (made .ensures) (else1 .if1 .left)))
+    let made = composing (c .before .before) .compose in
+    sym (length-take-le (made .result .len) (made .last .1 .1 .0) (table-fits (c .before .before)))
+
+slice-aggregate-apply-2 : tie.Need-slice-aggregate-apply-2
+slice-aggregate-apply-2 c = search needs
+
+slice-aggregate-apply-3 : tie.Need-slice-aggregate-apply-3
+slice-aggregate-apply-3 c = search needs
+
+slice-aggregate-apply-4 : tie.Need-slice-aggregate-apply-4
+slice-aggregate-apply-4 c = search needs
 
 apply-requires : tie.Need-apply-requires
-apply-requires c κs = search needs
-
-same-length-4 : tie.Need-same-length-4
-same-length-4 c = search needs
-
-same-length-5 : tie.Need-same-length-5
-same-length-5 c = search needs
-
-same-length-6 : tie.Need-same-length-6
-same-length-6 c = search needs
-
-same-length-7 : tie.Need-same-length-7
-same-length-7 c = search needs
-
-same-length-8 : tie.Need-same-length-8
-same-length-8 c = search needs
-
-same-length-9 : tie.Need-same-length-9
-same-length-9 c = search needs
+apply-requires c κs = tt
 
 returns-2 : tie.Need-returns-2
 returns-2 c =
-    let put = c .before .before .before .before .before .before .before .before in
-    let else1 = composed put in
-    let made = composing else1 .compose in
-    let start = lent (composing else1) in
-    says-unapplied _ _ _ (made .result) _ _ _ _ _ _ (made .ensures) (left-bytes start) (right-bytes start) (else1 .if1 .left)
-    (put .apply .result) _ _ _ _ _ _ (put .apply .ensures) (c .if2 .taken)
+    let put = c .before .before .before .before .before in
+    let made = composing (composed put) in
+    let x = start made .args in
+    says-unapplied (x .left .now) (x .right .now) (x .string .now) (made .compose .result) (length-replicate {A = ℕ} 59404 0)
+    (length-replicate {A = ℕ} 6144 0) (length-replicate {A = ℕ} 1024 0) (made .compose .ensures) (left-bytes made) (right-bytes made)
+    (composed put .if1 .left) (put .apply .result) (length-replicate {A = ℕ} 59404 0) (length-replicate {A = ℕ} 3072 0)
+    (length-replicate {A = ℕ} 1024 0) (put .apply .ensures) (c .if2 .taken)
 
 cast-len : tie.Need-cast-len
 cast-len c = search needs
 
-slice-reshare-prefix-count : tie.Need-slice-reshare-prefix-count
-slice-reshare-prefix-count c =
-    let else2 = c .before in
-    let put = applying else2 .apply in
-    applied-fits _ _ (put .result) _ _ _ _ _ _ (put .ensures) (else2 .if2 .left)
+array-share-prefix-lattice : tie.Need-array-share-prefix-lattice
+array-share-prefix-lattice c = lattice-fits (c .before)
 
 slice-aggregate-count : tie.Need-slice-aggregate-count
 slice-aggregate-count c =
-    let else2 = c .before .before in
-    let put = applying else2 .apply in
-    sym (length-take-le _ _ (applied-fits _ _ (put .result) _ _ _ _ _ _ (put .ensures) (else2 .if2 .left)))
+    let put = applying (c .before .before) .apply in
+    sym (length-take-le (put .result .len) (put .last .1 .1 .0) (lattice-fits (c .before .before)))
 
 count-requires : tie.Need-count-requires
-count-requires c κs = search needs
-
-same-length-10 : tie.Need-same-length-10
-same-length-10 c = search needs
-
-same-length-11 : tie.Need-same-length-11
-same-length-11 c = search needs
-
-same-length-12 : tie.Need-same-length-12
-same-length-12 c = search needs
-
-same-length-13 : tie.Need-same-length-13
-same-length-13 c = search needs
-
-same-length-14 : tie.Need-same-length-14
-same-length-14 c = search needs
-
-same-length-15 : tie.Need-same-length-15
-same-length-15 c = search needs
+count-requires c κs = tt
 
 returns-3 : tie.Need-returns-3
 returns-3 c =
     let else2 = c .before .before .before in
     let put = applying else2 in
-    let else1 = composed put in
-    let made = composing else1 .compose in
-    let start = lent (composing else1) in
-    says-counted _ _ _ (made .result) _ _ _ _ _ _ (made .ensures) (left-bytes start) (right-bytes start) (else1 .if1 .left)
-    (put .apply .result) _ _ _ _ _ _ (put .apply .ensures) (else2 .if2 .left) (c .count .result) (c .count .ensures)
+    let made = composing (composed put) in
+    let x = start made .args in
+    says-counted (x .left .now) (x .right .now) (x .string .now) (made .compose .result) (length-replicate {A = ℕ} 59404 0)
+    (length-replicate {A = ℕ} 6144 0) (length-replicate {A = ℕ} 1024 0) (made .compose .ensures) (left-bytes made) (right-bytes made)
+    (composed put .if1 .left) (put .apply .result) (length-replicate {A = ℕ} 59404 0) (length-replicate {A = ℕ} 3072 0)
+    (length-replicate {A = ℕ} 1024 0) (put .apply .ensures) (else2 .if2 .left) (c .count .result) (c .count .ensures)
 
 pub readings-spec : {M : Type 1} → statement M
 readings-spec =
     tie.close
     (tie.spec
+    slice-aggregate-compose
+    slice-aggregate-compose-2
+    slice-aggregate-compose-3
     compose-requires
-    same-length
-    same-length-2
-    same-length-3
     returns
     cast-size
-    slice-reshare-prefix-apply
+    array-share-prefix-table
     slice-aggregate-apply
+    slice-aggregate-apply-2
+    slice-aggregate-apply-3
+    slice-aggregate-apply-4
     apply-requires
-    same-length-4
-    same-length-5
-    same-length-6
-    same-length-7
-    same-length-8
-    same-length-9
     returns-2
     cast-len
-    slice-reshare-prefix-count
+    array-share-prefix-lattice
     slice-aggregate-count
     count-requires
-    same-length-10
-    same-length-11
-    same-length-12
-    same-length-13
-    same-length-14
-    same-length-15
     returns-3)

@@ -10,7 +10,7 @@ ghost use Rattle.paths.specs.Entry.{Count-says, count-refusal, Nth-says, nth-re
 ghost use Rattle.shortest.specs.Entry.{Shortest-says, shortest-refusal};
 ghost use Rattle.claim.specs.Entry.{Readings-says};
 ghost use Rattle.listing.specs.Entry.{Listing-says, text-room};
-ghost use Rattle.reader.specs.Answer.{header, written, counted, told};
+ghost use Rattle.forthwn.specs.Answer.{header, written, counted, told};
 
 // Refusals 1 to 8 of a transducer's bytes, or 0 where they are accepted.
 #[no_mangle]
@@ -177,36 +177,18 @@ pub extern "C" fn forthwn_shortest(
     answer.refusal
 }
 
-// The whole chain in one call: composes two transducers, applies a string and puts the number of accepting paths into `count`. The
-// buffers hold afterwards what the calls left in them.
+// The whole chain in one call: composes two transducers, applies a string and puts the number of accepting paths into `count`. Nothing is
+// lent: it works in arrays of its own on the stack (`bench/stack` says how much each call takes).
 #[no_mangle]
 pub extern "C" fn forthwn_readings(
     left: &[u8],
     right: &[u8],
     string: &[u16],
-    table: &mut [u8],
-    origins: &mut [u16],
-    states: &mut [u32],
-    lattice: &mut [u8],
-    lattice_origins: &mut [u16],
-    pairs: &mut [u32],
     count: &mut u32,
 ) -> u32
-    ensures { λ r. ⌜ Readings-says (now (left .entry)) (now (right .entry)) (now (string .entry)) (counted r (now (count .exit)))
-        (now (table .entry)) (now (table .exit)) (now (origins .entry)) (now (origins .exit)) (now (states .entry)) (now (states .exit))
-        (now (lattice .entry)) (now (lattice .exit)) (now («lattice_origins» .entry)) (now («lattice_origins» .exit)) (now (pairs .entry)) (now (pairs .exit)) ⌝ }
+    ensures { λ r. ⌜ Readings-says (now (left .entry)) (now (right .entry)) (now (string .entry)) (counted r (now (count .exit))) ⌝ }
 {
-    let answer = claim::readings(
-        left,
-        right,
-        string,
-        table,
-        origins,
-        states,
-        lattice,
-        lattice_origins,
-        pairs,
-    );
+    let answer = claim::readings(left, right, string);
     *count = answer.count;
     answer.refusal
 }
