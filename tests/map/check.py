@@ -11,7 +11,7 @@ from pathlib import Path
 
 ROOT = Path(__file__).resolve().parents[2]
 CRATES = sorted(p.name for p in (ROOT / "crates").iterdir() if p.is_dir())
-# `list` and `reader` are words of the text too, so a bare word is a crate only right before a name.
+# `list` and `forthwn` are words of the text too, so a bare word is a crate only right before a name.
 WORD = re.compile(r"`([^`]+)`|([A-Za-z_]+)")
 
 
@@ -44,7 +44,7 @@ def fault(crate, name):
     if re.fullmatch(r"[a-z_]+_rows?", name):
         return None if re.search(rf"(?m)^def {name}\b", CASES) else "no such cases"
     if name.startswith("forthwn_") and name != "forthwn_..":
-        return None if f"fn {name}(" in SOURCES["reader"] else "no such export"
+        return None if f"fn {name}(" in SOURCES["forthwn"] else "no such export"
     if "::" in name:
         owner, function = name.split("::", 1)
         if owner in CRATES:

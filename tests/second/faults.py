@@ -129,7 +129,7 @@ def main():
     faults = FAULTS + (MORE if options.all or options.only else [])
     if options.only:
         faults = [f for f in faults if options.only in f[0]]
-    made = subprocess.run(["rt", "staticlib", "reader"], cwd=ROOT, capture_output=True, text=True)
+    made = subprocess.run(["rt", "staticlib", "forthwn"], cwd=ROOT, capture_output=True, text=True)
     if made.returncode != 0:
         print(made.stdout + made.stderr)
         return 1
@@ -186,7 +186,7 @@ def build_driver(work, clean):
     put(work, "planted.rs", renamed(text_of("library.rs")))
     build_faulty(work, clean)
     rustc(work, "-O", "--cfg", "have_all", "--cfg", "planted", "main.rs", "-o", "driver",
-          "-L", f"native={ROOT}/target/staticlib", "-l", "static=reader", "-L", f"native={work}", "-l", "dylib=planted")
+          "-L", f"native={ROOT}/target/staticlib", "-l", "static=forthwn", "-L", f"native={work}", "-l", "dylib=planted")
 
 
 def build_faulty(work, source):

@@ -59,10 +59,7 @@ extern "C" {
     fn forthwn_shortest(table: *const u8, table_len: usize, arcs: *mut u16, arcs_len: usize,
         labels: *mut u16, labels_len: usize, told: *mut [u64; 3]) -> u32;
     fn forthwn_readings(left: *const u8, left_len: usize, right: *const u8, right_len: usize,
-        string: *const u16, string_len: usize, table: *mut u8, table_len: usize,
-        origins: *mut u16, origins_len: usize, states: *mut u32, states_len: usize,
-        lattice: *mut u8, lattice_len: usize, lattice_origins: *mut u16, lattice_origins_len: usize,
-        pairs: *mut u32, pairs_len: usize, count: *mut u32) -> u32;
+        string: *const u16, string_len: usize, count: *mut u32) -> u32;
     fn forthwn_list(left: *const u8, left_len: usize, right: *const u8, right_len: usize,
         code: *const u8, code_len: usize, out: *mut u8, out_cap: usize, out_len: *mut u32) -> u32;
 }
@@ -175,16 +172,11 @@ pub use crate::model::shortest;
 
 #[cfg(any(have_all, have_readings))]
 #[rustfmt::skip]
-pub fn readings(left: &[u8], right: &[u8], string: &[u16], table: &mut [u8], origins: &mut [u16],
-    states: &mut [u32], lattice: &mut [u8], lattice_origins: &mut [u16],
-    pairs: &mut [u32]) -> (u32, u32) {
+pub fn readings(left: &[u8], right: &[u8], string: &[u16]) -> (u32, u32) {
     let mut number = DIRTY;
     let refused = unsafe {
         forthwn_readings(left.as_ptr(), left.len(), right.as_ptr(), right.len(),
-            string.as_ptr(), string.len(), table.as_mut_ptr(), table.len(),
-            origins.as_mut_ptr(), origins.len(), states.as_mut_ptr(), states.len(),
-            lattice.as_mut_ptr(), lattice.len(), lattice_origins.as_mut_ptr(), lattice_origins.len(),
-            pairs.as_mut_ptr(), pairs.len(), &mut number)
+            string.as_ptr(), string.len(), &mut number)
     };
     (refused, number)
 }

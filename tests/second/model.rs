@@ -757,26 +757,17 @@ pub fn shortest(bytes: &[u8], arcs: &mut [u16], labels: &mut [u16]) -> (u32, Tol
 
 // ------------------------------------------------------- the whole chain
 
-/// Compose, apply, count. The first refusal ends it; each buffer stays as
-/// the calls made so far left it.
-#[allow(clippy::too_many_arguments)]
-pub fn readings(
-    left: &[u8],
-    right: &[u8],
-    code: &[u16],
-    table: &mut [u8],
-    origins: &mut [u16],
-    states: &mut [u32],
-    lattice: &mut [u8],
-    lattice_origins: &mut [u16],
-    pairs: &mut [u32],
-) -> (u32, u32) {
-    let (refused, length) = compose(left, right, table, origins, states);
+/// Compose, apply, count. The first refusal ends it.
+pub fn readings(left: &[u8], right: &[u8], code: &[u16]) -> (u32, u32) {
+    let mut table = vec![0; TABLE_BYTES];
+    let mut origins = vec![0; JOIN_ORIGINS];
+    let mut work = vec![0; WORK_STATES];
+    let (refused, length) = compose(left, right, &mut table, &mut origins, &mut work);
     if refused != 0 {
         return (refused, 0);
     }
-    let joined = &table[..length as usize];
-    let (refused, length) = apply(code, joined, lattice, lattice_origins, pairs);
+    let mut lattice = vec![0; TABLE_BYTES];
+    let (refused, length) = apply(code, &table[..length as usize], &mut lattice, &mut origins, &mut work);
     if refused != 0 {
         return (refused, 0);
     }

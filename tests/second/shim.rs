@@ -1,7 +1,7 @@
 // The model behind the C interface of the library, to try the driver without
-// the library: as libreader.a
+// the library: as libforthwn.a
 //
-//   rustc -O --edition 2021 --crate-type staticlib --crate-name reader \
+//   rustc -O --edition 2021 --crate-type staticlib --crate-name forthwn \
 //         tests/second/shim.rs --out-dir target/shim
 //
 // or, with `--crate-type cdylib`, as a shared library that faults.py swaps.
@@ -97,11 +97,8 @@ pub unsafe extern "C" fn forthwn_shortest(bytes: *const u8, n: usize, a: *mut u1
 #[no_mangle]
 #[rustfmt::skip]
 pub unsafe extern "C" fn forthwn_readings(left: *const u8, left_n: usize, right: *const u8, right_n: usize,
-    code: *const u16, code_n: usize, t: *mut u8, t_n: usize, o: *mut u16, o_n: usize,
-    s: *mut u32, s_n: usize, l: *mut u8, l_n: usize, lo: *mut u16, lo_n: usize,
-    p: *mut u32, p_n: usize, count: *mut u32) -> u32 {
-    let (r, x) = model::readings(view(left, left_n), view(right, right_n), view(code, code_n),
-        lent(t, t_n), lent(o, o_n), lent(s, s_n), lent(l, l_n), lent(lo, lo_n), lent(p, p_n));
+    code: *const u16, code_n: usize, count: *mut u32) -> u32 {
+    let (r, x) = model::readings(view(left, left_n), view(right, right_n), view(code, code_n));
     *count = x;
     r
 }
