@@ -1,4 +1,5 @@
 pub mod ByTarget
+pub mod Chains
 pub mod Counted
 pub mod Ends
 pub mod FinalMarks

@@ -6,7 +6,7 @@ use lib.ListN.{length}
 use Rattle.wire.specs.Bytes.{Bytes}
 use Rattle.transducer.specs.Format.{decode}
 use Rattle.reach.proofs.Sized.{Sized, sized}
-use Rattle.reach.proofs.Stacked.{Chaining, chaining-first, chaining-next, chaining-stop}
+use Rattle.reach.proofs.Chains.{Chaining, chaining-first, chaining-next, chaining-stop}
 use Rattle.reach.proofs.stack.chain.Statement.{statement}
 use Rattle.reach.proofs.stack.chain.Tie as tie
 
