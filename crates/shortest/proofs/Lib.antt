@@ -3,8 +3,10 @@ pub mod Cheaper
 pub mod Cheapest
 pub mod Tight
 pub mod Settled
+pub mod Relaxed
 pub mod InPlace
-pub mod InTurn
+pub mod Waiting
+pub mod Settling
 pub mod EmptyPaths
 pub mod Along
 pub mod Answers

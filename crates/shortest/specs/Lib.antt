@@ -1,3 +1,4 @@
 pub mod Shortest
 pub mod Nearest
+pub mod Queue
 pub mod Entry

@@ -2,6 +2,7 @@
 -- Assumes nothing: these are definitions.
 use mathlib.Core.Path.{_≡_}
 use mathlib.Core.Bool.{Bool, true, false, _&&_, cond}
+use mathlib.Core.Logic.{_⊎_}
 use mathlib.Core.List.{List, [], _∷_}
 use Prim.Native.Nat.{ℕ, zero, suc, _+_, _-_, _*_, _≤_, _<_, min}
 use lib.Dec.{eqb, leb}
@@ -89,14 +90,26 @@ pub record Long (cs ls : List ℕ) : Type 0 where
   pub costs : length cs ≡ 1024
   pub lens : length ls ≡ 1024
 
--- What a sweep over the arcs leaves: where no other sweep may change more all is settled, else the sum has fallen.
-pub record Swept-says (t : Transducer) (cs ls cs' ls' : List ℕ) (again : Bool) : Type 0 where
+-- An arc that does not make its source better.
+abbrev pub No-better : Transducer → (cs ls : List ℕ) → (i : ℕ) → Type 0
+No-better t cs ls i =
+    No-worse (by-state cs (arc t i .source)) (by-state ls (arc t i .source)) (cost-by t (by-state cs) i) (arcs-by t (by-state ls) i)
+
+-- What relaxing arc i leaves: neither it nor an arc that did not before makes its source better now, unless it leads to what got better.
+pub record Relaxed (t : Transducer) (i : ℕ) (cs ls cs' ls' : List ℕ) (better : Bool) : Type 0 where
   pub long : Long cs' ls'
   pub nearing : Nearing t (by-state cs') (by-state ls')
-  pub settled : again ≡ false → Settled t (by-state cs') (by-state ls')
-  pub fallen : again ≡ true → total (t .states) (height (by-state cs') (by-state ls')) < total (t .states) (height (by-state cs) (by-state ls))
+  pub nearest : (s : ℕ) → is-nearest (by-state cs s) (by-state ls s) ≡ true → is-nearest (by-state cs' s) (by-state ls' s) ≡ true
+  pub settles : (x : ℕ) → (x ≡ i) ⊎ No-better t cs ls x → (better ≡ true → arc t x .target ≡ arc t i .source → ⊥) → No-better t cs' ls' x
+  pub falls : total (t .states) (height (by-state cs') (by-state ls')) + cond better 1 0 ≤ total (t .states) (height (by-state cs) (by-state ls))
 
--- What all sweeps leave: the least cost to come from each state, with the fewest arcs at that cost.
+-- What a sweep over the arcs leaves: where no more may change all is settled.
+pub record Swept-says (t : Transducer) (cs ls : List ℕ) (again : Bool) : Type 0 where
+  pub long : Long cs ls
+  pub nearing : Nearing t (by-state cs) (by-state ls)
+  pub settled : again ≡ false → Settled t (by-state cs) (by-state ls)
+
+-- What is left in the end: the least cost to come from each state, with the fewest arcs at that cost.
 pub record Settled-says (t : Transducer) (cs ls : List ℕ) : Type 0 where
   pub settled : Settled t (by-state cs) (by-state ls)
   pub least : (s : ℕ) → s < t .states → getD cs s 0 ≡ least-to-come t s

@@ -1,5 +1,6 @@
 // The shortest path: the accepting path of least cost, then fewest arcs, then first in path order.
 mod entry;
 mod near;
+mod queue;
 
 pub use entry::shortest_path;

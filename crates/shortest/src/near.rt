@@ -1,7 +1,7 @@
 // By state, the least cost to come and the fewest arcs at that cost, updated in place until nothing changes, and the path along them.
 ghost use mathlib.Core.Path.{_≡_};
 ghost use Prim.Native.Nat.{ℕ, _+_, _-_, _≤_, _<_, min};
-ghost use mathlib.Core.Bool.{true, cond};
+ghost use mathlib.Core.Bool.{true};
 ghost use lib.ListN.{length, getD};
 ghost use Rattle.wire.specs.Bytes.{filled};
 ghost use Rattle.transducer.specs.Format.{decode};
@@ -9,7 +9,11 @@ ghost use Rattle.transducer.specs.Leaf.{Opened, Indexed};
 ghost use Rattle.transducer.specs.Path.{runs};
 ghost use Rattle.transducer.specs.Weight.{plus};
 ghost use Rattle.shortest.specs.Shortest.{no-path, nearer};
-ghost use Rattle.shortest.specs.Nearest.{by-state, most-arcs, cost-by, arcs-by, is-nearest, code-cost, Nearing, Long, Swept-says, Settled-says, first-giving, first-tight, follow};
+ghost use Rattle.reach.specs.Index.{leads-to, By-target};
+ghost use Rattle.shortest.specs.Nearest.{by-state, most-arcs, cost-by, arcs-by, is-nearest, code-cost, Nearing, Settled, Long};
+ghost use Rattle.shortest.specs.Nearest.{Relaxed, Swept-says, Settled-says, first-giving, first-tight, follow};
+ghost use Rattle.shortest.specs.Queue.{Settling, none, to-do};
+use crate::queue;
 
 pub const NO_PATH: u32 = 4294967295;
 
@@ -105,20 +109,34 @@ pub fn own_costs(states: usize, codes: &[u32; 1024], costs: &mut [u32; 1024])
     }
 }
 
-// The number of the arc that a sweep takes at its turn `k`: in order, or the last arc first.
-fn arc_at_turn(arcs: usize, k: usize, down: bool) -> usize
-    requires { ⌜ k < arcs ⌝ }
-    ensures { λ r. ⌜ r ≡ cond down (arcs - (k + 1)) k ⌝ }
+// Brings the source of arc `i` up to date by its target; whether that made it better.
+fn relax(
+    table: &[u8],
+    first: usize,
+    i: usize,
+    costs: &mut [u32; 1024],
+    lens: &mut [u16; 1024],
+) -> bool
+    requires { ⌜ Opened (now table) first × (i < length (decode (now table) .arcs))
+        × Nearing (decode (now table)) (by-state (now costs)) (by-state (now lens)) × Long (now costs) (now lens) ⌝ }
+    ensures { λ r. ⌜ Relaxed (decode (now (table .entry))) i (now (costs .entry)) (now (lens .entry)) (now (costs .exit)) (now (lens .exit)) r ⌝ }
 {
-    if down {
-        return arcs - (k + 1);
+    let a = transducer::arc_of(table, first, i);
+    let s = a.source as usize;
+    let to = a.target as usize;
+    let cost = sum(a.weight, costs[to]);
+    let len = one_more(lens[to]);
+    if !comes_first(cost, len, costs[s], lens[s]) {
+        return false;
     }
-    k
+    costs[s] = cost;
+    lens[s] = len;
+    true
 }
 
-// Brings each arc's source up to date by its target, last arc first; once no arc makes a state better the rest of its arcs are passed over.
-// Another sweep may change more where a state changed after an arc was read that leads to it or to one before it.
-fn first_sweep(
+// Relaxes each arc, last arc first; once no arc makes a state better the rest of its arcs are passed over.
+// More may change where a state changed after an arc was read that leads to it or to one before it.
+fn sweep(
     table: &[u8],
     first: usize,
     arcs: usize,
@@ -128,7 +146,7 @@ fn first_sweep(
 ) -> bool
     requires { ⌜ Opened (now table) first × (arcs ≡ length (decode (now table) .arcs)) × Indexed (decode (now table)) (now index)
         × Nearing (decode (now table)) (by-state (now costs)) (by-state (now lens)) × Long (now costs) (now lens) ⌝ }
-    ensures { λ r. ⌜ Swept-says (decode (now (table .entry))) (now (costs .entry)) (now (lens .entry)) (now (costs .exit)) (now (lens .exit)) r ⌝ }
+    ensures { λ r. ⌜ Swept-says (decode (now (table .entry))) (now (costs .exit)) (now (lens .exit)) r ⌝ }
 {
     let mut again = false;
     let mut low = LAST;
@@ -141,57 +159,92 @@ fn first_sweep(
             i = index[s] as usize;
             continue;
         }
-        let to = a.target as usize;
-        let cost = sum(a.weight, costs[to]);
-        let len = one_more(lens[to]);
         low = lower(low, a.target);
-        if !comes_first(cost, len, costs[s], lens[s]) {
+        if !relax(table, first, i, costs, lens) {
             continue;
         }
-        costs[s] = cost;
-        lens[s] = len;
         again = again | (low <= a.source);
     }
     again
 }
 
-// The same with no arc passed over, in order or the last arc first; whether something changed. It tests less at each arc, so it is the one
-// that is repeated.
-fn sweep(
+// Relaxes the arcs that lead to state `s`; a source that gets better joins the queue, whose new length it returns.
+fn relax_into(
     table: &[u8],
     first: usize,
-    arcs: usize,
-    down: bool,
+    s: usize,
+    heads: &[u16; 1025],
+    into: &[u16; 3072],
     costs: &mut [u32; 1024],
     lens: &mut [u16; 1024],
-) -> bool
-    requires { ⌜ Opened (now table) first × (arcs ≡ length (decode (now table) .arcs))
-        × Nearing (decode (now table)) (by-state (now costs)) (by-state (now lens)) × Long (now costs) (now lens) ⌝ }
-    ensures { λ r. ⌜ Swept-says (decode (now (table .entry))) (now (costs .entry)) (now (lens .entry)) (now (costs .exit)) (now (lens .exit)) r ⌝ }
+    ring: &mut [u16; 1024],
+    waits: &mut [bool; 1024],
+    head: usize,
+    count: usize,
+) -> usize
+    requires { ⌜ Opened (now table) first × By-target (decode (now table)) (now heads) (now into) × (s < decode (now table) .states)
+        × Settling (decode (now table)) (leads-to (decode (now table)) s) (now costs) (now lens) (now ring) (now waits) head count ⌝ }
+    ensures { λ r. ⌜ Settling (decode (now (table .entry))) none (now (costs .exit)) (now (lens .exit)) (now (ring .exit)) (now (waits .exit)) head r
+        × (to-do (decode (now (table .entry))) (now (costs .exit)) (now (lens .exit)) r
+        ≤ to-do (decode (now (table .entry))) (now (costs .entry)) (now (lens .entry)) count) ⌝ }
 {
-    let mut changed = false;
-    let mut k = 0;
-    while k < arcs {
-        let i = arc_at_turn(arcs, k, down);
-        k += 1;
-        let a = transducer::arc_of(table, first, i);
-        let s = a.source as usize;
-        let to = a.target as usize;
-        let cost = sum(a.weight, costs[to]);
-        let len = one_more(lens[to]);
-        if !comes_first(cost, len, costs[s], lens[s]) {
+    let to = heads[s + 1] as usize;
+    let mut at = heads[s] as usize;
+    let mut waiting = count;
+    while at < to {
+        let i = into[at] as usize;
+        at += 1;
+        if !relax(table, first, i, costs, lens) {
             continue;
         }
-        costs[s] = cost;
-        lens[s] = len;
-        changed = true;
+        let from = reach::source(table, first, i);
+        if waits[from] {
+            continue;
+        }
+        queue::push(ring, waits, head, waiting, from);
+        waiting += 1;
     }
-    changed
+    waiting
+}
+
+// Settles what a sweep may leave, by a queue that begins with all states: the arcs that lead to a state are relaxed when it comes off,
+// and it comes on again when it gets better.
+fn drain(table: &[u8], first: usize, arcs: usize, costs: &mut [u32; 1024], lens: &mut [u16; 1024])
+    requires { ⌜ Opened (now table) first × (arcs ≡ length (decode (now table) .arcs))
+        × Nearing (decode (now table)) (by-state (now costs)) (by-state (now lens)) × Long (now costs) (now lens) ⌝ }
+    ensures { λ _. ⌜ Settled (decode (now (table .entry))) (by-state (now (costs .exit))) (by-state (now (lens .exit))) ⌝ }
+{
+    let known = transducer::head_of(table);
+    let states = known.states as usize;
+    let mut heads = [0u16; 1025];
+    let mut into = [0u16; 3072];
+    reach::by_target(table, first, states, arcs, &mut heads, &mut into);
+    let mut ring = [0u16; 1024];
+    let mut waits = [false; 1024];
+    queue::fill(states, &mut ring, &mut waits);
+    let mut head = 0;
+    let mut count = states;
+    while count > 0 {
+        let s = queue::pop(&ring, &mut waits, head);
+        head = queue::behind(head, 1);
+        count = relax_into(
+            table,
+            first,
+            s,
+            &heads,
+            &into,
+            costs,
+            lens,
+            &mut ring,
+            &mut waits,
+            head,
+            count - 1,
+        );
+    }
 }
 
 // The least cost to come from each state, with the fewest arcs at that cost; `costs` begins with the empty paths' costs.
-// Arcs most often lead to higher numbers, so the first three sweeps take the last arc first; from then on each turns round, so that a line
-// numbered backwards takes five.
+// Arcs most often lead to higher numbers, so that one sweep, the last arc first, most often settles all.
 pub fn settle(
     table: &[u8],
     first: usize,
@@ -204,15 +257,10 @@ pub fn settle(
         × Nearing (decode (now table)) (by-state (now costs)) (by-state (now lens)) × Long (now costs) (now lens) ⌝ }
     ensures { λ _. ⌜ Settled-says (decode (now (table .entry))) (now (costs .exit)) (now (lens .exit)) ⌝ }
 {
-    if !first_sweep(table, first, arcs, index, costs, lens) {
+    if !sweep(table, first, arcs, index, costs, lens) {
         return;
     }
-    let mut down = true;
-    let mut turns = false;
-    while sweep(table, first, arcs, down, costs, lens) {
-        down = down ^ turns;
-        turns = true;
-    }
+    drain(table, first, arcs, costs, lens);
 }
 
 // The first of the arcs from `from` to below `to` that gives the cost and number of arcs of state `s`, or `to` where none does.

@@ -1,21 +1,25 @@
--- The invariant: the arcs of the first `k` turns are swept (`InTurn`), in either order. A turn leaves its arc as no better or as better.
+-- The invariant: the arcs from `i` on are swept (`Sweeping`). A turn passes over the arcs of its source, or leaves its arc as no better or as better.
 use borrow.Author.Needs.{needs}
-use borrow.Author.Tests.{not-true, not-false}
-use Prim.Native.Nat.{_-_, _<_}
+use borrow.Author.Tests.{not-true}
+use mathlib.Core.Path.{_≡_, refl}
+use Prim.Native.Nat.{ℕ, _+_, _-_, _<_}
 use native.Mathlib.Omega.{arith}
-use lib.ListN.{length}
+use lib.ListN.{length, getD}
 use Rattle.wire.specs.Bytes.{Bytes}
-use Rattle.transducer.specs.Format.{decode}
-use Rattle.paths.proofs.Ready.{Sized, sized}
-use Rattle.shortest.proofs.InTurn.{InTurn, in-turn-first, in-turn-stop, in-turn-arc, in-turn-states, in-turn-kept, in-turn-better}
+use Rattle.transducer.specs.Format.{Transducer, decode}
+use Rattle.transducer.specs.Path.{arc}
+use Rattle.transducer.specs.Leaf.{arcs-below}
+use Rattle.paths.proofs.Ready.{Sized, Range, sized, range}
+use Rattle.shortest.proofs.InPlace.{Sweeping, sweeping-first, sweeping-stop, sweeping-arc, sweeping-state, not-again}
+use Rattle.shortest.proofs.InPlace.{passed-less, sweeping-passed, sweeping-kept, sweeping-better}
 use Rattle.shortest.proofs.near.sweep.Statement.{statement}
 use Rattle.shortest.proofs.near.sweep.Tie as tie
 
 abbrev Inv-loop : tie.InvT-loop
-Inv-loop table first arcs down costs₀ lens₀ changed₀ k₀ costs lens changed k = InTurn (decode table) costs₀ lens₀ arcs down k costs lens changed
+Inv-loop table first arcs index costs₀ lens₀ again₀ low₀ i₀ costs lens again low i = Sweeping (decode table) low i costs lens again
 
 abbrev μ-loop : tie.MeasureT-loop
-μ-loop table first arcs down costs₀ lens₀ changed₀ k₀ costs lens changed k = arcs - k
+μ-loop table first arcs index costs₀ lens₀ again₀ low₀ i₀ costs lens again low i = i
 
 -- A turn of the loop.
 abbrev Turn : Type 0
@@ -24,149 +28,160 @@ Turn = tie.In-loop Inv-loop μ-loop
 abbrev start : Turn → tie.Start Inv-loop μ-loop
 start c = c .before .before .before
 
-size : (c : Turn) → Sized (decode (start c .args .table .now))
+abbrev whole : Turn → Transducer
+whole c = decode (start c .args .table .now)
+
+size : (c : Turn) → Sized (whole c)
 size c =
     let bs = start c .args .table .now in
     let bytes : Bytes bs = λ i. omega (arith, c .before .before .shared-slice-known .given i) in
     sized bs bytes (start c .pre .0 .accepted)
 
--- Its arc.
-abbrev Taken : Type 0
-Taken = tie.After-arc-at-turn Inv-loop μ-loop
-
-is-arc : (c : Taken) → c .arc-at-turn .result < length (decode (start (c .before) .args .table .now) .arcs)
+is-arc : (c : Turn) → c .before .loop .i - 1 < length (decode (start c .args .table .now) .arcs)
 is-arc c =
-    let t = c .before in
-    let now' = t .before .loop in
-    let a = start t .args in
-    in-turn-arc (decode (a .table .now)) (size t) (a .costs .now) (a .lens .now) (a .arcs) (a .down) (now' .k) (now' .costs) (now' .lens) (now' .changed) (now' .inv) (t .loop-test .taken) (c .arc-at-turn .result)
-    (c .arc-at-turn .ensures)
+    let now' = c .before .loop in
+    sweeping-arc (whole c) (size c) (now' .low) (now' .i) (now' .costs) (now' .lens) (now' .again) (now' .inv) (c .loop-test .taken)
 
--- The arc that was read, and the sums made of it.
+-- The arc that was read: its two states, and the first arc of its source.
 abbrev Read : Type 0
 Read = tie.After-arc-of Inv-loop μ-loop
 
+states : (c : Read) → (c .arc-of .result .source < whole (c .before) .states) × (c .arc-of .result .target < whole (c .before) .states)
+states c =
+    let t = c .before in
+    let now' = t .before .loop in
+    rw (c .arc-of .ensures)
+    (sweeping-state (whole t) (size t) (now' .low) (now' .i) (now' .costs) (now' .lens) (now' .again) (now' .inv) (t .loop-test .taken))
+
 below : (c : Read) → (c .arc-of .result .source < 1024) × (c .arc-of .result .target < 1024)
 below c =
-    let g = c .before in
-    let t = g .before in
-    let now' = t .before .loop in
-    let a = start t .args in
-    let most = size t .states in
-    let both = in-turn-states (decode (a .table .now)) (size t) (a .costs .now) (a .lens .now) (a .arcs) (a .down) (now' .k) (now' .costs) (now' .lens) (now' .changed) (now' .inv) (t .loop-test .taken) (g .arc-at-turn .result) (g .arc-at-turn .ensures) in
-    rw (c .arc-of .ensures) (omega (arith, both .0, most), omega (arith, both .1, most))
+    let most = size (c .before) .states in
+    (omega (arith, states c .0, most), omega (arith, states c .1, most))
 
-abbrev Summed : Type 0
-Summed = tie.After-one-more Inv-loop μ-loop
+-- What the index has for its source, and for the next state.
+abbrev from : Read → ℕ
+from c = getD (start (c .before) .args .index .now) (c .arc-of .result .source) 0
 
-abbrev read : Summed → Read
-read c = c .before .before .before .before .before .before
+abbrev to : Read → ℕ
+to c = getD (start (c .before) .args .index .now) (c .arc-of .result .source + 1) 0
 
-abbrev summed : tie.After-comes-first Inv-loop μ-loop → Summed
-summed c = c .before .before .before
+arcs : (c : Read) → Range (whole (c .before)) (c .arc-of .result .source) (from c) (to c)
+arcs c =
+    let from = start (c .before) in
+    range (whole (c .before)) (from .args .index .now) (c .arc-of .result .source) _ _ (from .pre .2) (states c .0) refl refl
+
+abbrev tested : tie.After-is-nearest Inv-loop μ-loop → Read
+tested c = c .before .before .before .before
+
+abbrev lowered : tie.After-relax Inv-loop μ-loop → tie.After-lower Inv-loop μ-loop
+lowered c = c .before .before .before
+
+abbrev read : tie.After-lower Inv-loop μ-loop → Read
+read c = tested (c .before .before)
 
 loop-holds : tie.Need-loop-holds Inv-loop μ-loop
 loop-holds c =
     let a = c .before .args in
-    in-turn-first (decode (a .table .now)) (a .costs .now) (a .lens .now) (a .arcs) (a .down) (c .before .pre .1) (c .before .pre .3) (c .before .pre .2)
+    let pre = c .before .pre in
+    sweeping-first (decode (a .table .now)) (a .costs .now) (a .lens .now) _ (a .arcs) (pre .1) (pre .4) (pre .3)
 
-arc-at-turn-requires : tie.Need-arc-at-turn-requires Inv-loop μ-loop
-arc-at-turn-requires c κs = omega (arith, c .loop-test .taken)
-
-add-k : tie.Need-add-k Inv-loop μ-loop
-add-k c = search needs
+sub-i : tie.Need-sub-i Inv-loop μ-loop
+sub-i c = omega (arith, c .loop-test .taken)
 
 arc-of-requires : tie.Need-arc-of-requires Inv-loop μ-loop
-arc-of-requires c κs = (start (c .before) .pre .0, is-arc c)
+arc-of-requires c κs = (start c .pre .0, is-arc c)
 
 cast-s : tie.Need-cast-s Inv-loop μ-loop
 cast-s c = search needs
 
-cast-to : tie.Need-cast-to Inv-loop μ-loop
-cast-to c = search needs
+mul-is-nearest : tie.Need-mul-is-nearest Inv-loop μ-loop
+mul-is-nearest c = omega (arith, below (c .before) .0)
 
-mul-sum : tie.Need-mul-sum Inv-loop μ-loop
-mul-sum c = omega (arith, below (c .before .before) .1)
+element-copy-out-is-nearest : tie.Need-element-copy-out-is-nearest Inv-loop μ-loop
+element-copy-out-is-nearest c = below (c .before) .0
 
-element-copy-out-sum : tie.Need-element-copy-out-sum Inv-loop μ-loop
-element-copy-out-sum c = below (c .before .before) .1
+mul-is-nearest-2 : tie.Need-mul-is-nearest-2 Inv-loop μ-loop
+mul-is-nearest-2 c = omega (arith, below (c .before .before) .0)
 
-sum-requires : tie.Need-sum-requires Inv-loop μ-loop
-sum-requires c κs = tt
+element-copy-out-is-nearest-2 : tie.Need-element-copy-out-is-nearest-2 Inv-loop μ-loop
+element-copy-out-is-nearest-2 c = below (c .before .before) .0
 
-mul-one-more : tie.Need-mul-one-more Inv-loop μ-loop
-mul-one-more c = omega (arith, below (c .before .before .before .before) .1)
+is-nearest-requires : tie.Need-is-nearest-requires Inv-loop μ-loop
+is-nearest-requires c κs = tt
 
-element-copy-out-one-more : tie.Need-element-copy-out-one-more Inv-loop μ-loop
-element-copy-out-one-more c = below (c .before .before .before .before) .1
+mul-i : tie.Need-mul-i Inv-loop μ-loop
+mul-i c = omega (arith, below (tested (c .before)) .0)
 
-one-more-requires : tie.Need-one-more-requires Inv-loop μ-loop
-one-more-requires c κs = tt
+element-copy-out-i : tie.Need-element-copy-out-i Inv-loop μ-loop
+element-copy-out-i c = omega (arith, below (tested (c .before)) .0)
 
-mul-comes-first : tie.Need-mul-comes-first Inv-loop μ-loop
-mul-comes-first c = omega (arith, below (read c) .0)
+cast-i : tie.Need-cast-i Inv-loop μ-loop
+cast-i c =
+    let got = tested (c .before .before) in
+    omega (arith, arcs got .order, arcs got .inside, size (got .before) .arcs)
 
-element-copy-out-comes-first : tie.Need-element-copy-out-comes-first Inv-loop μ-loop
-element-copy-out-comes-first c = below (read c) .0
-
-mul-comes-first-2 : tie.Need-mul-comes-first-2 Inv-loop μ-loop
-mul-comes-first-2 c = omega (arith, below (read (c .before)) .0)
-
-element-copy-out-comes-first-2 : tie.Need-element-copy-out-comes-first-2 Inv-loop μ-loop
-element-copy-out-comes-first-2 c = below (read (c .before)) .0
-
-comes-first-requires : tie.Need-comes-first-requires Inv-loop μ-loop
-comes-first-requires c κs = tt
+first-of : (c : Read) → from c ≡ arcs-below (arc (whole (c .before)) (c .before .before .loop .i - 1) .source) (whole (c .before) .arcs)
+first-of c = rw (← c .arc-of .ensures) (arcs c .from-is)
 
 loop-less : tie.Need-loop-less Inv-loop μ-loop
-loop-less c = omega (arith, read (summed (c .before)) .before .before .loop-test .taken)
+loop-less c =
+    let got = tested (c .before .before) in
+    let t = got .before in
+    let now' = t .before .loop in
+    passed-less (whole t) (size t) (now' .low) (now' .i) (now' .costs) (now' .lens) (now' .again) (now' .inv) (t .loop-test .taken)
+    (from got) (first-of got)
 
 loop-again : tie.Need-loop-again Inv-loop μ-loop
 loop-again c =
-    let at = summed (c .before) in
-    let got = read at in
-    let g = got .before in
-    let t = g .before in
+    let got = tested (c .before .before) in
+    let t = got .before in
     let now' = t .before .loop in
-    let a = start t .args in
-    in-turn-kept (decode (a .table .now)) (size t) (a .costs .now) (a .lens .now) (a .arcs) (a .down) (now' .k) (now' .costs) (now' .lens) (now' .changed) (now' .inv) (t .loop-test .taken) (g .arc-at-turn .result)
-    (g .arc-at-turn .ensures)
-    (got .arc-of .result) (got .arc-of .ensures) (at .before .before .sum .result) (at .one-more .result) (at .before .before .sum .ensures) (at .one-more .ensures)
-    (c .before .comes-first .ensures) (not-true (c .before .comes-first .result) (c .if1 .taken))
+    sweeping-passed (whole t) (size t) (now' .low) (now' .i) (now' .costs) (now' .lens) (now' .again) (now' .inv) (t .loop-test .taken)
+    (got .arc-of .result) (got .arc-of .ensures) (c .before .before .is-nearest .ensures) (c .before .if1 .taken) (from got) (arcs got .from-is)
 
-mul-costs : tie.Need-mul-costs Inv-loop μ-loop
-mul-costs c = omega (arith, below (read (summed (c .before))) .0)
+lower-requires : tie.Need-lower-requires Inv-loop μ-loop
+lower-requires c κs = tt
 
-element-write-costs : tie.Need-element-write-costs Inv-loop μ-loop
-element-write-costs c = below (read (summed (c .before))) .0
-
-mul-lens : tie.Need-mul-lens Inv-loop μ-loop
-mul-lens c = omega (arith, below (read (summed (c .before))) .0)
-
-element-write-lens : tie.Need-element-write-lens Inv-loop μ-loop
-element-write-lens c = below (read (summed (c .before))) .0
+relax-requires : tie.Need-relax-requires Inv-loop μ-loop
+relax-requires c κs =
+    let t = read (c .before .before) .before in
+    (start t .pre .0, is-arc t, t .before .loop .inv .nearing, t .before .loop .inv .long)
 
 loop-less-2 : tie.Need-loop-less-2 Inv-loop μ-loop
-loop-less-2 c = omega (arith, read (summed (c .before)) .before .before .loop-test .taken)
+loop-less-2 c = omega (arith, read (lowered (c .before)) .before .loop-test .taken)
 
 loop-again-2 : tie.Need-loop-again-2 Inv-loop μ-loop
 loop-again-2 c =
-    let at = summed (c .before) in
-    let got = read at in
-    let g = got .before in
-    let t = g .before in
+    let relaxed = c .before in
+    let now-low = lowered relaxed in
+    let got = read now-low in
+    let t = got .before in
     let now' = t .before .loop in
-    let a = start t .args in
-    in-turn-better (decode (a .table .now)) (size t) (a .costs .now) (a .lens .now) (a .arcs) (a .down) (now' .k) (now' .costs) (now' .lens) (now' .changed) (now' .inv) (t .loop-test .taken) (g .arc-at-turn .result)
-    (g .arc-at-turn .ensures)
-    (got .arc-of .result) (got .arc-of .ensures) (at .before .before .sum .result) (at .one-more .result) (at .before .before .sum .ensures) (at .one-more .ensures)
-    (c .before .comes-first .ensures) (not-false (c .before .comes-first .result) (c .if1 .left))
+    sweeping-kept (whole t) (size t) (now' .low) (now' .i) (now' .costs) (now' .lens) (now' .again) (now' .inv)
+    (t .loop-test .taken) (got .arc-of .result) (got .arc-of .ensures) (now-low .lower .result) _ _ (relaxed .relax .result)
+    (omega (arith, now-low .lower .ensures)) (omega (arith, now-low .lower .ensures)) (relaxed .relax .ensures)
+    (not-true (relaxed .relax .result) (c .if2 .taken))
+
+loop-less-3 : tie.Need-loop-less-3 Inv-loop μ-loop
+loop-less-3 c = omega (arith, read (lowered (c .before .before)) .before .loop-test .taken)
+
+loop-again-3 : tie.Need-loop-again-3 Inv-loop μ-loop
+loop-again-3 c =
+    let relaxed = c .before .before in
+    let now-low = lowered relaxed in
+    let got = read now-low in
+    let t = got .before in
+    let now' = t .before .loop in
+    sweeping-better (whole t) (size t) (now' .low) (now' .i) (now' .costs) (now' .lens) (now' .again) (now' .inv)
+    (t .loop-test .taken) (got .arc-of .result) (got .arc-of .ensures) (now-low .lower .result) _ _ (relaxed .relax .result)
+    (omega (arith, now-low .lower .ensures)) (omega (arith, now-low .lower .ensures)) (relaxed .relax .ensures) _
+    (not-again (now' .again) (got .arc-of .result .source) (now-low .lower .result))
 
 returns : tie.Need-returns Inv-loop μ-loop
 returns c =
-    let a = c .before .before .before .args in
     let now' = c .before .loop in
-    in-turn-stop (decode (a .table .now)) (a .costs .now) (a .lens .now) (a .arcs) (a .down) (now' .k) (now' .costs) (now' .lens) (now' .changed) (now' .inv) (c .loop-test .left)
+    sweeping-stop (decode (c .before .before .before .args .table .now)) (now' .low) (now' .i) (now' .costs) (now' .lens) (now' .again) (now' .inv)
+    (c .loop-test .left)
 
 pub sweep-spec : {M : Type 1} → statement M
 sweep-spec =
@@ -175,28 +190,23 @@ sweep-spec =
     Inv-loop
     μ-loop
     loop-holds
-    arc-at-turn-requires
-    add-k
+    sub-i
     arc-of-requires
     cast-s
-    cast-to
-    mul-sum
-    element-copy-out-sum
-    sum-requires
-    mul-one-more
-    element-copy-out-one-more
-    one-more-requires
-    mul-comes-first
-    element-copy-out-comes-first
-    mul-comes-first-2
-    element-copy-out-comes-first-2
-    comes-first-requires
+    mul-is-nearest
+    element-copy-out-is-nearest
+    mul-is-nearest-2
+    element-copy-out-is-nearest-2
+    is-nearest-requires
+    mul-i
+    element-copy-out-i
+    cast-i
     loop-less
     loop-again
-    mul-costs
-    element-write-costs
-    mul-lens
-    element-write-lens
+    lower-requires
+    relax-requires
     loop-less-2
     loop-again-2
+    loop-less-3
+    loop-again-3
     returns)

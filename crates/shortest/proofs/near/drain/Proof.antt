@@ -1,0 +1,148 @@
+-- The invariant: an arc that makes its source better leads to a state that waits (`Settling`). With each state that comes off, what is to do falls.
+use borrow.Author.Needs.{needs}
+use mathlib.Core.Path.{_≡_, refl}
+use Prim.Native.Nat.{ℕ, _<_}
+use native.Mathlib.Omega.{arith}
+use lib.ListN.{length-replicate}
+use Rattle.wire.specs.Bytes.{Bytes}
+use Rattle.transducer.specs.Format.{Transducer, decode}
+use Rattle.transducer.proofs.Offsets.{length-accepted}
+use Rattle.paths.proofs.Ready.{Sized, Headed, sized, headed}
+use Rattle.shortest.specs.Queue.{Settling, none, to-do}
+use Rattle.shortest.proofs.Waiting.{pop-state}
+use Rattle.shortest.proofs.Settling.{settling-first, settling-popped, popped-less, settling-stop}
+use Rattle.shortest.proofs.near.drain.Statement.{statement}
+use Rattle.shortest.proofs.near.drain.Tie as tie
+
+abbrev Inv-loop : tie.InvT-loop
+Inv-loop table first arcs costs₀ lens₀ states heads into ring₀ waits₀ head₀ count₀ costs lens ring waits head count =
+    Settling (decode table) none costs lens ring waits head count
+
+abbrev μ-loop : tie.MeasureT-loop
+μ-loop table first arcs costs₀ lens₀ states heads into ring₀ waits₀ head₀ count₀ costs lens ring waits head count = to-do (decode table) costs lens count
+
+-- The entry, with what is known of the bytes.
+abbrev Entry : Type 0
+Entry = tie.After-shared-slice-known Inv-loop μ-loop
+
+abbrev whole : Entry → Transducer
+whole c = decode (c .before .args .table .now)
+
+is-bytes : (c : Entry) → Bytes (c .before .args .table .now)
+is-bytes c = λ i. omega (arith, c .shared-slice-known .given i)
+
+size : (c : Entry) → Sized (whole c)
+size c = sized (c .before .args .table .now) (is-bytes c) (c .before .pre .0 .accepted)
+
+known : (c : tie.After-header Inv-loop μ-loop) → Headed (c .before .before .args .table .now) (c .header .result)
+known c =
+    let from = c .before .before in
+    headed (from .args .table .now) (is-bytes (c .before)) (from .pre .0 .accepted) (c .header .result) (c .header .ensures)
+
+-- The arcs are placed, the states wait.
+abbrev header-of : tie.After-by-target Inv-loop μ-loop → tie.After-header Inv-loop μ-loop
+header-of c = c .before .before .before .before
+
+abbrev placed : tie.After-fill Inv-loop μ-loop → tie.After-by-target Inv-loop μ-loop
+placed c = c .before .before .before
+
+-- A turn of the loop, whose state came off.
+abbrev Turn : Type 0
+Turn = tie.In-loop Inv-loop μ-loop
+
+abbrev by-target : Turn → tie.After-by-target Inv-loop μ-loop
+by-target c = placed (c .before .before)
+
+abbrev entry : Turn → Entry
+entry c = header-of (by-target c) .before
+
+abbrev turn : tie.After-pop Inv-loop μ-loop → Turn
+turn c = c .before .before .before
+
+abbrev gone : tie.After-waits3 Inv-loop μ-loop → tie.After-behind Inv-loop μ-loop
+gone c = c .before .before .before .before .before .before
+
+is-state : (c : tie.After-pop Inv-loop μ-loop) → c .pop .result < whole (entry (turn c)) .states
+is-state c =
+    let t = turn c in
+    omega (arith, c .pop .ensures .0, pop-state (size (entry t) .states) (t .before .loop .inv .queue) (t .loop-test .taken))
+
+header-requires : tie.Need-header-requires Inv-loop μ-loop
+header-requires c κs = omega (arith, length-accepted (c .before .args .table .now) (is-bytes c) (c .before .pre .0 .accepted))
+
+cast-states : tie.Need-cast-states Inv-loop μ-loop
+cast-states c = search needs
+
+by-target-requires : tie.Need-by-target-requires Inv-loop μ-loop
+by-target-requires c κs =
+    let header = c .before .before .before in
+    let pre = header .before .before .pre in
+    (pre .0, known header .states-are, pre .1, refl, length-replicate {A = ℕ} 3072 0)
+
+fill-requires : tie.Need-fill-requires Inv-loop μ-loop
+fill-requires c κs =
+    let header = header-of (c .before .before) in
+    (omega (arith, known header .states-are, size (header .before) .states), length-replicate {A = ℕ} 1024 0, refl)
+
+loop-holds : tie.Need-loop-holds Inv-loop μ-loop
+loop-holds c =
+    let header = header-of (placed c) in
+    let pre = header .before .before .pre in
+    settling-first (size (header .before)) (pre .3) (pre .2) (known header .states-are) (c .fill .ensures .0) (c .fill .ensures .1)
+
+pop-requires : tie.Need-pop-requires Inv-loop μ-loop
+pop-requires c κs =
+    let t = c .before .before in
+    let few = size (entry t) .states in
+    let queue = t .before .loop .inv .queue in
+    (queue .head-below, omega (arith, pop-state few queue (t .loop-test .taken), few), queue .waits-long)
+
+behind-requires : tie.Need-behind-requires Inv-loop μ-loop
+behind-requires c κs = (turn c .before .loop .inv .queue .head-below, omega arith)
+
+sub-relax-into : tie.Need-sub-relax-into Inv-loop μ-loop
+sub-relax-into c = omega (arith, turn (gone c .before) .loop-test .taken)
+
+relax-into-requires : tie.Need-relax-into-requires Inv-loop μ-loop
+relax-into-requires c κs =
+    let next = gone c in
+    let popped = next .before in
+    let t = turn popped in
+    let from = entry t in (
+      from .before .pre .0,
+      by-target t .by-target .ensures,
+      is-state popped,
+      settling-popped (size from) (t .before .loop .inv) (t .loop-test .taken) (popped .pop .result) (popped .pop .ensures .0) (popped .pop .ensures .1)
+          (next .behind .ensures .0),
+    )
+
+loop-less : tie.Need-loop-less Inv-loop μ-loop
+loop-less c =
+    let t = turn (gone (c .before) .before) in
+    let now' = t .before .loop in
+    popped-less (whole (entry t)) (now' .costs) (now' .lens) (now' .count) (t .loop-test .taken) (c .relax-into .ensures .1)
+
+loop-again : tie.Need-loop-again Inv-loop μ-loop
+loop-again c = c .relax-into .ensures .0
+
+returns : tie.Need-returns Inv-loop μ-loop
+returns c = settling-stop (size (header-of (placed (c .before .before)) .before)) (c .before .loop .inv) (c .loop-test .left)
+
+pub drain-spec : {M : Type 1} → statement M
+drain-spec =
+    tie.close
+    (tie.spec
+    Inv-loop
+    μ-loop
+    header-requires
+    cast-states
+    by-target-requires
+    fill-requires
+    loop-holds
+    pop-requires
+    behind-requires
+    sub-relax-into
+    relax-into-requires
+    loop-less
+    loop-again
+    returns)

@@ -1,0 +1,220 @@
+-- The invariant: the arcs that lead to `s` and stand before `at` are relaxed (`Relaxing`). A turn leaves its arc's source as it was, or where it got
+-- better finds it waiting or puts it on the queue.
+use borrow.Author.Tests.{not-true, not-false}
+use Prim.Native.Nat.{ℕ, _+_, _-_, _≤_, _<_}
+use native.Mathlib.Omega.{arith}
+use lib.ListN.{length, getD}
+use Rattle.wire.specs.Bytes.{Bytes}
+use Rattle.transducer.specs.Format.{Transducer, decode}
+use Rattle.transducer.specs.Path.{arc}
+use Rattle.paths.proofs.Ready.{Sized, sized}
+use Rattle.reach.proofs.ByTarget.{heads-inside}
+use Rattle.shortest.proofs.Settling.{Relaxing, Stands, relaxing-first, relaxing-arc, relaxing-source, relaxing-kept, relaxing-waits}
+use Rattle.shortest.proofs.Settling.{relaxing-room, relaxing-pushed, relaxing-stop}
+use Rattle.shortest.proofs.near.relax_into.Statement.{statement}
+use Rattle.shortest.proofs.near.relax_into.Tie as tie
+
+abbrev Inv-loop : tie.InvT-loop
+Inv-loop table first s heads into costs₀ lens₀ ring₀ waits₀ head count to at₀ waiting₀ costs lens ring waits at waiting =
+    Relaxing (decode table) s at costs₀ lens₀ count costs lens ring waits head waiting
+
+abbrev μ-loop : tie.MeasureT-loop
+μ-loop table first s heads into costs₀ lens₀ ring₀ waits₀ head count to at₀ waiting₀ costs lens ring waits at waiting = to - at
+
+-- The entry, with what is known of the bytes.
+abbrev Entry : Type 0
+Entry = tie.After-shared-slice-known Inv-loop μ-loop
+
+abbrev whole : Entry → Transducer
+whole c = decode (c .before .args .table .now)
+
+size : (c : Entry) → Sized (whole c)
+size c =
+    let bs = c .before .args .table .now in
+    let bytes : Bytes bs = λ i. omega (arith, c .shared-slice-known .given i) in
+    sized bs bytes (c .before .pre .0 .accepted)
+
+is-state : (c : Entry) → c .before .args .s < 1024
+is-state c = omega (arith, c .before .pre .2, size c .states)
+
+-- Where the arcs that lead to the state begin, and where those that lead to the next do.
+from-few : (c : Entry) → getD (c .before .args .heads .now) (c .before .args .s) 0 ≤ 3072
+from-few c = omega (arith, heads-inside (c .before .args .s) (c .before .pre .1) (omega (arith, c .before .pre .2)), size c .arcs)
+
+to-few : (c : Entry) → getD (c .before .args .heads .now) (c .before .args .s + 1) 0 ≤ 3072
+to-few c = omega (arith, heads-inside (c .before .args .s + 1) (c .before .pre .1) (omega (arith, c .before .pre .2)), size c .arcs)
+
+-- A turn of the loop, and its arc.
+abbrev Turn : Type 0
+Turn = tie.In-loop Inv-loop μ-loop
+
+abbrev entry : Turn → Entry
+entry c = c .before .before .before .before
+
+few : (c : Turn) → c .before .loop .at < 3072
+few c = omega (arith, c .loop-test .taken, to-few (entry c))
+
+abbrev number : Turn → ℕ
+number c = getD (entry c .before .args .into .now) (c .before .loop .at) 0
+
+stands : (c : Turn) → Stands (whole (entry c)) (entry c .before .args .s) (c .before .loop .at) (number c)
+stands c =
+    let from = entry c .before in
+    relaxing-arc (from .pre .1) (from .args .s) (from .pre .2) (c .before .loop .inv .low) (c .loop-test .taken)
+
+-- The arc is relaxed; its source is read.
+abbrev relaxed : tie.After-relax Inv-loop μ-loop → Turn
+relaxed c = c .before .before .before .before
+
+abbrev Read : Type 0
+Read = tie.After-source Inv-loop μ-loop
+
+abbrev got : Read → tie.After-relax Inv-loop μ-loop
+got c = c .before .before
+
+source-few : (c : Read) → c .source .result < 1024
+source-few c = omega (arith, c .source .ensures .1, size (entry (relaxed (got c))) .states)
+
+abbrev pushed : tie.After-push Inv-loop μ-loop → tie.Else2 Inv-loop μ-loop
+pushed c = c .before .before .before
+
+abbrev asked : tie.Else2 Inv-loop μ-loop → Read
+asked c = c .before .before
+
+add-to : tie.Need-add-to Inv-loop μ-loop
+add-to c = omega (arith, is-state c)
+
+mul-to : tie.Need-mul-to Inv-loop μ-loop
+mul-to c = omega (arith, is-state c)
+
+element-copy-out-to : tie.Need-element-copy-out-to Inv-loop μ-loop
+element-copy-out-to c = omega (arith, is-state c)
+
+cast-to : tie.Need-cast-to Inv-loop μ-loop
+cast-to c = omega (arith, to-few (c .before))
+
+mul-at : tie.Need-mul-at Inv-loop μ-loop
+mul-at c = omega (arith, is-state (c .before))
+
+element-copy-out-at : tie.Need-element-copy-out-at Inv-loop μ-loop
+element-copy-out-at c = omega (arith, is-state (c .before))
+
+cast-at : tie.Need-cast-at Inv-loop μ-loop
+cast-at c = omega (arith, from-few (c .before .before))
+
+loop-holds : tie.Need-loop-holds Inv-loop μ-loop
+loop-holds c =
+    let from = c .before .before .before in
+    relaxing-first (from .pre .1) (from .args .s) (from .pre .2) (from .pre .3)
+
+mul-i : tie.Need-mul-i Inv-loop μ-loop
+mul-i c = omega (arith, few c)
+
+element-copy-out-i : tie.Need-element-copy-out-i Inv-loop μ-loop
+element-copy-out-i c = few c
+
+cast-i : tie.Need-cast-i Inv-loop μ-loop
+cast-i c = let t = c .before in omega (arith, stands t .below, size (entry t) .arcs)
+
+add-at : tie.Need-add-at Inv-loop μ-loop
+add-at c = omega (arith, few (c .before))
+
+relax-requires : tie.Need-relax-requires Inv-loop μ-loop
+relax-requires c κs =
+    let t = c .before .before .before in
+    let k = t .before .loop .inv .settling in
+    (entry t .before .pre .0, stands t .below, k .nearing, k .long)
+
+loop-less : tie.Need-loop-less Inv-loop μ-loop
+loop-less c = omega (arith, relaxed (c .before) .loop-test .taken)
+
+loop-again : tie.Need-loop-again Inv-loop μ-loop
+loop-again c =
+    let t = relaxed (c .before) in
+    relaxing-kept (size (entry t)) (t .before .loop .inv) (number t) (stands t) (c .before .relax .ensures)
+    (not-true (c .before .relax .result) (c .if1 .taken))
+
+source-requires : tie.Need-source-requires Inv-loop μ-loop
+source-requires c κs = let t = relaxed (c .before) in (entry t .before .pre .0, stands t .below)
+
+element-copy-out-if2 : tie.Need-element-copy-out-if2 Inv-loop μ-loop
+element-copy-out-if2 c = source-few c
+
+loop-less-2 : tie.Need-loop-less-2 Inv-loop μ-loop
+loop-less-2 c = omega (arith, relaxed (got (c .before .before)) .loop-test .taken)
+
+loop-again-2 : tie.Need-loop-again-2 Inv-loop μ-loop
+loop-again-2 c =
+    let read = c .before .before in
+    let t = relaxed (got read) in
+    relaxing-waits (size (entry t)) (t .before .loop .inv) (number t) (stands t) (got read .relax .ensures) (read .source .result)
+    (read .source .ensures .0) (c .if2 .taken)
+
+push-requires : tie.Need-push-requires Inv-loop μ-loop
+push-requires c κs =
+    let at = c .before .before in
+    let read = asked at in
+    let t = relaxed (got read) in
+    let z = size (entry t) in
+    let k = t .before .loop .inv in
+    let queue = k .settling .queue in
+    let room = relaxing-room z k (number t) (stands t) (got read .relax .ensures) (read .source .result) (read .source .ensures .0) (at .if2 .left) in
+    (queue .head-below, omega (arith, room, z .states), source-few read, queue .ring-long, queue .waits-long)
+
+add-waiting : tie.Need-add-waiting Inv-loop μ-loop
+add-waiting c =
+    let at = pushed c in
+    let read = asked at in
+    let t = relaxed (got read) in
+    let z = size (entry t) in
+    let k = t .before .loop .inv in
+    let room = relaxing-room z k (number t) (stands t) (got read .relax .ensures) (read .source .result) (read .source .ensures .0) (at .if2 .left) in
+    omega (arith, room, z .states)
+
+loop-less-3 : tie.Need-loop-less-3 Inv-loop μ-loop
+loop-less-3 c = omega (arith, relaxed (got (asked (pushed c))) .loop-test .taken)
+
+loop-again-3 : tie.Need-loop-again-3 Inv-loop μ-loop
+loop-again-3 c =
+    let at = pushed c in
+    let read = asked at in
+    let t = relaxed (got read) in
+    relaxing-pushed (size (entry t)) (t .before .loop .inv) (number t) (stands t) (got read .relax .ensures) (read .source .result)
+    (read .source .ensures .0) (not-false (got read .relax .result) (read .before .if1 .left)) (at .if2 .left) (c .push .ensures .0) (c .push .ensures .1)
+
+returns : tie.Need-returns Inv-loop μ-loop
+returns c =
+    let at = c .before in
+    let from = at .before .before .before .before in
+    (relaxing-stop (from .pre .1) (from .args .s) (from .pre .2) (at .loop .inv) (c .loop-test .left), at .loop .inv .falls)
+
+pub relax-into-spec : {M : Type 1} → statement M
+relax-into-spec =
+    tie.close
+    (tie.spec
+    Inv-loop
+    μ-loop
+    add-to
+    mul-to
+    element-copy-out-to
+    cast-to
+    mul-at
+    element-copy-out-at
+    cast-at
+    loop-holds
+    mul-i
+    element-copy-out-i
+    cast-i
+    add-at
+    relax-requires
+    loop-less
+    loop-again
+    source-requires
+    element-copy-out-if2
+    loop-less-2
+    loop-again-2
+    push-requires
+    add-waiting
+    loop-less-3
+    loop-again-3
+    returns)
