@@ -8,8 +8,7 @@ use native.Mathlib.Numerals.{add-one}
 use native.Mathlib.Omega.{arith}
 use native.Mathlib.Decide.{ℕ-discrete}
 use lib.Dec.{eqb}
-use lib.ListN.{length, getD, set, drop, replicate, length-set, length-replicate}
-use lib.Seq.{getD-set-same, getD-set-other}
+use lib.ListN.{length, set, drop, replicate, length-set, length-replicate}
 use borrow.Author.Tests.{not-true, eqb-true}
 use Rattle.transducer.specs.Format.{Transducer}
 use Rattle.transducer.specs.Path.{arc}
@@ -22,6 +21,7 @@ use Rattle.paths.proofs.GoesOn.{can-accept-some}
 use Rattle.paths.proofs.Tally.{add-all-first, add-arcs-next, add-arcs-last, add-arcs-most, add-all-same}
 use Rattle.paths.proofs.Sweep.{finite-tally, dead-tally}
 use Rattle.paths.proofs.Ready.{Sized, Range, range-leaves, before-range, behind-range}
+use Rattle.paths.proofs.StoredCounts.{at-set-same, at-set-other, zeros}
 use Rattle.paths.proofs.MarksInPlace.{clash, shut-next, leads-found, leads-more, range-leads, shut-marked, marked-set-other}
 use Rattle.paths.proofs.EndlessMarks.{Marking, marking-changed, marks-goes-on, marks-endless}
 
@@ -107,14 +107,6 @@ module _ (t : Transducer) (z : Sized t) (ms : List Bool) (c : ℕ → ℕ) (s i 
 
 -- All states
 
-at-set-same : (cs : List Count) (s : ℕ) (x : Count) → s < length cs → at-state (set cs s x) s ≡ x .value
-unfolding at-state
-at-set-same cs s x h = ap (λ (a : Count). a .value) (getD-set-same cs s x (record { value = 0 }) h)
-
-at-set-other : (cs : List Count) (s : ℕ) (x : Count) (u : ℕ) → (u ≡ s → ⊥) → at-state (set cs s x) u ≡ at-state cs u
-unfolding at-state
-at-set-other cs s x u h = ap (λ (a : Count). a .value) (getD-set-other cs s u x (record { value = 0 }) h)
-
 -- At first only the dead states are marked.
 pub tallied-dead : (t : Transducer) → Sized t → (ms : List Bool) → Dead t ms → Tallied t ms (replicate 1024 (record { value = 0 }))
 unfolding at-state
@@ -124,11 +116,6 @@ tallied-dead t z ms d =
       rounds = 0;
       tallied = λ s b m k l. zeros 1024 s ∙ sym (dead-tally k t s (λ p a. clash (can-accept (t .states) t s) (can-accept-some t (z .within) s b .1 (p, a)) (not-true (can-accept (t .states) t s) (sym (d .dead s b) ∙ m))));
     }
-  where
-    zeros : (n s : ℕ) → getD {A = Count} (replicate n (record { value = 0 })) s (record { value = 0 }) .value ≡ 0
-    zeros zero s = refl
-    zeros (suc n) zero = refl
-    zeros (suc n) (suc s) = zeros n s
 
 -- The count of a state none of whose arcs leads to an unmarked one is a sum of tallies.
 pub tallied-set : (t : Transducer) → Sized t → (ms : List Bool) (cs : List Count) (s : ℕ) (x : Count) → Tallied t ms cs → s < t .states → leads-on t ms s ≡ false

@@ -1,4 +1,5 @@
 pub mod Count
 pub mod Tally
 pub mod Sweep
+pub mod TopSorted
 pub mod Entry

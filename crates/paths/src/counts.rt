@@ -14,7 +14,7 @@ use crate::Totals;
 use crate::arcs;
 use crate::turn;
 
-const MOST: u32 = 99;
+const MOST: u8 = 99;
 
 impl Count {
     // The sum of two counts.
@@ -85,7 +85,7 @@ fn sweep(
         let mut seen = i;
         let mut sum = own(codes[s]);
         while i < end {
-            let to = arcs::target(table, first, i);
+            let to = reach::target(table, first, i);
             if !marks[to] {
                 left = true;
                 continue 'states;

@@ -4,6 +4,7 @@ mod counts;
 mod entry;
 mod marks;
 mod path;
+mod sorted;
 mod turn;
 
 pub use entry::count as path_count;
@@ -14,13 +15,19 @@ pub use path::walk as nth_arcs;
 
 // A count of paths: 99 stands for 99 or more.
 pub struct Count {
-    pub value: u32,
+    pub value: u8,
 }
 
 // What the path count answers: the refusal or 0, then the count, 0 on refusal.
 pub struct Counted {
     pub refusal: u32,
     pub count: u32,
+}
+
+// The counts that one pass over the arcs comes to, and whether the states are topologically sorted: else the counts say nothing.
+pub struct Pass {
+    pub counts: [Count; 1024],
+    pub sorted: bool,
 }
 
 // Counts after a sweep, and whether another one may change more.

@@ -166,9 +166,6 @@ states-again-2 c =
     (target .result) (c .before .before .before .loop-test .taken) (target .ensures .0) (not-true (marked (at .marks) (target .result)) (c .if2 .taken)) in
     (marking-left z (size t) true (start t .args .marks .now) (start t .args .down) (at .k) (at .marks) (at .changed) (at .left) (at .inv .0) (within t) (state t) (taken t) found, at .inv .1)
 
-mul-add : tie.Need-mul-add Inv-loop μ-loop Inv-states μ-states
-mul-add c = omega (arith, c .before .before .target .ensures .1, size (turn (inner c)) .states)
-
 array-copy-out-add : tie.Need-array-copy-out-add Inv-loop μ-loop Inv-states μ-states
 array-copy-out-add c = omega (arith, c .before .before .target .ensures .1, size (turn (inner c)) .states)
 
@@ -232,9 +229,6 @@ states-again-3 c =
           (found (c .before) ∙ c .if3 .taken),
       at .inv .1,
     )
-
-mul-counts : tie.Need-mul-counts Inv-loop μ-loop Inv-states μ-states
-mul-counts c = omega (arith, below (turn (searched (c .before))))
 
 array-set-from-counts : tie.Need-array-set-from-counts Inv-loop μ-loop Inv-states μ-states
 array-set-from-counts c = below (turn (searched (c .before)))
@@ -301,7 +295,6 @@ sweep-spec =
     element-copy-out-if2
     states-less-2
     states-again-2
-    mul-add
     array-copy-out-add
     add-requires
     add-seen
@@ -311,7 +304,6 @@ sweep-spec =
     leads-on-requires
     states-less-3
     states-again-3
-    mul-counts
     array-set-from-counts
     element-write-marks
     states-less-4
