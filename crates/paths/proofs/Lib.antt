@@ -11,6 +11,7 @@ pub mod Walk
 pub mod Ready
 pub mod StoredCounts
 pub mod TopSorted
+pub mod Counting
 pub mod CountsInPlace
 pub mod MarksInPlace
 pub mod EndlessMarks

@@ -30,12 +30,6 @@ pub struct Pass {
     pub sorted: bool,
 }
 
-// Counts after a sweep, and whether another one may change more.
-pub struct Swept {
-    pub counts: [Count; 1024],
-    pub again: bool,
-}
-
 // The counts from each state, and whether accepting paths are infinitely many.
 pub struct Totals {
     pub counts: [Count; 1024],
