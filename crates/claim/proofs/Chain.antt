@@ -7,7 +7,8 @@ use Rattle.transducer.specs.Format.{Transducer, decode}
 use Rattle.transducer.specs.Path.{accepts}
 use Rattle.compose.specs.Claim.{met-at, Two-paths, One-to-one}
 use Rattle.compose.specs.Claim.{Stands-for as Composed-stands}
-use Rattle.lattice.specs.Lattice.{through, Reads-as, Reads-one-to-one}
+use Rattle.trim.specs.Trim.{through}
+use Rattle.lattice.specs.Lattice.{Reads-as, Reads-one-to-one}
 use Rattle.claim.specs.Claim.{Pair, to-pair, Stands-for, Paths-are-pairs}
 
 -- Two pairs with equal paths are one.

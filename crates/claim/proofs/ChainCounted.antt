@@ -17,7 +17,8 @@ use Rattle.compose.specs.Entry.{origin-pairs}
 use Rattle.compose.proofs.Claimed.{bytes-one-to-one}
 use Rattle.compose.proofs.MetPaths.{met-filled}
 use Rattle.compose.proofs.Written.{composed-good}
-use Rattle.lattice.specs.Lattice.{lattice, lattice-origins, through, Reads-one-to-one}
+use Rattle.lattice.specs.Lattice.{lattice, lattice-origins, Reads-one-to-one}
+use Rattle.trim.specs.Trim.{through}
 use Rattle.lattice.proofs.LatticeGood.{lattice-good, refusal-lattice, decode-lattice}
 use Rattle.lattice.proofs.LatticeLaw.{through-filled, lattice-one-to-one}
 use Rattle.paths.specs.declared.Counted.{Counted}

@@ -16,7 +16,7 @@ use Rattle.compose.specs.declared.Answer.{Answer}
 use Rattle.compose.specs.Claim.{met-at, Two-paths}
 use Rattle.compose.specs.Entry.{compose-refusal, Compose-says}
 use Rattle.lattice.specs.ApplyEntry.{apply-refusal, Apply-says}
-use Rattle.lattice.specs.Lattice.{through}
+use Rattle.trim.specs.Trim.{through}
 use Rattle.paths.specs.declared.Counted.{Counted}
 use Rattle.paths.specs.declared.Told.{Told}
 use Rattle.paths.specs.Count.{before}

@@ -29,11 +29,12 @@ use Rattle.lattice.specs.Apply.{string-good, same-state, steps, final-st
 use Rattle.lattice.specs.ApplyEntry.{Apply-says}
 use Rattle.lattice.specs.Applying.{pack, next, found, key-finals, closed, Closes, Refused-with}
 use Rattle.lattice.specs.Lattice.{lattice, lattice-origins}
-use Rattle.lattice.specs.Marks.{All-reached, Trims}
-use Rattle.lattice.specs.Trim.{trimmed, origins-kept}
+use Rattle.reach.specs.Reach.{All-accessible}
+use Rattle.trim.specs.Parts.{Trims}
+use Rattle.trim.specs.Trim.{trimmed, origins-kept}
 use Rattle.lattice.proofs.AppliedTrails.{first}
 use Rattle.lattice.proofs.ApplySays.{says-zeroed, says-written}
-use Rattle.lattice.proofs.BuiltReached.{built-reached}
+use Rattle.lattice.proofs.BuiltAccessible.{built-accessible}
 use Rattle.lattice.proofs.Closing.{told-finals}
 use Rattle.lattice.proofs.FoundBuilt.{found-explored, found-length, found-arcs, found-origins}
 use Rattle.lattice.proofs.KeyFinals.{key-final, key-weight, pack-final, pack-weight}
@@ -41,8 +42,8 @@ use Rattle.lattice.proofs.KeyParts.{keying}
 use Rattle.lattice.proofs.LatticeGood.{state-weight, applied-light, good-applied}
 use Rattle.lattice.proofs.SameState.{same-state-decides}
 use Rattle.lattice.proofs.Tracing.{refilled, map-same}
-use Rattle.lattice.proofs.TrimmedGood.{trimmed-good}
-use Rattle.lattice.proofs.TrimmedKeeps.{length-origins, trimmed-arc}
+use Rattle.trim.proofs.TrimmedGood.{trimmed-good}
+use Rattle.trim.proofs.TrimmedKeeps.{length-origins, trimmed-arc}
 
 -- The number of arcs stands at 6.
 arcs-at : (t : Transducer) (rest : List ℕ) → length (t .arcs) < 65536 → two (encode t ++ rest) 6 ≡ length (t .arcs)
@@ -102,10 +103,10 @@ module _ (cs bs : List ℕ) (bytes : Bytes bs) (ok : refusal bs ≡ 0) (string :
       z-good : Good z
       z-good = good-applied cs t good string .1 fine
 
-      z-reached : All-reached z
+      z-accessible : All-accessible z
       unfolding applied
-      z-reached =
-          built-reached same-state (steps cs t) (final-state cs t) (state-weight t) (first t) same-state-decides few (good-within z z-good)
+      z-accessible =
+          built-accessible same-state (steps cs t) (final-state cs t) (state-weight t) (first t) same-state-decides few (good-within z z-good)
 
       -- The lattice before trimming, as bytes
 
@@ -145,8 +146,8 @@ module _ (cs bs : List ℕ) (bytes : Bytes bs) (ok : refusal bs ≡ 0) (string :
           decoded : decode (take (10252 + 16 * w .arcs - from) (drop from table')) ≡ z
           decoded = ap decode bytes-are ∙ decode-encode z z-good
 
-          pub bytes-reached : All-reached (decode (take (10252 + 16 * w .arcs - from) (drop from table')))
-          bytes-reached = subst All-reached (sym decoded) z-reached
+          pub bytes-accessible : All-accessible (decode (take (10252 + 16 * w .arcs - from) (drop from table')))
+          bytes-accessible = subst All-accessible (sym decoded) z-accessible
 
           -- What trimming leaves of it
 

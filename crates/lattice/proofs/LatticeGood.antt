@@ -26,7 +26,7 @@ use Rattle.lattice.specs.Lattice.{lattice}
 use Rattle.lattice.proofs.AppliedSteps.{empty-step, symbol-step, OfArc, of-empty, of-symbol, Move, step-move, step-unbarred}
 use Rattle.lattice.proofs.AppliedTrails.{first}
 use Rattle.lattice.proofs.SameState.{same-state-decides}
-use Rattle.lattice.proofs.TrimmedGood.{trimmed-good}
+use Rattle.trim.proofs.TrimmedGood.{trimmed-good}
 
 -- The final weight of a lattice state.
 abbrev pub state-weight : Transducer → State → ℕ

@@ -21,14 +21,14 @@ use Rattle.explore.proofs.Trails.{inputs, outputs, weights, along, Once}
 use Rattle.explore.proofs.Accepting.{Accepting, accepts-read, accepts-written, accepts-once, accepts-trail, trail-accepts}
 use Rattle.explore.proofs.Built.{unrefused-few}
 use Rattle.lattice.specs.Apply.{State, string-good, same-state, steps, final-state, applied}
-use Rattle.lattice.specs.Trim.{useful, trimmed, origins-kept}
-use Rattle.lattice.specs.Lattice.{lattice, lattice-origins, through, Reads-as, Reads-one-to-one}
+use Rattle.trim.specs.Trim.{useful, trimmed, origins-kept, through}
+use Rattle.lattice.specs.Lattice.{lattice, lattice-origins, Reads-as, Reads-one-to-one}
 use Rattle.lattice.proofs.AppliedSteps.{steps-distinct}
 use Rattle.lattice.proofs.AppliedTrails.{numbers, first, Leads, trail-leads, Accepted, trail-accepted, accepting-followed, never-two}
-use Rattle.lattice.proofs.Kept.{length-kept}
+use Rattle.trim.proofs.Kept.{length-kept}
 use Rattle.lattice.proofs.LatticeGood.{state-weight, good-applied}
 use Rattle.lattice.proofs.SameState.{same-state-decides}
-use Rattle.lattice.proofs.Trimmed.{kept, lone, trimmed-kept, trimmed-lone, origins-some, origins-none, Led, trimmed-led, led-injective, LedBy, led-onto}
+use Rattle.trim.proofs.Trimmed.{kept, lone, trimmed-kept, trimmed-lone, origins-some, origins-none, Led, trimmed-led, led-injective, LedBy, led-onto}
 
 -- The step that is read where there is none; its origin is 0, as what is read behind a list's end is.
 abbrev no-step : Step State ℕ

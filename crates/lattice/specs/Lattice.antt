@@ -8,7 +8,7 @@ use lib.ListN.{getD}
 use Rattle.transducer.specs.Format.{Transducer}
 use Rattle.transducer.specs.Path.{accepts, read-by, written-by, path-cost}
 use Rattle.lattice.specs.Apply.{applied}
-use Rattle.lattice.specs.Trim.{trimmed, origins-kept}
+use Rattle.trim.specs.Trim.{trimmed, origins-kept, through}
 
 -- The lattice handed over: what applying the string makes, trimmed.
 unfoldable pub lattice : (string : List ℕ) → Transducer → Transducer
@@ -17,10 +17,6 @@ lattice cs t = trimmed (applied cs t .result)
 -- The arc of the transducer that each arc of the lattice comes from.
 unfoldable pub lattice-origins : (string : List ℕ) → Transducer → List ℕ
 lattice-origins cs t = map (λ i. getD (map (λ s. s .origin) (applied cs t .steps)) i 0) (origins-kept (applied cs t .result))
-
--- Where a path leads by origins: the arcs that its arcs come from.
-unfoldable pub through : (origins path : List ℕ) → List ℕ
-through origins p = map (λ i. getD origins i 0) p
 
 -- A path of z stands for an accepting path of t that reads the string: it reads it too, and writes and costs the same.
 pub record Reads-as (cs : List ℕ) (t z : Transducer) (path original : List ℕ) : Type 0 where

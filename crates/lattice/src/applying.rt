@@ -13,7 +13,6 @@ ghost use Rattle.explore.specs.Walk.{Sofar, taken, state-served, Walked, Went, 
 ghost use Rattle.lattice.specs.Apply.{string-good, applied};
 ghost use Rattle.lattice.specs.ApplyEntry.{Apply-says, apply-refusal};
 ghost use Rattle.lattice.specs.Applying.{next, arc-keyed, found, Applicable, Key-in, key-code, key-finals, closed, Closes, Ready, Refused-with};
-use crate::trimming;
 use explore::Walk;
 use transducer::Arc;
 use transducer::Final;
@@ -332,7 +331,7 @@ fn apply_into(
     let codes = transducer::final_codes(bytes, f);
     let from = close(&codes, string.len() as u32, pairs, w, &mut table);
     let end = ARCS_AT + 16 * m;
-    let len = trimming::trim_into(&table[from..end], true, lattice, origins);
+    let len = trim::trim_into(&table[from..end], true, lattice, origins);
     let kept = wire::u16_at(lattice, 6) as usize;
     trace(origins, kept, &arcs);
     wire::clear32(pairs, 0);

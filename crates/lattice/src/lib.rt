@@ -1,7 +1,4 @@
-// Applying an input string to a transducer, and trimming.
+// Applying an input string to a transducer.
 mod applying;
-mod sweep;
-mod trimming;
 
 pub use applying::apply;
-pub use trimming::trim;

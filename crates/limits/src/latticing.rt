@@ -62,7 +62,7 @@ pub fn apply(case: &[u8], room: u8) {
 fn trim_into(table: &[u8], room: u8, out: &mut [u8], origins: &mut [u16]) -> Written {
     let a = lent::cells(room, 13, out.len());
     let b = lent::cells(room, 14, origins.len());
-    lattice::trim(table, &mut out[0..a], &mut origins[0..b])
+    trim::trim(table, &mut out[0..a], &mut origins[0..b])
 }
 
 // Trims a transducer.

@@ -1,5 +1,5 @@
 -- How many numbers below a bound have a property, and growing properties that come to rest (the pigeonhole); sums of lists. Assumes nothing.
-use mathlib.Core.Path.{_≡_, refl}
+use mathlib.Core.Path.{_≡_, refl, ap, ap₂, _∙_}
 use mathlib.Core.Bool.{Bool, true, false, cond}
 use mathlib.Core.Logic.{_⊎_, inl, inr}
 use Prim.Native.Nat.{ℕ, zero, suc, _+_, _≤_, _<_}
@@ -115,6 +115,29 @@ pub count-none : (n : ℕ) (f : ℕ → Bool) → ((i : ℕ) → i < n → f i �
 unfolding count
 count-none zero f e = refl
 count-none (suc n) f e = rw (e n (omega arith), add-zero) (count-none n f (λ i h. e i (omega arith)))
+
+count-same-below : (n : ℕ) (f g : ℕ → Bool) → ((j : ℕ) → j < n → g j ≡ f j) → count n g ≡ count n f
+unfolding count
+count-same-below zero f g e = refl
+count-same-below (suc n) f g e = ap₂ _+_ (count-same-below n f g (λ j h. e j (omega arith))) (ap (λ (b : Bool). cond b 1 0) (e n (omega arith)))
+
+-- A property of one number more.
+pub count-one-more : (n i : ℕ) (f g : ℕ → Bool) → i < n → f i ≡ false → g i ≡ true → ((j : ℕ) → (j ≡ i → ⊥) → g j ≡ f j) → count n g ≡ count n f + 1
+count-one-more zero i f g h p q e = absurd (not-suc-le-zero h)
+count-one-more (suc n) i f g h p q e = on (last-or-below i n h) (λ l. count-one-more n i f g l p q e)
+  where
+    on : (i ≡ n) ⊎ (i < n) → (i < n → count n g ≡ count n f + 1) → count (suc n) g ≡ count (suc n) f + 1
+    on (inl d) more =
+        let has : g n ≡ true = rw d at q in
+        let lacks : f n ≡ false = rw d at p in
+        omega (arith, count-next g n has, count-stays f n lacks, count-same-below n f g (λ j l. e j (λ k. omega arith)))
+    on (inr l) more =
+        let same : g n ≡ f n = e n (λ k. omega arith) in
+        count-alike (f n) (g n) same refl refl (more l)
+      where
+        count-alike : (a b : Bool) → b ≡ a → f n ≡ a → g n ≡ b → count n g ≡ count n f + 1 → count (suc n) g ≡ count (suc n) f + 1
+        count-alike true b s x y m = omega (arith, m, count-next f n x, count-next g n (y ∙ s))
+        count-alike false b s x y m = omega (arith, m, count-stays f n x, count-stays g n (y ∙ s))
 
 -- Each number below the count stands before some number that has the property.
 pub record CountedAt (f : ℕ → Bool) (n k : ℕ) : Type 0 where

@@ -1,3 +1,11 @@
 pub mod ByTarget
+pub mod Chains
 pub mod Counted
+pub mod Ends
+pub mod FinalMarks
+pub mod Spreading
+pub mod Reach
+pub mod Settled
 pub mod Sized
+pub mod Stacked
+pub mod Sweeping

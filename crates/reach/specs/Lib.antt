@@ -1,2 +1,5 @@
 pub mod Counted
 pub mod Index
+pub mod Reach
+pub mod Marks
+pub mod Stack

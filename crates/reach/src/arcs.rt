@@ -5,6 +5,7 @@ ghost use lib.ListN.{length};
 ghost use Rattle.transducer.specs.Format.{decode};
 ghost use Rattle.transducer.specs.Path.{arc};
 ghost use Rattle.transducer.specs.Leaf.{Opened};
+ghost use Rattle.reach.specs.Marks.{from-end, to-end};
 
 // Where arc `i` comes from.
 pub fn source(table: &[u8], first: usize, i: usize) -> usize
@@ -20,4 +21,26 @@ pub fn target(table: &[u8], first: usize, i: usize) -> usize
     ensures { λ r. ⌜ (r ≡ arc (decode (now (table .entry))) i .target) × (r < decode (now (table .entry)) .states) ⌝ }
 {
     wire::u16_at(table, first + 16 * i + 10) as usize
+}
+
+// The end of arc `i` that marks spread from: its source, or its target where they spread back.
+pub fn from_end(table: &[u8], first: usize, i: usize, back: bool) -> usize
+    requires { ⌜ Opened (now table) first × (i < length (decode (now table) .arcs)) ⌝ }
+    ensures { λ r. ⌜ (r ≡ from-end back (arc (decode (now (table .entry))) i)) × (r < decode (now (table .entry)) .states) ⌝ }
+{
+    if back {
+        return target(table, first, i);
+    }
+    source(table, first, i)
+}
+
+// The other end.
+pub fn to_end(table: &[u8], first: usize, i: usize, back: bool) -> usize
+    requires { ⌜ Opened (now table) first × (i < length (decode (now table) .arcs)) ⌝ }
+    ensures { λ r. ⌜ (r ≡ to-end back (arc (decode (now (table .entry))) i)) × (r < decode (now (table .entry)) .states) ⌝ }
+{
+    if back {
+        return source(table, first, i);
+    }
+    target(table, first, i)
 }

@@ -1,7 +1,12 @@
-// Arcs by their targets, and the states that paths reach.
+// The states that paths reach, and the arcs by their targets.
 mod arcs;
 mod index;
+mod marks;
+mod stack;
+mod sweep;
 
 pub use arcs::source;
 pub use arcs::target;
 pub use index::by_target;
+pub use marks::accessible;
+pub use marks::coaccessible;

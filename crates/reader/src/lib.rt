@@ -5,7 +5,7 @@ ghost use Rattle.transducer.specs.Format.{refusal};
 ghost use Rattle.transducer.specs.Entry.{Read-says, read-refusal, Write-says, write-refusal, given};
 ghost use Rattle.compose.specs.Entry.{Compose-says, compose-refusal};
 ghost use Rattle.lattice.specs.ApplyEntry.{Apply-says, apply-refusal};
-ghost use Rattle.lattice.specs.TrimEntry.{Trim-says, trim-refusal};
+ghost use Rattle.trim.specs.TrimEntry.{Trim-says, trim-refusal};
 ghost use Rattle.paths.specs.Entry.{Count-says, count-refusal, Nth-says, nth-refusal};
 ghost use Rattle.shortest.specs.Entry.{Shortest-says, shortest-refusal};
 ghost use Rattle.claim.specs.Entry.{Readings-says};
@@ -126,7 +126,7 @@ pub extern "C" fn forthwn_trim(
     ensures { λ r. ⌜ Trim-says (now (table .entry)) (trim-refusal (now (table .entry)) (length (now (out .entry))) (length (now (origins .entry))))
         (written r (now (len .exit))) (now (out .entry)) (now (out .exit)) (now (origins .entry)) (now (origins .exit)) ⌝ }
 {
-    let answer = lattice::trim(table, out, origins);
+    let answer = trim::trim(table, out, origins);
     *len = answer.len;
     answer.refusal
 }

@@ -23,7 +23,8 @@ use Rattle.compose.specs.Compose.{composed, left-origin, right-origin, origin-p
 use Rattle.compose.specs.Entry.{origin-pairs, compose-room, compose-refusal}
 use Rattle.lattice.specs.Apply.{string-good, step, arc-steps, applied}
 use Rattle.lattice.specs.Apply.{same-state as same-position, steps as applied-steps, final-state as final-position}
-use Rattle.lattice.specs.Trim.{entered, left-for, comes-to, gets-out, useful, arc-useful, renumbered, kept-arcs, kept-finals, kept-numbers, trimmed, origins-kept}
+use Rattle.reach.specs.Reach.{entered, accessible, coaccessible, some-arc as some-arc-from}
+use Rattle.trim.specs.Trim.{useful, arc-useful, renumbered, kept-arcs, kept-finals, kept-numbers, trimmed, origins-kept}
 use Rattle.lattice.specs.Lattice.{lattice, lattice-origins}
 use Rattle.lattice.specs.ApplyEntry.{apply-room, apply-refusal}
 use Rattle.paths.specs.Count.{before, paths-from, paths, some-arc, can-accept, goes-on, endless, path-count, nth-path}
@@ -76,8 +77,9 @@ unfolding two four low places every framed-from framed records-from records kind
     non-empty written-by arcs-cost path-cost by-number each-arc fits passed or-else arc-fields read-room read-refusal there place met served numbered
     targets arcs-here arcs-from finals-from steps-from built built-refusal all-origins same-state left-alone right-alone both-step left-steps
     right-steps steps first-state final-state state-weight composed left-origin right-origin origin-pair origin-pairs compose-room compose-refusal
-    string-good step arc-steps applied same-position applied-steps final-position entered left-for comes-to gets-out useful arc-useful renumbered
-    kept-arcs kept-finals kept-numbers trimmed origins-kept lattice lattice-origins apply-room apply-refusal before paths-from paths some-arc
+    string-good step arc-steps applied same-position applied-steps final-position entered some-arc-from accessible coaccessible useful
+    arc-useful renumbered kept-arcs kept-finals kept-numbers trimmed origins-kept lattice lattice-origins apply-room apply-refusal before paths-from
+    paths some-arc
     can-accept goes-on endless path-count nth-path count-refusal nth-refusal nearer better best-of best shortest shortest-refusal labels-in digits
     decimal readings-word labels-text line line-of lines counted-text listing-text code-refusal applied-refusal text-unless listing-refusal text-of
     or-refused read-answer write-answer path-answer defined repeated

@@ -6,9 +6,9 @@ use native.Mathlib.Omega.{arith}
 use lib.ListN.{length, replicate, length-replicate}
 use Rattle.wire.specs.Bytes.{Bytes}
 use Rattle.transducer.proofs.Accept.{bounds}
-use Rattle.lattice.proofs.AppliedWritten.{says-11, says-12, ends-inside, bytes-accepted, bytes-reached, len-small, out-long, traceable, says-lattice}
+use Rattle.lattice.proofs.AppliedWritten.{says-11, says-12, ends-inside, bytes-accepted, bytes-accessible, len-small, out-long, traceable, says-lattice}
 use Rattle.lattice.proofs.KeyParts.{string-short}
-use Rattle.lattice.proofs.TrimSays.{Opening, opening}
+use Rattle.trim.proofs.TrimSays.{Opening, opening}
 use Rattle.lattice.proofs.applying.apply_into.Statement.{statement}
 use Rattle.lattice.proofs.applying.apply_into.Tie as tie
 
@@ -193,7 +193,7 @@ trim-into-requires c κs =
       bytes-accepted _ _ (is-bytes k) (pre .accepted) (pre .good) told (else2 .if2 .left) codes closes,
       pre .lattice-long,
       pre .origins-long,
-      λ _. bytes-reached _ _ (is-bytes k) (pre .accepted) (pre .good) told (else2 .if2 .left) codes closes,
+      λ _. bytes-accessible _ _ (is-bytes k) (pre .accepted) (pre .good) told (else2 .if2 .left) codes closes,
     )
 
 u16-at-requires : tie.Need-u16-at-requires

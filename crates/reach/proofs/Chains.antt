@@ -1,0 +1,138 @@
+-- Chains of arcs by the state that they lead from: the last arc from a state, cells, and the loop that makes the chains. Assumes nothing.
+use mathlib.Core.Path.{_≡_, refl, sym, ap, _∙_}
+use mathlib.Core.Bool.{Bool, true, false, cond}
+use mathlib.Core.List.{List}
+use Prim.Native.Nat.{ℕ, zero, suc, _+_, _*_, _/_, _%_, _≤_, _<_}
+use native.Mathlib.Numerals.{add-one}
+use native.Mathlib.Decide.{ℕ-discrete}
+use native.Mathlib.Omega.{arith}
+use lib.Dec.{eqb}
+use lib.ListN.{length, getD, set, replicate, length-set, length-replicate, getD-replicate}
+use lib.Seq.{getD-set-same, getD-set-other}
+use borrow.Author.Tests.{eq-eqb, ne-eqb}
+use Rattle.transducer.specs.Format.{Transducer}
+use Rattle.transducer.specs.Path.{arc}
+use Rattle.reach.specs.Marks.{from-end, to-end}
+use Rattle.reach.specs.Stack.{last, cell, Chained}
+
+-- The last arc from a state
+
+module _ (t : Transducer) (back : Bool) (s : ℕ) where
+  pub last-next : (i : ℕ) → from-end back (arc t i) ≡ s → last t back s (suc i) ≡ suc i
+  unfolding last
+  last-next i e = rw (eq-eqb (from-end back (arc t i)) s e)
+
+  pub last-stays : (i : ℕ) → (from-end back (arc t i) ≡ s → ⊥) → last t back s (suc i) ≡ last t back s i
+  unfolding last
+  last-stays i n = rw (ne-eqb (from-end back (arc t i)) s n)
+
+  pub last-most : (i : ℕ) → last t back s i ≤ i
+  unfolding last
+  last-most zero = omega arith
+  last-most (suc i) = on (eqb (from-end back (arc t i)) s) (last-most i)
+    where
+      on : (b : Bool) → last t back s i ≤ i → cond b (suc i) (last t back s i) ≤ suc i
+      on true more = omega arith
+      on false more = omega (arith, more)
+
+  -- It is from there.
+  pub last-from : (i : ℕ) → last t back s (suc i) ≡ suc i → from-end back (arc t i) ≡ s
+  last-from i h = on (ℕ-discrete (from-end back (arc t i)) s)
+    where
+      on : Dec (from-end back (arc t i) ≡ s) → from-end back (arc t i) ≡ s
+      on (yes e) = e
+      on (no n) = absurd (omega (arith, last-stays i n, h, last-most i))
+
+  pub last-last : (i : ℕ) → last t back s (last t back s i) ≡ last t back s i
+  last-last zero = let none : last t back s 0 ≡ 0 = omega (arith, last-most 0) in ap (last t back s) none
+  last-last (suc i) = on (ℕ-discrete (from-end back (arc t i)) s) (last-last i)
+    where
+      on : Dec (from-end back (arc t i) ≡ s) → last t back s (last t back s i) ≡ last t back s i → last t back s (last t back s (suc i)) ≡ last t back s (suc i)
+      on (yes e) more = ap (last t back s) (last-next i e)
+      on (no n) more = rw (last-stays i n) more
+
+  -- None from there comes behind it.
+  pub none-behind : (i j : ℕ) → last t back s i ≤ j → j < i → from-end back (arc t j) ≡ s → ⊥
+  none-behind zero j l h e = omega arith
+  none-behind (suc i) j l h e = on (ℕ-discrete (from-end back (arc t i)) s) (ℕ-discrete j i) (λ m k. none-behind i j m k e)
+    where
+      on : Dec (from-end back (arc t i) ≡ s) → Dec (j ≡ i) → (last t back s i ≤ j → j < i → ⊥) → ⊥
+      on (yes q) d more = omega (arith, last-next i q)
+      on (no n) (yes q) more = n (ap (λ (k : ℕ). from-end back (arc t k)) (sym q) ∙ e)
+      on (no n) (no m) more = more (omega (arith, last-stays i n)) (omega arith)
+
+-- Cells
+
+pub cell-zero : (t : Transducer) (back : Bool) → cell t back 0 ≡ 0
+unfolding cell
+cell-zero t back = refl
+
+pub cell-none : (t : Transducer) (back : Bool) (k : ℕ) → cell t back k ≡ 0 → k ≡ 0
+unfolding cell
+cell-none t back zero h = refl
+cell-none t back (suc i) h = absurd (omega arith)
+
+pub cell-state : (t : Transducer) (back : Bool) (i : ℕ) → i < 4095 → cell t back (suc i) / 4096 ≡ to-end back (arc t i)
+unfolding cell
+cell-state t back i h = omega arith
+
+pub cell-link : (t : Transducer) (back : Bool) (i : ℕ) → i < 4095 → cell t back (suc i) % 4096 ≡ suc i
+unfolding cell
+cell-link t back i h = omega arith
+
+pub cell-number : (t : Transducer) (back : Bool) (k : ℕ) → k < 4096 → cell t back k % 4096 ≡ k
+cell-number t back zero h = ap (λ (x : ℕ). x % 4096) (cell-zero t back)
+cell-number t back (suc i) h = cell-link t back i (omega arith)
+
+-- Chaining
+
+-- The first i arcs are in chains.
+pub record Chaining (t : Transducer) (back : Bool) (i : ℕ) (heads next : List ℕ) : Type 0 where
+  pub heads-long : length heads ≡ 1024
+  pub next-long : length next ≡ 3072
+  pub head-at : (s : ℕ) → s < 1024 → getD heads s 0 ≡ cell t back (last t back s i)
+  pub next-at : (j : ℕ) → j < i → getD next j 0 ≡ cell t back (last t back (from-end back (arc t j)) j)
+
+pub chaining-first : (t : Transducer) (back : Bool) (next : List ℕ) → length next ≡ 3072 → Chaining t back 0 (replicate 1024 0) next
+unfolding last cell
+chaining-first t back next h =
+    record {
+      heads-long = length-replicate {A = ℕ} 1024 0;
+      next-long = h;
+      head-at = λ s l. getD-replicate {A = ℕ} 1024 s 0 0 l;
+      next-at = λ j l. absurd (omega arith);
+    }
+
+pub chaining-next : {t : Transducer} {back : Bool} {i : ℕ} {heads next : List ℕ} (from to : ℕ) → i < 3072 → from < 1024
+    → from ≡ from-end back (arc t i) → to ≡ to-end back (arc t i) → Chaining t back i heads next
+    → Chaining t back (i + 1) (set heads from (4096 * to + (i + 1))) (set next i (getD heads from 0))
+unfolding cell
+chaining-next {t} {back} {i} {heads} {next} from to h l f g m =
+    record {
+      heads-long = length-set heads from (4096 * to + (i + 1)) ∙ m .heads-long;
+      next-long = length-set next i (getD heads from 0) ∙ m .next-long;
+      head-at = λ s k. rw add-one (head s k (ℕ-discrete s from));
+      next-at = λ j k. put j k (ℕ-discrete j i);
+    }
+  where
+    head : (s : ℕ) → s < 1024 → Dec (s ≡ from) → getD (set heads from (4096 * to + suc i)) s 0 ≡ cell t back (last t back s (suc i))
+    head s k (yes e) =
+        rw e (getD-set-same heads from (4096 * to + suc i) 0 (omega (arith, m .heads-long))
+        ∙ ap (λ (u : ℕ). 4096 * u + suc i) g ∙ ap (cell t back) (sym (last-next t back from i (sym f))))
+    head s k (no n) =
+        getD-set-other heads from s (4096 * to + suc i) 0 n ∙ m .head-at s k ∙ ap (cell t back) (sym (last-stays t back s i (λ e. n (sym e ∙ sym f))))
+
+    put : (j : ℕ) → j < i + 1 → Dec (j ≡ i) → getD (set next i (getD heads from 0)) j 0 ≡ cell t back (last t back (from-end back (arc t j)) j)
+    put j k (yes e) =
+        rw (e, ← f) (getD-set-same next i (getD heads from 0) 0 (omega (arith, m .next-long)) ∙ m .head-at from l)
+    put j k (no n) = getD-set-other next i j (getD heads from 0) 0 n ∙ m .next-at j (omega arith)
+
+pub chaining-stop : {t : Transducer} {back : Bool} {i : ℕ} {heads next : List ℕ} → i ≡ length (t .arcs) → Chaining t back i heads next
+    → Chained t back heads next
+chaining-stop {t} {back} e m =
+    record {
+      heads-long = m .heads-long;
+      next-long = m .next-long;
+      head-at = λ s l. m .head-at s l ∙ ap (λ (k : ℕ). cell t back (last t back s k)) e;
+      next-at = λ j l. m .next-at j (omega arith);
+    }

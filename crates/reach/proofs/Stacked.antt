@@ -1,0 +1,357 @@
+-- A stack of marked states whose arcs are still to be followed: all marked states put on it, one state's arcs followed (`Serving`), and the whole
+-- emptied. Assumes nothing.
+use mathlib.Core.Path.{_≡_, refl, sym, ap, subst, _∙_}
+use mathlib.Core.Bool.{Bool, true, false}
+use mathlib.Core.List.{List}
+use Prim.Native.Nat.{ℕ, zero, suc, _+_, _-_, _/_, _%_, _≤_, _<_}
+use native.Mathlib.Numerals.{add-one}
+use native.Mathlib.Decide.{ℕ-discrete}
+use native.Mathlib.Omega.{arith}
+use lib.Dec.{ltb}
+use lib.ListN.{length, getD, set, length-set}
+use lib.Seq.{getD-set-same, getD-set-other}
+use borrow.Author.Tests.{ltb-true, ltb-false}
+use Rattle.transducer.specs.Format.{Transducer}
+use Rattle.transducer.specs.Path.{arc}
+use Rattle.reach.specs.Counted.{count}
+use Rattle.reach.specs.Marks.{from-end, to-end, Passes, Widened, number}
+use Rattle.reach.specs.Stack.{last, cell, Chained, Off, Waiting, Served, Pushed}
+use Rattle.reach.proofs.Counted.{count-most, count-rises, count-next}
+use Rattle.reach.proofs.Spreading.{never, number-most, number-set, number-below, set-kept, spread-set, widened-none, widened-twice, widened-one}
+use Rattle.reach.proofs.Sized.{Sized}
+use Rattle.reach.proofs.Chains.{last-most, last-from, last-last, none-behind, cell-zero, cell-none, cell-state, cell-link, cell-number}
+
+-- A state more on a stack
+
+module _ (stack : List ℕ) (top u : ℕ) (room : top < length stack) where
+  pub pushed-other : (j : ℕ) → j < top → getD (set stack top u) j 0 ≡ getD stack j 0
+  pushed-other j h = getD-set-other stack top j u 0 (λ e. omega arith)
+
+  -- What is off the longer stack is off the shorter one, and is not that state.
+  pub off-before : (r : ℕ) → Off (set stack top u) (top + 1) r → Off stack top r
+  off-before r off j h e = off j (omega arith) (pushed-other j h ∙ e)
+
+  pub off-new : (r : ℕ) → Off (set stack top u) (top + 1) r → r ≡ u → ⊥
+  off-new r off e = off top (omega arith) (getD-set-same stack top u 0 room ∙ sym e)
+
+-- The states on a stack are states, and are marked.
+abbrev pub Held : (n : ℕ) → List Bool → (stack : List ℕ) → (top : ℕ) → Type 0
+Held n ms stack top = (j : ℕ) → j < top → (getD stack j 0 < n) × (getD ms (getD stack j 0) false ≡ true)
+
+pub held-push : {n m : ℕ} (ms ms' : List Bool) (stack : List ℕ) (top u : ℕ) → top < length stack → n ≤ m → u < m → getD ms' u false ≡ true
+    → ((s : ℕ) → getD ms s false ≡ true → getD ms' s false ≡ true) → Held n ms stack top → Held m ms' (set stack top u) (top + 1)
+held-push {n} {m} ms ms' stack top u room more l here grows old j h = on (ℕ-discrete j top)
+  where
+    on : Dec (j ≡ top) → (getD (set stack top u) j 0 < m) × (getD ms' (getD (set stack top u) j 0) false ≡ true)
+    on (yes e) = rw (e, getD-set-same stack top u 0 room) (l, here)
+    on (no k) =
+        let b : j < top = omega arith in
+        let o = old j b in
+        rw (pushed-other stack top u room j b) (omega (arith, o .0), grows (getD stack j 0) (o .1))
+
+-- The marked states below s are on the stack.
+pub record Pushing (s : ℕ) (ms : List Bool) (stack : List ℕ) (top : ℕ) : Type 0 where
+  pub stack-long : length stack ≡ 1024
+  pub few : top ≤ count s (λ r. getD ms r false)
+  pub held : Held s ms stack top
+  pub all : (r : ℕ) → r < s → getD ms r false ≡ true → Off stack top r → ⊥
+
+pub pushing-first : (ms : List Bool) (stack : List ℕ) → length stack ≡ 1024 → Pushing 0 ms stack 0
+pushing-first ms stack h =
+    record { stack-long = h; few = omega arith; held = λ j l. absurd (omega arith); all = λ r l m o. absurd (omega arith) }
+
+pub pushing-top : {s top : ℕ} {ms : List Bool} {stack : List ℕ} → Pushing s ms stack top → top ≤ s
+pushing-top {s} {ms = ms} p = omega (arith, p .few, count-most s (λ r. getD ms r false))
+
+pub pushing-over : {s top : ℕ} {ms : List Bool} {stack : List ℕ} → getD ms s false ≡ false → Pushing s ms stack top → Pushing (s + 1) ms stack top
+pushing-over {s} {top} {ms} {stack} e p =
+    record {
+      stack-long = p .stack-long;
+      few = omega (arith, p .few, count-rises (λ r. getD ms r false) s (s + 1) (omega arith));
+      held = λ j l. (omega (arith, p .held j l .0), p .held j l .1);
+      all = λ r l m o. on r l m o (ℕ-discrete r s);
+    }
+  where
+    on : (r : ℕ) → r < s + 1 → getD ms r false ≡ true → Off stack top r → Dec (r ≡ s) → ⊥
+    on r l m o (yes q) = never (getD ms s false) e (rw q at m)
+    on r l m o (no n) = p .all r (omega arith) m o
+
+pub pushing-next : {s top : ℕ} {ms : List Bool} {stack : List ℕ} → s < 1024 → getD ms s false ≡ true → Pushing s ms stack top
+    → Pushing (s + 1) ms (set stack top s) (top + 1)
+pushing-next {s} {top} {ms} {stack} h e p =
+    record {
+      stack-long = length-set stack top s ∙ p .stack-long;
+      few =
+          let one : count (s + 1) (λ r. getD ms r false) ≡ count s (λ r. getD ms r false) + 1 =
+          ap (λ (k : ℕ). count k (λ r. getD ms r false)) (add-one s) ∙ count-next (λ r. getD ms r false) s e in
+          omega (arith, p .few, one);
+      held = held-push ms ms stack top s room (omega arith) (omega arith) e (λ r m. m) (p .held);
+      all = λ r l m o. on r l m o (ℕ-discrete r s);
+    }
+  where
+    room : top < length stack
+    room = omega (arith, pushing-top p, p .stack-long)
+
+    on : (r : ℕ) → r < s + 1 → getD ms r false ≡ true → Off (set stack top s) (top + 1) r → Dec (r ≡ s) → ⊥
+    on r l m o (yes q) = off-new stack top s room r o q
+    on r l m o (no n) = p .all r (omega arith) m (off-before stack top s room r o)
+
+pub pushing-stop : {s n top : ℕ} {ms : List Bool} {stack : List ℕ} → s ≡ n → n ≤ length ms → Pushing s ms stack top → Pushed n ms stack top
+pushing-stop {s} {ms = ms} e h p =
+    record {
+      stack-long = p .stack-long;
+      few = omega (arith, p .few, number-below ms s (omega arith));
+      held = λ j l. (omega (arith, p .held j l .0), p .held j l .1);
+      all = λ r l. p .all r (omega arith);
+    }
+
+-- The ends of an arc are states.
+pub from-below : {t : Transducer} (z : Sized t) (back : Bool) (i : ℕ) → i < length (t .arcs) → from-end back (arc t i) < t .states
+from-below z false i h = z .within .leaves i h
+from-below z true i h = z .within .arrives i h
+
+pub to-below : {t : Transducer} (z : Sized t) (back : Bool) (i : ℕ) → i < length (t .arcs) → to-end back (arc t i) < t .states
+to-below z false i h = z .within .arrives i h
+to-below z true i h = z .within .leaves i h
+
+-- With all marked states on the stack, nothing is claimed of any arc.
+pub waiting-first : {t : Transducer} (z : Sized t) (back : Bool) {n top : ℕ} {ms : List Bool} {stack : List ℕ} → n ≡ t .states → length ms ≡ 1024
+    → Pushed n ms stack top → Waiting t back ms stack top
+waiting-first {t} z back e long p =
+    record {
+      marks-long = long;
+      stack-long = p .stack-long;
+      few = p .few;
+      held = λ j l. (omega (arith, p .held j l .0), p .held j l .1);
+      closed = λ i h m o. absurd (p .all (from-end back (arc t i)) (omega (arith, from-below z back i h)) m o);
+    }
+
+pub waiting-none : {t : Transducer} {back : Bool} {ms : List Bool} {stack : List ℕ} {top : ℕ} → top ≡ 0 → Waiting t back ms stack top
+    → Passes t back (λ s. getD ms s false)
+waiting-none e w i h m = w .closed i h m (λ j l. absurd (omega arith))
+
+-- Following the arcs of one state
+
+-- The arcs of `s` from number `link` on are followed; those on the stack from `bottom` on are new.
+pub record Serving (t : Transducer) (back : Bool) (first : List Bool) (bottom s : ℕ) (ms : List Bool) (stack : List ℕ) (top c : ℕ) : Type 0 where
+  pub link : ℕ
+  pub cell-is : c ≡ cell t back link
+  pub last-is : last t back s link ≡ link
+  pub link-most : link ≤ length (t .arcs)
+  pub wider : Widened t back first ms
+  pub rises : bottom ≤ top
+  pub pushed : number ms + bottom ≡ number first + top
+  pub marks-long : length ms ≡ 1024
+  pub stack-long : length stack ≡ 1024
+  pub here : getD ms s false ≡ true
+  pub few : top < number ms
+  pub held : Held (t .states) ms stack top
+  pub closed : (i : ℕ) → i < length (t .arcs) → getD ms (from-end back (arc t i)) false ≡ true → Off stack top (from-end back (arc t i))
+      → (from-end back (arc t i) ≡ s → link ≤ i) → getD ms (to-end back (arc t i)) false ≡ true
+
+pub serving-first : {t : Transducer} {back : Bool} {ms : List Bool} {stack heads next : List ℕ} {top : ℕ} (s : ℕ) → Sized t → s ≡ getD stack top 0
+    → Chained t back heads next → Waiting t back ms stack (top + 1) → Serving t back ms top s ms stack top (getD heads s 0)
+serving-first {t} {back} {ms} {stack} {top = top} s z is ch w =
+    record {
+      link = last t back s (length (t .arcs));
+      cell-is = ch .head-at s (omega (arith, state, z .states));
+      last-is = last-last t back s (length (t .arcs));
+      link-most = last-most t back s (length (t .arcs));
+      wider = widened-none t back ms;
+      rises = omega arith;
+      pushed = refl;
+      marks-long = w .marks-long;
+      stack-long = w .stack-long;
+      here = rw is (w .held top (omega arith) .1);
+      few = omega (arith, w .few);
+      held = λ j l. w .held j (omega arith);
+      closed = λ i h m o past. w .closed i h m (off i h o past);
+    }
+  where
+    state : s < t .states
+    state = rw is (w .held top (omega arith) .0)
+
+    off : (i : ℕ) → i < length (t .arcs) → Off stack top (from-end back (arc t i))
+        → (from-end back (arc t i) ≡ s → last t back s (length (t .arcs)) ≤ i) → Off stack (top + 1) (from-end back (arc t i))
+    off i h o past j l e = on (ℕ-discrete j top)
+      where
+        on : Dec (j ≡ top) → ⊥
+        on (yes q) =
+            let f : from-end back (arc t i) ≡ s = sym e ∙ ap (λ (k : ℕ). getD stack k 0) q ∙ sym is in
+            none-behind t back s (length (t .arcs)) i (past f) h f
+        on (no n) = o j (omega arith) e
+
+-- The arc of a cell that is not 0.
+pub record ArcHere (t : Transducer) (back : Bool) (s c link : ℕ) : Type 0 where
+  pub number : ℕ
+  pub below : number < length (t .arcs)
+  pub from : from-end back (arc t number) ≡ s
+  pub to : c / 4096 ≡ to-end back (arc t number)
+  pub link-is : c % 4096 ≡ suc number
+  pub is : link ≡ suc number
+
+module _ {t : Transducer} {back : Bool} {first : List Bool} {bottom s : ℕ} {ms : List Bool} {stack : List ℕ} {top c : ℕ} (z : Sized t)
+    (w : Serving t back first bottom s ms stack top c) (some : c ≡ 0 → ⊥) where
+  pub serving-arc : ArcHere t back s c (w .link)
+  serving-arc = on (w .link) refl
+    where
+      on : (k : ℕ) → w .link ≡ k → ArcHere t back s c (w .link)
+      on zero e = absurd (some (w .cell-is ∙ ap (cell t back) e ∙ cell-zero t back))
+      on (suc i) e =
+          let c-is : c ≡ cell t back (suc i) = w .cell-is ∙ ap (cell t back) e in
+          let low : i < 4095 = omega (arith, e, w .link-most, z .arcs) in
+          let here : last t back s (suc i) ≡ suc i = rw e at (w .last-is) in
+          record {
+            number = i;
+            below = omega (arith, e, w .link-most);
+            from = last-from t back s i here;
+            to = ap (λ (x : ℕ). x / 4096) c-is ∙ cell-state t back i low;
+            link-is = ap (λ (x : ℕ). x % 4096) c-is ∙ cell-link t back i low;
+            is = e;
+          }
+
+  pub serving-to : c / 4096 < t .states
+  serving-to = let a = serving-arc in omega (arith, a .to, to-below z back (a .number) (a .below))
+
+  pub serving-link : (0 < c % 4096) × (c % 4096 ≤ 3072)
+  serving-link = let a = serving-arc in (omega (arith, a .link-is), omega (arith, a .link-is, a .below, z .arcs))
+
+  pub serving-room : top < 1024
+  serving-room = omega (arith, w .few, number-most ms, w .marks-long)
+
+  -- The arc leads to a marked state: on to the next.
+  pub serving-over : {heads next : List ℕ} → Chained t back heads next → getD ms (c / 4096) false ≡ true
+      → Serving t back first bottom s ms stack top (getD next (c % 4096 - 1) 0)
+  serving-over {next = next} ch there =
+      record {
+        link = last t back s (a .number);
+        cell-is = next-is;
+        last-is = last-last t back s (a .number);
+        link-most = omega (arith, last-most t back s (a .number), a .below);
+        wider = w .wider;
+        rises = w .rises;
+        pushed = w .pushed;
+        marks-long = w .marks-long;
+        stack-long = w .stack-long;
+        here = w .here;
+        few = w .few;
+        held = w .held;
+        closed = λ i h m o past. on i h m o past (ℕ-discrete i (a .number));
+      }
+    where
+      a : ArcHere t back s c (w .link)
+      a = serving-arc
+
+      next-is : getD next (c % 4096 - 1) 0 ≡ cell t back (last t back s (a .number))
+      next-is =
+          let at : c % 4096 - 1 ≡ a .number = omega (arith, a .link-is) in
+          ap (λ (k : ℕ). getD next k 0) at ∙ ch .next-at (a .number) (a .below) ∙ ap (λ (u : ℕ). cell t back (last t back u (a .number))) (a .from)
+
+      on : (i : ℕ) → i < length (t .arcs) → getD ms (from-end back (arc t i)) false ≡ true → Off stack top (from-end back (arc t i))
+          → (from-end back (arc t i) ≡ s → last t back s (a .number) ≤ i) → Dec (i ≡ a .number) → getD ms (to-end back (arc t i)) false ≡ true
+      on i h m o past (yes e) = rw (e, ← a .to) there
+      on i h m o past (no n) = w .closed i h m o further
+        where
+          further : from-end back (arc t i) ≡ s → w .link ≤ i
+          further f = behind (ltb i (a .number)) refl
+            where
+              behind : (b : Bool) → ltb i (a .number) ≡ b → w .link ≤ i
+              behind true l = absurd (none-behind t back s (a .number) i (past f) (ltb-true i (a .number) l) f)
+              behind false l = omega (arith, a .is, ltb-false i (a .number) l)
+
+  -- The chain goes on to lower numbers.
+  pub serving-less : {heads next : List ℕ} → Chained t back heads next → getD next (c % 4096 - 1) 0 % 4096 < c % 4096
+  serving-less {next = next} ch =
+      let a = serving-arc in
+      let at : c % 4096 - 1 ≡ a .number = omega (arith, a .link-is) in
+      let is : getD next (c % 4096 - 1) 0 ≡ cell t back (last t back (from-end back (arc t (a .number))) (a .number)) =
+      ap (λ (k : ℕ). getD next k 0) at ∙ ch .next-at (a .number) (a .below) in
+      let most = last-most t back (from-end back (arc t (a .number))) (a .number) in
+      let link = cell-number t back (last t back (from-end back (arc t (a .number))) (a .number)) (omega (arith, most, a .below, z .arcs)) in
+      rw is (omega (arith, link, most, a .link-is))
+
+  -- It leads to a state that is not: that one is marked and put on the stack.
+  pub serving-push : getD ms (c / 4096) false ≡ false
+      → Serving t back first bottom s (set ms (c / 4096) true) (set stack top (c / 4096)) (top + 1) c
+  serving-push new =
+      record {
+        link = w .link;
+        cell-is = w .cell-is;
+        last-is = w .last-is;
+        link-most = w .link-most;
+        wider = widened-twice (w .wider) (widened-one (a .number) (a .below) (rw (a .from, ← a .to) (spread-set ms s (c / 4096) inside (w .here))));
+        rises = omega (arith, w .rises);
+        pushed = omega (arith, w .pushed, one);
+        marks-long = length-set ms (c / 4096) true ∙ w .marks-long;
+        stack-long = length-set stack top (c / 4096) ∙ w .stack-long;
+        here = grows s (w .here);
+        few = omega (arith, w .few, one);
+        held = held-push ms (set ms (c / 4096) true) stack top (c / 4096) room (omega arith) serving-to (getD-set-same ms (c / 4096) true false inside)
+            grows (w .held);
+        closed = λ i h m o past. on i h m o past (ℕ-discrete (from-end back (arc t i)) (c / 4096));
+      }
+    where
+      a : ArcHere t back s c (w .link)
+      a = serving-arc
+
+      inside : c / 4096 < length ms
+      inside = omega (arith, serving-to, z .states, w .marks-long)
+
+      room : top < length stack
+      room = omega (arith, serving-room, w .stack-long)
+
+      one : number (set ms (c / 4096) true) ≡ number ms + 1
+      one = number-set ms (c / 4096) inside new
+
+      grows : (r : ℕ) → getD ms r false ≡ true → getD (set ms (c / 4096) true) r false ≡ true
+      grows r m = set-kept ms (c / 4096) r inside m
+
+      on : (i : ℕ) → i < length (t .arcs) → getD (set ms (c / 4096) true) (from-end back (arc t i)) false ≡ true
+          → Off (set stack top (c / 4096)) (top + 1) (from-end back (arc t i)) → (from-end back (arc t i) ≡ s → w .link ≤ i)
+          → Dec (from-end back (arc t i) ≡ c / 4096) → getD (set ms (c / 4096) true) (to-end back (arc t i)) false ≡ true
+      on i h m o past (yes e) = absurd (off-new stack top (c / 4096) room (from-end back (arc t i)) o e)
+      on i h m o past (no n) =
+          grows (to-end back (arc t i))
+          (w .closed i h (sym (getD-set-other ms (c / 4096) (from-end back (arc t i)) true false n) ∙ m)
+          (off-before stack top (c / 4096) room (from-end back (arc t i)) o) past)
+
+pub serving-new : {t : Transducer} {back : Bool} {first : List Bool} {bottom s : ℕ} {ms : List Bool} {stack heads next : List ℕ} {top c : ℕ} → Sized t
+    → Serving t back first bottom s ms stack top c → (c ≡ 0 → ⊥) → Chained t back heads next → getD ms (c / 4096) false ≡ false
+    → Serving t back first bottom s (set ms (c / 4096) true) (set stack top (c / 4096)) (top + 1) (getD next (c % 4096 - 1) 0)
+serving-new {ms = ms} {c = c} z w some ch new =
+    serving-over z (serving-push z w some new) some ch
+    (getD-set-same ms (c / 4096) true false (omega (arith, serving-to z w some, z .states, w .marks-long)))
+
+pub serving-stop : {t : Transducer} {back : Bool} {first : List Bool} {bottom s : ℕ} {ms : List Bool} {stack : List ℕ} {top c : ℕ} → c ≡ 0
+    → Serving t back first bottom s ms stack top c → Served t back bottom first ms stack top
+serving-stop {t} {back} {c = c} e w =
+    record {
+      wider = w .wider;
+      rises = w .rises;
+      pushed = w .pushed;
+      waiting = record {
+        marks-long = w .marks-long;
+        stack-long = w .stack-long;
+        few = omega (arith, w .few);
+        held = w .held;
+        closed = λ i h m o. w .closed i h m o (λ _. omega (arith, none));
+      };
+    }
+  where
+    none : w .link ≡ 0
+    none = cell-none t back (w .link) (sym (w .cell-is) ∙ e)
+
+-- Emptying the stack
+
+-- So much is left to do: each state on the stack is served once, and each that is not marked may still be put there.
+abbrev pub left-to-do : List Bool → (top : ℕ) → ℕ
+left-to-do ms top = (1024 - number ms) + (1024 - number ms) + top
+
+pub waiting-less : {t : Transducer} {back : Bool} {ms ms' : List Bool} {stack : List ℕ} {top top' : ℕ} → 0 < top
+    → Served t back (top - 1) ms ms' stack top' → left-to-do ms' top' < left-to-do ms top
+waiting-less {ms' = ms'} h v = omega (arith, v .pushed, v .rises, number-most ms', v .waiting .marks-long)
+
+pub waiting-pop : {t : Transducer} {back : Bool} {ms : List Bool} {stack : List ℕ} {top : ℕ} → 0 < top → Waiting t back ms stack top
+    → Waiting t back ms stack (top - 1 + 1)
+waiting-pop {t} {back} {ms} {stack} {top} h w =
+    let e : top ≡ top - 1 + 1 = omega arith in subst (λ (k : ℕ). Waiting t back ms stack k) e w

@@ -1,0 +1,83 @@
+// The accessible and the coaccessible states: marks from the start, and back from the final states.
+ghost use mathlib.Core.Path.{_≡_};
+ghost use lib.ListN.{length};
+ghost use Rattle.transducer.specs.Format.{refusal, decode, head-finals};
+ghost use Rattle.transducer.specs.Path.{is-final};
+ghost use Rattle.transducer.specs.Leaf.{Opened};
+ghost use Rattle.reach.specs.Reach.{accessible, coaccessible};
+ghost use Rattle.reach.specs.Marks.{Settled, Marked};
+use crate::stack;
+use crate::sweep;
+
+// Spreads marks until no more are to come: one sweep is enough where few arcs lead to lower states, and needs no chains.
+fn settle(
+    table: &[u8],
+    first: usize,
+    states: usize,
+    arcs: usize,
+    back: bool,
+    marks: &mut [bool; 1024],
+)
+    requires { ⌜ Opened (now table) first × (states ≡ decode (now table) .states) × (arcs ≡ length (decode (now table) .arcs))
+        × (length (now marks) ≡ 1024) ⌝ }
+    ensures { λ _. ⌜ Settled (decode (now (table .entry))) back (now (marks .entry)) (now (marks .exit)) ⌝ }
+{
+    let again = sweep::sweep(table, first, arcs, back, marks);
+    if !again {
+        return;
+    }
+    stack::spread_all(table, first, states, arcs, back, marks);
+}
+
+// The accessible states.
+pub fn accessible(
+    table: &[u8],
+    first: usize,
+    states: usize,
+    arcs: usize,
+    start: usize,
+) -> [bool; 1024]
+    requires { ⌜ Opened (now table) first × (states ≡ decode (now table) .states) × (arcs ≡ length (decode (now table) .arcs))
+        × (start ≡ decode (now table) .start) ⌝ }
+    ensures { λ r. ⌜ Marked (accessible (decode (now (table .entry)) .states) (decode (now (table .entry)))) r ⌝ }
+{
+    let mut marks = [false; 1024];
+    marks[start] = true;
+    settle(table, first, states, arcs, false, &mut marks);
+    marks
+}
+
+// The final states.
+fn final_marks(table: &[u8], finals: usize) -> [bool; 1024]
+    requires { ⌜ (refusal (now table) ≡ 0) × (finals ≡ head-finals (now table)) ⌝ }
+    ensures { λ r. ⌜ Marked (is-final (decode (now (table .entry)) .finals)) r ⌝ }
+{
+    let mut marks = [false; 1024];
+    let mut i = 0;
+    let mut place = 12;
+    while i < finals {
+        let f = transducer::load_final(table, place);
+        let state = f.state as usize;
+        marks[state] = true;
+        place += 10;
+        i += 1;
+    }
+    marks
+}
+
+// The coaccessible states.
+pub fn coaccessible(
+    table: &[u8],
+    first: usize,
+    states: usize,
+    arcs: usize,
+    finals: usize,
+) -> [bool; 1024]
+    requires { ⌜ Opened (now table) first × (states ≡ decode (now table) .states) × (arcs ≡ length (decode (now table) .arcs))
+        × (finals ≡ head-finals (now table)) ⌝ }
+    ensures { λ r. ⌜ Marked (coaccessible (decode (now (table .entry)) .states) (decode (now (table .entry)))) r ⌝ }
+{
+    let mut marks = final_marks(table, finals);
+    settle(table, first, states, arcs, true, &mut marks);
+    marks
+}

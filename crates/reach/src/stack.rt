@@ -1,0 +1,127 @@
+// Marks that spread state by state: a state goes on a stack when it is marked, and once its arcs are followed it is done. This takes time in
+// proportion to states and arcs, whatever their numbers.
+ghost use mathlib.Core.Path.{_≡_};
+ghost use Prim.Native.Nat.{_+_, _≤_};
+ghost use lib.ListN.{length, replicate};
+ghost use Rattle.wire.specs.Bytes.{Bytes};
+ghost use Rattle.transducer.specs.Format.{refusal, decode};
+ghost use Rattle.transducer.specs.Leaf.{Opened};
+ghost use Rattle.reach.specs.Marks.{Settled};
+ghost use Rattle.reach.specs.Stack.{Chained, Waiting, Served, Pushed};
+use crate::arcs;
+
+// A cell holds a state times this, and the number of an arc and one more.
+const LINKS: u32 = 4096;
+
+// Puts the arcs in chains, `heads` being zeros: at a state the cell of its last arc, at an arc the cell of the one before it.
+fn chain(
+    table: &[u8],
+    first: usize,
+    arcs: usize,
+    back: bool,
+    heads: &mut [u32; 1024],
+    next: &mut [u32; 3072],
+)
+    requires { ⌜ Opened (now table) first × (arcs ≡ length (decode (now table) .arcs)) × (now heads ≡ replicate 1024 0) × (length (now next) ≡ 3072) ⌝ }
+    ensures { λ _. ⌜ Chained (decode (now (table .entry))) back (now (heads .exit)) (now (next .exit)) ⌝ }
+{
+    let mut i = 0;
+    while i < arcs {
+        let from = arcs::from_end(table, first, i, back);
+        let to = arcs::to_end(table, first, i, back);
+        next[i] = heads[from];
+        i += 1;
+        heads[from] = LINKS * to as u32 + i as u32;
+    }
+}
+
+// Puts each marked state on the stack. Answers how many there are.
+fn push_marked(states: usize, marks: &[bool; 1024], stack: &mut [u16; 1024]) -> usize
+    requires { ⌜ (states ≤ 1024) × (length (now marks) ≡ 1024) × (length (now stack) ≡ 1024) ⌝ }
+    ensures { λ r. ⌜ Pushed states (now (marks .entry)) (now (stack .exit)) r ⌝ }
+{
+    let mut s = 0;
+    let mut top = 0;
+    while s < states {
+        let state = s;
+        s += 1;
+        if !marks[state] {
+            continue;
+        }
+        stack[top] = state as u16;
+        top += 1;
+    }
+    top
+}
+
+// Takes the state at `top` off the stack, and marks and puts on it those that its arcs lead to and that are not marked. Answers where it ends.
+fn serve(
+    table: &[u8],
+    back: bool,
+    heads: &[u32; 1024],
+    next: &[u32; 3072],
+    top: usize,
+    marks: &mut [bool; 1024],
+    stack: &mut [u16; 1024],
+) -> usize
+    requires { ⌜ Bytes (now table) × (refusal (now table) ≡ 0) × Chained (decode (now table)) back (now heads) (now next)
+        × Waiting (decode (now table)) back (now marks) (now stack) (top + 1) ⌝ }
+    ensures { λ r. ⌜ Served (decode (now (table .entry))) back top (now (marks .entry)) (now (marks .exit)) (now (stack .exit)) r ⌝ }
+{
+    let s = stack[top] as usize;
+    let mut cell = heads[s];
+    let mut end = top;
+    while cell != 0 {
+        let to = (cell / LINKS) as usize;
+        let link = (cell % LINKS) as usize;
+        cell = next[link - 1];
+        if marks[to] {
+            continue;
+        }
+        marks[to] = true;
+        stack[end] = to as u16;
+        end += 1;
+    }
+    end
+}
+
+// Follows the arcs of all states on the stack, and of those that come on it, until none is left.
+fn empty(
+    table: &[u8],
+    back: bool,
+    heads: &[u32; 1024],
+    next: &[u32; 3072],
+    count: usize,
+    marks: &mut [bool; 1024],
+    stack: &mut [u16; 1024],
+)
+    requires { ⌜ (refusal (now table) ≡ 0) × Chained (decode (now table)) back (now heads) (now next)
+        × Waiting (decode (now table)) back (now marks) (now stack) count ⌝ }
+    ensures { λ _. ⌜ Settled (decode (now (table .entry))) back (now (marks .entry)) (now (marks .exit)) ⌝ }
+{
+    let mut top = count;
+    while 0 < top {
+        top = serve(table, back, heads, next, top - 1, marks, stack);
+    }
+}
+
+// Spreads marks along arcs, or back, until no more are to come.
+pub fn spread_all(
+    table: &[u8],
+    first: usize,
+    states: usize,
+    arcs: usize,
+    back: bool,
+    marks: &mut [bool; 1024],
+)
+    requires { ⌜ Opened (now table) first × (states ≡ decode (now table) .states) × (arcs ≡ length (decode (now table) .arcs))
+        × (length (now marks) ≡ 1024) ⌝ }
+    ensures { λ _. ⌜ Settled (decode (now (table .entry))) back (now (marks .entry)) (now (marks .exit)) ⌝ }
+{
+    let mut heads = [0u32; 1024];
+    let mut next = [0u32; 3072];
+    let mut stack = [0u16; 1024];
+    chain(table, first, arcs, back, &mut heads, &mut next);
+    let count = push_marked(states, marks, &mut stack);
+    empty(table, back, &heads, &next, count, marks, &mut stack);
+}

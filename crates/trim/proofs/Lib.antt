@@ -1,0 +1,9 @@
+pub mod Kept
+pub mod KeptWritten
+pub mod Running
+pub mod TrimSays
+pub mod Trimmed
+pub mod TrimmedGood
+pub mod TrimmedKeeps
+pub mod TrimmedTwice
+pub mod Useful
