@@ -81,7 +81,7 @@ fn put_counted(
     ensures { λ r. ⌜ Wrote (now (out .entry)) (now (out .exit)) at r (counted-text (decode (now (table .entry)))) ⌝ }
 {
     let all = counts[start];
-    let count = all.value;
+    let count = all.value as u32;
     if count >= MOST {
         return text::put_bytes(out, at, b"99+\n");
     }

@@ -1,119 +1,65 @@
--- A sweep over arrays of marks and counts: the sum over one state's arcs (`Adding`), the counts of the marked states (`Tallied`), and the
--- counts in the end. Assumes nothing.
+-- Counts by state: the sum over one state's arcs (`Adding`), the counts of the marked states (`Tallied`), and the counts in the end.
+-- Assumes nothing.
 use mathlib.Core.Path.{_≡_, refl, sym, ap, _∙_}
-use mathlib.Core.Bool.{Bool, true, false, not, cond}
+use mathlib.Core.Bool.{Bool, true, false, not}
 use mathlib.Core.List.{List}
-use Prim.Native.Nat.{ℕ, zero, suc, _+_, _-_, _≤_, _<_, min}
+use Prim.Native.Nat.{ℕ, zero, suc, _+_, _≤_, _<_, min}
 use native.Mathlib.Numerals.{add-one}
 use native.Mathlib.Omega.{arith}
 use native.Mathlib.Decide.{ℕ-discrete}
-use lib.Dec.{eqb}
-use lib.ListN.{length, getD, set, drop, replicate, length-set, length-replicate}
-use lib.Seq.{getD-set-same, getD-set-other}
-use borrow.Author.Tests.{not-true, eqb-true}
+use lib.ListN.{length, set, drop, replicate, length-set, length-replicate}
+use borrow.Author.Tests.{not-true}
 use Rattle.transducer.specs.Format.{Transducer}
 use Rattle.transducer.specs.Path.{arc}
 use Rattle.paths.specs.declared.Count.{Count}
-use Rattle.paths.specs.declared.Swept.{Swept}
 use Rattle.paths.specs.Count.{paths-from, can-accept, goes-on, most-counted}
 use Rattle.paths.specs.Tally.{add, own, add-arcs, add-all, tally}
-use Rattle.paths.specs.Sweep.{at-state, marked, Shut, Leads-says, leads-on, Dead, Tallied, Swept-says, Settled, Totals-say}
+use Rattle.paths.specs.Sweep.{at-state, marked, leads-on, Dead, Tallied, Settled, Totals-say}
 use Rattle.paths.proofs.GoesOn.{can-accept-some}
-use Rattle.paths.proofs.Tally.{add-all-first, add-arcs-next, add-arcs-last, add-arcs-most, add-all-same}
+use Rattle.paths.proofs.Tally.{add-all-first, add-arcs-next, add-arcs-last, add-all-same}
 use Rattle.paths.proofs.Sweep.{finite-tally, dead-tally}
 use Rattle.paths.proofs.Ready.{Sized, Range, range-leaves, before-range, behind-range}
-use Rattle.paths.proofs.MarksInPlace.{clash, shut-next, leads-found, leads-more, range-leads, shut-marked, marked-set-other}
-use Rattle.paths.proofs.EndlessMarks.{Marking, marking-changed, marks-goes-on, marks-endless}
+use Rattle.paths.proofs.StoredCounts.{at-set-same, at-set-other, zeros}
+use Rattle.paths.proofs.MarksInPlace.{clash, shut-marked, marked-set-other}
+use Rattle.paths.proofs.EndlessMarks.{Marking, marks-goes-on, marks-endless}
 
 -- One state
 
--- Each arc before `seen` leads to a marked state, and what the arcs from i on add to the sum so far is the whole count.
-pub record Adding (t : Transducer) (ms : List Bool) (c : ℕ → ℕ) (s i seen to sum : ℕ) : Type 0 where
+-- What the arcs from i on add to the sum so far is the whole count.
+pub record Adding (t : Transducer) (c : ℕ → ℕ) (s i to sum : ℕ) : Type 0 where
   pub from : ℕ
   pub range : Range t s from to
-  pub low : from ≤ seen
-  pub shut : Shut t ms from seen
-  pub here : i < to → i ≡ seen
+  pub low : from ≤ i
   pub whole : add-arcs (drop i (t .arcs)) s c sum ≡ add-all t c s
 
-pub adding-first : (t : Transducer) → Sized t → (ms : List Bool) (c : ℕ → ℕ) (s from to sum : ℕ) → Range t s from to → sum ≡ own t s → Adding t ms c s from from to sum
-adding-first t z ms c s from to sum r e =
+pub adding-first : (t : Transducer) → Sized t → (c : ℕ → ℕ) (s from to sum : ℕ) → Range t s from to → sum ≡ own t s → Adding t c s from to sum
+adding-first t z c s from to sum r e =
     record {
       from = from;
       range = r;
       low = omega arith;
-      shut = λ i a b. absurd (omega arith);
-      here = λ _. refl;
       whole = rw e (sym (add-all-first t c s from (omega (arith, r .order, r .inside)) (λ j. before-range t (z .content) s from to r j)));
     }
 
--- The arc to add next comes nearer to the end.
-pub after-less : (i to sum j : ℕ) → i < to → j ≡ cond (eqb sum 99) to (i + 1) → to - j < to - i
-after-less i to sum j h e = on (eqb sum 99) e
-  where
-    on : (b : Bool) → j ≡ cond b to (i + 1) → to - j < to - i
-    on true q = omega arith
-    on false q = omega arith
-
-module _ (t : Transducer) (z : Sized t) (ms : List Bool) (c : ℕ → ℕ) (s i seen to sum : ℕ) (a : Adding t ms c s i seen to sum) where
+module _ (t : Transducer) (z : Sized t) (c : ℕ → ℕ) (s i to sum : ℕ) (a : Adding t c s i to sum) where
   pub adding-below : i < to → i < length (t .arcs)
   adding-below h = omega (arith, a .range .inside)
 
-  pub adding-next : (j next u : ℕ) → i < to → u ≡ arc t i .target → marked ms u ≡ true → next ≡ add sum (c u) → j ≡ cond (eqb next 99) to (i + 1)
-      → Adding t ms c s j (i + 1) to next
-  adding-next j next u h e m f n =
+  pub adding-next : (next u : ℕ) → i < to → u ≡ arc t i .target → next ≡ add sum (c u) → Adding t c s (i + 1) to next
+  adding-next next u h e f =
+      let leaves : arc t i .source ≡ s = range-leaves t (z .content) s (a .from) to (a .range) i (a .low) h in
       record {
         from = a .from;
         range = a .range;
-        low = omega (arith, low);
-        shut = shut-next t ms (a .from) i u (rw (a .here h) (a .shut)) e m;
-        here = λ l. here l (eqb next 99) refl;
-        whole = on (eqb next 99) refl;
+        low = omega (arith, a .low);
+        whole = rw (add-one i, f, e) (sym (add-arcs-next t c s i sum (adding-below h) leaves) ∙ a .whole);
       }
-    where
-      low : a .from ≤ i
-      low = omega (arith, a .low, a .here h)
-
-      leaves : arc t i .source ≡ s
-      leaves = range-leaves t (z .content) s (a .from) to (a .range) i low h
-
-      at : (b : Bool) → eqb next 99 ≡ b → j ≡ cond b to (i + 1)
-      at b q = n ∙ ap (λ (d : Bool). cond d to (i + 1)) q
-
-      here : j < to → (b : Bool) → eqb next 99 ≡ b → j ≡ i + 1
-      here l true q = absurd (omega (arith, at true q))
-      here l false q = at false q
-
-      step : add-arcs (drop (suc i) (t .arcs)) s c next ≡ add-all t c s
-      step = rw (f, e) (sym (add-arcs-next t c s i sum (adding-below h) leaves) ∙ a .whole)
-
-      on : (b : Bool) → eqb next 99 ≡ b → add-arcs (drop j (t .arcs)) s c next ≡ add-all t c s
-      on true q =
-          let full : next ≡ 99 = eqb-true next 99 q in
-          add-arcs-most (drop j (t .arcs)) s c next full ∙ (sym (add-arcs-most (drop (suc i) (t .arcs)) s c next full) ∙ step)
-      on false q = rw (at false q, add-one i) step
 
   pub adding-stop : to ≤ i → sum ≡ add-all t c s
   adding-stop h =
       sym (add-arcs-last t c s i sum (λ j m l. behind-range t (z .content) s (a .from) to (a .range) j (omega arith) l)) ∙ a .whole
 
-  -- An arc that leads to an unmarked state, among those that are added or behind them.
-
-  pub adding-found : (u : ℕ) → i < to → u ≡ arc t i .target → marked ms u ≡ false → leads-on t ms s ≡ true
-  adding-found u h e m = range-leads t z ms s (a .from) to true (a .range) (leads-found t ms (a .from) i to u (omega (arith, a .low, a .here h)) h e m)
-
-  pub adding-leads : (r : Bool) → Leads-says t ms seen to r → leads-on t ms s ≡ r
-  adding-leads r w = range-leads t z ms s (a .from) to r (a .range) (leads-more t ms (a .from) seen to r (a .shut) (a .low) w)
-
 -- All states
-
-at-set-same : (cs : List Count) (s : ℕ) (x : Count) → s < length cs → at-state (set cs s x) s ≡ x .value
-unfolding at-state
-at-set-same cs s x h = ap (λ (a : Count). a .value) (getD-set-same cs s x (record { value = 0 }) h)
-
-at-set-other : (cs : List Count) (s : ℕ) (x : Count) (u : ℕ) → (u ≡ s → ⊥) → at-state (set cs s x) u ≡ at-state cs u
-unfolding at-state
-at-set-other cs s x u h = ap (λ (a : Count). a .value) (getD-set-other cs s u x (record { value = 0 }) h)
 
 -- At first only the dead states are marked.
 pub tallied-dead : (t : Transducer) → Sized t → (ms : List Bool) → Dead t ms → Tallied t ms (replicate 1024 (record { value = 0 }))
@@ -122,16 +68,14 @@ tallied-dead t z ms d =
     record {
       long = length-replicate {A = Count} 1024 (record { value = 0 });
       rounds = 0;
-      tallied = λ s b m k l. zeros 1024 s ∙ sym (dead-tally k t s (λ p a. clash (can-accept (t .states) t s) (can-accept-some t (z .within) s b .1 (p, a)) (not-true (can-accept (t .states) t s) (sym (d .dead s b) ∙ m))));
+      tallied = λ s b m k l. zeros 1024 s ∙ sym
+          (dead-tally k t s (λ p a. clash (can-accept (t .states) t s) (can-accept-some t (z .within) s b .1 (p, a))
+          (not-true (can-accept (t .states) t s) (sym (d .dead s b) ∙ m))));
     }
-  where
-    zeros : (n s : ℕ) → getD {A = Count} (replicate n (record { value = 0 })) s (record { value = 0 }) .value ≡ 0
-    zeros zero s = refl
-    zeros (suc n) zero = refl
-    zeros (suc n) (suc s) = zeros n s
 
 -- The count of a state none of whose arcs leads to an unmarked one is a sum of tallies.
-pub tallied-set : (t : Transducer) → Sized t → (ms : List Bool) (cs : List Count) (s : ℕ) (x : Count) → Tallied t ms cs → s < t .states → leads-on t ms s ≡ false
+pub tallied-set : (t : Transducer) → Sized t → (ms : List Bool) (cs : List Count) (s : ℕ) (x : Count) → Tallied t ms cs → s < t .states
+    → leads-on t ms s ≡ false
     → x .value ≡ add-all t (at-state cs) s → Tallied t (set ms s true) (set cs s x)
 unfolding tally
 tallied-set t z ms cs s x w b shut e =
@@ -152,22 +96,21 @@ tallied-set t z ms cs s x w b shut e =
     on u l m k h (no n) = at-set-other cs s x u n ∙ w .tallied u l (sym (marked-set-other ms s true u n) ∙ m) k (omega arith)
 
 -- In the end each state is marked from which only finitely many accepting paths go.
-pub tallied-settled : (t : Transducer) → Sized t → (ms : List Bool) (cs : List Count) → Marking t ms → ((s : ℕ) → s < t .states → marked ms s ≡ false → leads-on t ms s ≡ true)
+pub tallied-settled : (t : Transducer) → Sized t → (ms : List Bool) (cs : List Count) → Marking t ms
+    → ((s : ℕ) → s < t .states → marked ms s ≡ false → leads-on t ms s ≡ true)
     → Tallied t ms cs → Settled t cs
 tallied-settled t z ms cs m rest w = record { long = w .long; counts = λ s b f. on s b f (marked ms s) refl }
   where
-    on : (s : ℕ) → s < t .states → goes-on (t .states) t s ≡ false → (c : Bool) → marked ms s ≡ c → at-state cs s ≡ min most-counted (length (paths-from (t .states) t s))
+    on : (s : ℕ) → s < t .states → goes-on (t .states) t s ≡ false → (c : Bool) → marked ms s ≡ c
+        → at-state cs s ≡ min most-counted (length (paths-from (t .states) t s))
     on s b f true q =
         let k : ℕ = w .rounds + t .states in
         w .tallied s b q k (omega arith) ∙ finite-tally t (z .within) s (record { below = b; stops = f }) k (omega arith)
     on s b f false q = clash (goes-on (t .states) t s) (marks-goes-on t z ms m rest s b q) f
 
--- The last sweep.
-pub totals-say : (t : Transducer) → Sized t → (before ms : List Bool) (start : ℕ) (r : Swept) → Marking t before → Swept-says t before ms r → r .again ≡ false → start ≡ t .start
-    → Totals-say t (record { counts = r .counts; endless = not (marked ms start) })
-totals-say t z before ms start r k w h e =
-    let m : Marking t ms = marking-changed t z (w .marks .changed) k in
-    record {
-      endless-is = marks-endless t z ms start m (w .marks .rest h) e;
-      settled = tallied-settled t z ms (r .counts) m (w .marks .rest h) (w .tallied);
-    }
+-- Nothing is left to count.
+pub totals-say : (t : Transducer) → Sized t → (ms : List Bool) (start : ℕ) (cs : List Count) → Marking t ms
+    → ((s : ℕ) → s < t .states → marked ms s ≡ false → leads-on t ms s ≡ true) → Tallied t ms cs → start ≡ t .start
+    → Totals-say t (record { counts = cs; endless = not (marked ms start) })
+totals-say t z ms start cs m rest w e =
+    record { endless-is = marks-endless t z ms start m rest e; settled = tallied-settled t z ms cs m rest w }

@@ -12,11 +12,11 @@ use Rattle.transducer.specs.Format.{Transducer}
 use Rattle.transducer.specs.Path.{arc}
 use Rattle.transducer.proofs.Runs.{Within}
 use Rattle.paths.specs.Count.{some-arc, can-accept, goes-on, endless}
-use Rattle.paths.specs.Sweep.{marked, Dead, Stopping, leads-on, Changed}
+use Rattle.paths.specs.Sweep.{marked, Dead, Stopping, leads-on}
 use Rattle.paths.proofs.GoesOn.{Some, some-arc-true, true-some-arc}
 use Rattle.paths.proofs.Stops.{open-arc, stopping-next, settled-goes-on, settled-endless}
 use Rattle.paths.proofs.Ready.{Sized}
-use Rattle.paths.proofs.MarksInPlace.{clash, not-so, marked-set-same, marked-set-other, changed-keeps}
+use Rattle.paths.proofs.MarksInPlace.{clash, not-so, marked-set-same, marked-set-other}
 
 -- Marks on their way, in which each state is marked from which nothing accepts.
 pub record Marking (t : Transducer) (ms : List Bool) : Type 0 where
@@ -48,7 +48,8 @@ leads-open t w ms m s h = found (some-arc-true (t .arcs) s (λ v. not (marked ms
 
 open-leads : (t : Transducer) (ms : List Bool) (s : ℕ) → leads-on t ms s ≡ false → open-arc t (can-accept (t .states) t) (marked ms) s ≡ false
 unfolding leads-on open-arc arc
-open-leads t ms s h = not-so (some-arc (t .arcs) s (λ v. can-accept (t .states) t v && not (marked ms v))) (λ q. found (some-arc-true (t .arcs) s (λ v. can-accept (t .states) t v && not (marked ms v)) q))
+open-leads t ms s h = not-so (some-arc (t .arcs) s (λ v. can-accept (t .states) t v && not (marked ms v)))
+    (λ q. found (some-arc-true (t .arcs) s (λ v. can-accept (t .states) t v && not (marked ms v)) q))
   where
     found : Some (t .arcs) s (λ v. can-accept (t .states) t v && not (marked ms v)) → ⊥
     found a =
@@ -70,7 +71,7 @@ marking-dead t ms d =
 
 -- On the way
 
-marking-more : (t : Transducer) → Sized t → (ms : List Bool) (s : ℕ) → Marking t ms → s < t .states → leads-on t ms s ≡ false → Marking t (set ms s true)
+pub marking-more : (t : Transducer) → Sized t → (ms : List Bool) (s : ℕ) → Marking t ms → s < t .states → leads-on t ms s ≡ false → Marking t (set ms s true)
 marking-more t z ms s m b shut =
     record {
       long = length-set ms s true ∙ m .long;
@@ -84,9 +85,6 @@ marking-more t z ms s m b shut =
     dead u l q (yes y) = rw y (marked-set-same ms s true (omega (arith, m .long, z .states)))
     dead u l q (no n) = marked-set-other ms s true u n ∙ m .dead u l q
 
-pub marking-changed : (t : Transducer) → Sized t → {before after : List Bool} → Changed t true before after → Marking t before → Marking t after
-marking-changed t z k m = changed-keeps t true (Marking t) (λ ms s p b _ shut. marking-more t z ms s p b shut) k m
-
 -- In the end
 
 -- From a state that is left unmarked infinitely many accepting paths go.
@@ -96,7 +94,8 @@ marks-goes-on t z ms m rest s b e =
     settled-goes-on t (z .within) (can-accept (t .states) t) (λ u l. refl) (marked ms) (λ u l q. leads-open t (z .within) ms m u (rest u l q))
     (t .states) s b (alive t ms m s b e) e
 
-pub marks-endless : (t : Transducer) → Sized t → (ms : List Bool) (start : ℕ) → Marking t ms → ((s : ℕ) → s < t .states → marked ms s ≡ false → leads-on t ms s ≡ true)
+pub marks-endless : (t : Transducer) → Sized t → (ms : List Bool) (start : ℕ) → Marking t ms
+    → ((s : ℕ) → s < t .states → marked ms s ≡ false → leads-on t ms s ≡ true)
     → start ≡ t .start → not (marked ms start) ≡ endless t
 marks-endless t z ms start m rest e =
     rw e (sym (settled-endless t (z .within) (can-accept (t .states) t) (λ s b. refl) (marked ms) (m .stopping)

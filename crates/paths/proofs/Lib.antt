@@ -9,6 +9,9 @@ pub mod NthPath
 pub mod Nth
 pub mod Walk
 pub mod Ready
+pub mod StoredCounts
+pub mod TopSorted
+pub mod Counting
 pub mod CountsInPlace
 pub mod MarksInPlace
 pub mod EndlessMarks

@@ -9,11 +9,11 @@ use lib.ListN.{length, getD}
 use borrow.Author.Tests.{eq-eqb, ne-eqb}
 use Rattle.wire.specs.Bytes.{Bytes}
 use Rattle.transducer.specs.declared.Header.{Header}
-use Rattle.transducer.specs.Format.{Transducer, decode, refusal, head-finals, head-start}
+use Rattle.transducer.specs.Format.{Transducer, arcs-at, decode, refusal, head-finals, head-start}
 use Rattle.transducer.specs.Path.{arc, is-final, final-weight}
 use Rattle.transducer.specs.Leaf.{header-of, Opened, arcs-below, Indexed, final-code, Finals-by-state}
 use Rattle.transducer.proofs.Good.{Content}
-use Rattle.transducer.proofs.Index.{arcs-below-length, arcs-below-mono, arcs-of-state, state-of-arcs}
+use Rattle.transducer.proofs.Index.{arcs-below-length, arcs-below-mono, arcs-of-state, state-of-arcs, arcs-below-states}
 use Rattle.transducer.proofs.Offsets.{length-accepted, accepted-within, accepted-good, decode-states, decode-start, length-arcs}
 use Rattle.transducer.proofs.Runs.{Within, states-good-within}
 use Rattle.paths.specs.Tally.{own}
@@ -66,6 +66,10 @@ headed bs bytes ok head e =
       long = omega (arith, length-accepted bs bytes ok);
     }
 
+-- Where the arcs begin, as it is computed.
+pub headed-opened : (bs : List ℕ) (head : Header) (first : ℕ) → Headed bs head → first ≡ arcs-at (head .finals) → Opened bs first
+headed-opened bs head first h e = rw e (h .opened)
+
 -- The arcs of a state: from one entry of the index to below the next.
 pub record Range (t : Transducer) (s from to : ℕ) : Type 0 where
   pub from-is : from ≡ arcs-below s (t .arcs)
@@ -84,6 +88,10 @@ range t index s from to x h e f =
       order = omega (arith, a, b, arcs-below-mono s (s + 1) (t .arcs) (omega arith));
       inside = omega (arith, b, arcs-below-length (s + 1) (t .arcs));
     }
+
+-- Behind the last state stands the number of arcs.
+pub index-last : (t : Transducer) (index : List ℕ) (n : ℕ) → Sized t → Indexed t index → n ≡ t .states → getD index n 0 ≡ length (t .arcs)
+index-last t index n z x e = x .at-state n (omega arith) ∙ (ap (λ (s : ℕ). arcs-below s (t .arcs)) e ∙ arcs-below-states t (z .content))
 
 -- An arc of the range leaves the state; others do not.
 module _ (t : Transducer) (good : Content t) (s from to : ℕ) (r : Range t s from to) where

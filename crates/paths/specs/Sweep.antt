@@ -8,7 +8,6 @@ use Rattle.transducer.specs.Format.{Transducer, decode}
 use Rattle.transducer.specs.Path.{arc}
 use Rattle.transducer.specs.Leaf.{Opened, Indexed}
 use Rattle.paths.specs.declared.Count.{Count}
-use Rattle.paths.specs.declared.Swept.{Swept}
 use Rattle.paths.specs.declared.Totals.{Totals}
 use Rattle.paths.specs.Count.{paths-from, some-arc, can-accept, goes-on, endless, most-counted}
 use Rattle.paths.specs.Tally.{tally}
@@ -85,11 +84,6 @@ pub record Tallied (t : Transducer) (ms : List Bool) (cs : List Count) : Type 0 
   pub long : length cs ≡ 1024
   pub rounds : ℕ
   pub tallied : (s : ℕ) → s < t .states → marked ms s ≡ true → (k : ℕ) → rounds ≤ k → at-state cs s ≡ tally k t s
-
--- What a sweep over marks and counts leaves.
-pub record Swept-says (t : Transducer) (before after : List Bool) (r : Swept) : Type 0 where
-  pub marks : Marked-says t true before after (r .again)
-  pub tallied : Tallied t after (r .counts)
 
 -- In the end: the count of each state from which only finitely many accepting paths go.
 pub record Settled (t : Transducer) (cs : List Count) : Type 0 where

@@ -1,19 +1,9 @@
-// Where arcs lead.
-ghost use mathlib.Core.Path.{_≡_};
-ghost use Prim.Native.Nat.{_≤_, _<_};
+// Arcs that lead to unmarked states.
+ghost use Prim.Native.Nat.{_≤_};
 ghost use lib.ListN.{length};
 ghost use Rattle.transducer.specs.Format.{decode};
-ghost use Rattle.transducer.specs.Path.{arc};
 ghost use Rattle.transducer.specs.Leaf.{Opened};
 ghost use Rattle.paths.specs.Sweep.{Leads-says};
-
-// Where arc `i` leads.
-pub fn target(table: &[u8], first: usize, i: usize) -> usize
-    requires { ⌜ Opened (now table) first × (i < length (decode (now table) .arcs)) ⌝ }
-    ensures { λ r. ⌜ (r ≡ arc (decode (now (table .entry))) i .target) × (r < decode (now (table .entry)) .states) ⌝ }
-{
-    wire::u16_at(table, first + 16 * i + 10) as usize
-}
 
 // Whether some arc from number `from` on, before `end`, leads to an unmarked state.
 pub fn leads_on(table: &[u8], first: usize, from: usize, end: usize, marks: &[bool; 1024]) -> bool
@@ -22,7 +12,7 @@ pub fn leads_on(table: &[u8], first: usize, from: usize, end: usize, marks: &[bo
 {
     let mut i = from;
     while i < end {
-        let to = target(table, first, i);
+        let to = reach::target(table, first, i);
         if !marks[to] {
             return true;
         }

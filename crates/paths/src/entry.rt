@@ -13,10 +13,10 @@ use crate::Totals;
 use crate::counts;
 use crate::marks;
 use crate::path;
+use crate::sorted;
 
-// The counts of the accepting paths from each state, and whether those from the start are infinitely many: what the count, the k-th path and the
-// listing share.
-pub fn counts_by_state(
+// The counts by the dead states and by sweeps, for states in any order.
+fn counts_unsorted(
     table: &[u8],
     first: usize,
     states: usize,
@@ -29,6 +29,41 @@ pub fn counts_by_state(
 {
     let dead = marks::dead_states(table, first, states, index, codes);
     counts::counts_of(table, first, states, start, index, codes, dead)
+}
+
+// The counts of the accepting paths from each state, and whether those from the start are infinitely many: what the k-th path and the listing
+// share.
+pub fn counts_by_state(
+    table: &[u8],
+    first: usize,
+    states: usize,
+    start: usize,
+    index: &[u16; 1025],
+    codes: &[u32; 1024],
+) -> Totals
+    requires { ⌜ Ready (now table) first states (now index) × (start ≡ decode (now table) .start) × Finals-by-state (decode (now table)) (now codes) ⌝ }
+    ensures { λ r. ⌜ Totals-say (decode (now (table .entry))) r ⌝ }
+{
+    let arcs = index[states] as usize;
+    let empty = sorted::empty_by_codes(table, states, codes);
+    let pass = sorted::counts_sorted(table, first, arcs, empty);
+    if pass.sorted {
+        let all = pass.counts;
+        return Totals {
+            counts: all,
+            endless: false,
+        };
+    }
+    counts_unsorted(table, first, states, start, index, codes)
+}
+
+fn counted(all: Count) -> Counted
+    ensures { λ r. ⌜ r ≡ record { refusal = 0; count = all .value } ⌝ }
+{
+    Counted {
+        refusal: 0,
+        count: all.value as u32,
+    }
 }
 
 // The number of accepting paths, 99 standing for 99 or more.
@@ -46,22 +81,25 @@ pub fn count(table: &[u8]) -> Counted
     let n = head.states as usize;
     let f = head.finals as usize;
     let start = head.start as usize;
-    let first = 12 + 10 * f;
-    let index = transducer::first_arcs_by_blocks(table, first, n, head.arcs as usize);
+    let m = head.arcs as usize;
+    let first = transducer::arcs_at(f);
+    let empty = sorted::empty_paths(table, f);
+    let pass = sorted::counts_sorted(table, first, m, empty);
+    if pass.sorted {
+        let all = pass.counts[start];
+        return counted(all);
+    }
+    let index = transducer::first_arcs_by_blocks(table, first, n, m);
     let codes = transducer::final_codes(table, f);
-    let totals = counts_by_state(table, first, n, start, &index, &codes);
+    let totals = counts_unsorted(table, first, n, start, &index, &codes);
     if totals.endless {
         return Counted {
             refusal: 14,
             count: 0,
         };
     }
-    let counts = totals.counts;
-    let all = counts[start];
-    Counted {
-        refusal: 0,
-        count: all.value,
-    }
+    let all = totals.counts[start];
+    counted(all)
 }
 
 // What is answered where no path is told: the refusal, and zeros.
@@ -96,16 +134,18 @@ pub fn nth(table: &[u8], k: u32, arcs: &mut [u16], labels: &mut [u16]) -> Told
     let n = head.states as usize;
     let f = head.finals as usize;
     let start = head.start as usize;
-    let first = 12 + 10 * f;
-    let index = transducer::first_arcs_by_blocks(table, first, n, head.arcs as usize);
-    let codes = transducer::final_codes(table, f);
+    let first = transducer::arcs_at(f);
+    let mut index = [0u16; 1025];
+    transducer::put_index(table, first, n, head.arcs as usize, &mut index);
+    let mut codes = [0u32; 1024];
+    transducer::put_codes(table, f, &mut codes);
     let totals = counts_by_state(table, first, n, start, &index, &codes);
     if totals.endless {
         return refused(14);
     }
     let counts = totals.counts;
     let all = counts[start];
-    if all.value <= k {
+    if (all.value as u32) <= k {
         return refused(15);
     }
     let len = path::walk(table, first, n, start, k, &index, &codes, counts, arcs);

@@ -4,6 +4,7 @@ mod counts;
 mod entry;
 mod marks;
 mod path;
+mod sorted;
 mod turn;
 
 pub use entry::count as path_count;
@@ -15,7 +16,7 @@ pub use path::walk as nth_arcs;
 
 // A count of paths: 99 stands for 99 or more.
 pub struct Count {
-    pub value: u32,
+    pub value: u8,
 }
 
 // What the path count answers: the refusal or 0, then the count, 0 on refusal.
@@ -24,10 +25,10 @@ pub struct Counted {
     pub count: u32,
 }
 
-// Counts after a sweep, and whether another one may change more.
-pub struct Swept {
+// The counts that one pass over the arcs comes to, and whether the states are topologically sorted: else the counts say nothing.
+pub struct Pass {
     pub counts: [Count; 1024],
-    pub again: bool,
+    pub sorted: bool,
 }
 
 // The counts from each state, and whether accepting paths are infinitely many.

@@ -12,7 +12,6 @@ ghost use Rattle.paths.specs.Sweep.{Ready, Settled};
 ghost use Rattle.paths.specs.Entry.{Tells};
 use crate::Count;
 use crate::Told;
-use crate::arcs;
 use crate::counts;
 
 // Puts the arc numbers of the k-th path into `arcs`, zeros behind; how many there are.
@@ -37,18 +36,20 @@ pub fn walk(
     let mut n: usize = 0;
     loop {
         let mine = counts::own(codes[s]);
-        if left < mine.value {
+        let own = mine.value as u32;
+        if left < own {
             break;
         }
-        left -= mine.value;
+        left -= own;
         let mut i = index[s] as usize;
         let next = loop {
-            let to = arcs::target(table, first, i);
+            let to = reach::target(table, first, i);
             let count = all[to];
-            if left < count.value {
+            let there = count.value as u32;
+            if left < there {
                 break to;
             }
-            left -= count.value;
+            left -= there;
             i += 1;
         };
         arcs[n] = i as u16;

@@ -36,7 +36,7 @@ low : (c : tie.After-slice-known) → start c .args .start < 1024
 low c = omega (arith, start c .pre .0 .start-is, size c .within .starts, size c .states)
 
 abbrev many : tie.Then1 → tie.After-slice-known
-many c = c .before .before
+many c = c .before .before .before
 
 is-many : (c : tie.Then1) → counted-text (decode (start (many c) .args .table .now)) ≡ many-word
 unfolding at-state
@@ -45,7 +45,7 @@ is-many c =
     counted-many (decode (x .args .table .now)) (at-state (x .args .t7) (x .args .start)) (count (many c)) (c .if1 .taken)
 
 abbrev few : tie.Else1 → tie.After-slice-known
-few c = c .before .before
+few c = c .before .before .before
 
 abbrev number : (c : tie.Else1) → ℕ
 number c = at-state (start (few c) .args .t7) (start (few c) .args .start)
@@ -64,11 +64,11 @@ room c =
     let t = decode (start (few c) .args .table .now) in
     omega (arith, ap length (is-few c) ∙ length-append (decimal (number c)) (10 ∷ lines t (number c)), start (few c) .pre .1)
 
-mul-all : tie.Need-mul-all
-mul-all c = omega (arith, low c)
-
 array-copy-out-all : tie.Need-array-copy-out-all
 array-copy-out-all c = low c
+
+cast-count : tie.Need-cast-count
+cast-count c = search needs
 
 slice-aggregate-put-bytes : tie.Need-slice-aggregate-put-bytes
 slice-aggregate-put-bytes c = search needs
@@ -132,8 +132,8 @@ pub put-counted-spec : {M : Type 1} → statement M
 put-counted-spec =
     tie.close
     (tie.spec
-    mul-all
     array-copy-out-all
+    cast-count
     slice-aggregate-put-bytes
     put-bytes-requires
     same-length

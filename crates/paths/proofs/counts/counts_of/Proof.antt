@@ -1,82 +1,97 @@
--- The invariant: the marks are on their way (`Marking`), and each marked state has its count (`Tallied`). Each sweep that sets a mark leaves
--- fewer states unmarked.
-use mathlib.Core.Bool.{true}
+-- What each call asks for is what those before it leave.
+use mathlib.Core.Path.{_≡_, refl}
+use Prim.Native.Nat.{ℕ, _≤_}
 use native.Mathlib.Omega.{arith}
-use borrow.Author.Tests.{not-true, not-false}
+use lib.ListN.{length, getD, length-replicate}
 use Rattle.wire.specs.Bytes.{Bytes}
 use Rattle.transducer.specs.Format.{decode}
-use Rattle.paths.specs.Sweep.{marked, unlike, Tallied}
-use Rattle.paths.proofs.Ready.{Sized, sized}
-use Rattle.paths.proofs.EndlessMarks.{Marking, marking-dead, marking-changed}
-use Rattle.paths.proofs.CountsInPlace.{tallied-dead, totals-say}
+use Rattle.paths.specs.Counting.{by-marks}
+use Rattle.paths.proofs.Ready.{Sized, sized, index-last}
+use Rattle.paths.proofs.Counting.{counting-first, opened-all, stacked-all}
 use Rattle.paths.proofs.counts.counts_of.Statement.{statement}
 use Rattle.paths.proofs.counts.counts_of.Tie as tie
 
-abbrev Inv-loop : tie.InvT-loop
-Inv-loop table first states start index codes marks₀ counts₀ down₀ turns₀ twice₀ marks counts down turns twice = Marking (decode table) marks × Tallied (decode table) marks counts
-
-abbrev μ-loop : tie.MeasureT-loop
-μ-loop table first states start index codes marks₀ counts₀ down₀ turns₀ twice₀ marks counts down turns twice = unlike true (decode table .states) marks
-
 -- The entry, with what is known of the bytes.
 abbrev Entry : Type 0
-Entry = tie.After-shared-slice-known Inv-loop μ-loop
+Entry = tie.After-shared-slice-known
 
-size : (c : Entry) → Sized (decode (c .before .args .table .now))
+abbrev start : Entry → tie.Start
+start c = c .before
+
+size : (c : Entry) → Sized (decode (start c .args .table .now))
 size c =
-    let bs = c .before .args .table .now in
+    let bs = start c .args .table .now in
     let bytes : Bytes bs = λ i. omega (arith, c .shared-slice-known .given i) in
-    sized bs bytes (c .before .pre .0 .opened .accepted)
+    sized bs bytes (start c .pre .0 .opened .accepted)
 
--- The entry from a turn of the loop.
-abbrev entry : tie.After-sweep Inv-loop μ-loop → Entry
-entry c = c .before .before .before
+few : (c : Entry) → start c .args .states ≤ 1024
+few c = omega (arith, start c .pre .0 .states-are, size c .states)
 
-loop-holds : tie.Need-loop-holds Inv-loop μ-loop
-loop-holds c =
-    let t = decode (c .before .args .table .now) in
-    let dead = c .before .pre .3 in
-    (marking-dead t (c .before .args .dead) dead, tallied-dead t (size c) (c .before .args .dead) dead)
+arcs : (c : Entry) → getD (start c .args .index .now) (start c .args .states) 0 ≡ length (decode (start c .args .table .now) .arcs)
+arcs c = index-last (decode (start c .args .table .now)) (start c .args .index .now) (start c .args .states) (size c) (start c .pre .0 .indexed)
+    (start c .pre .0 .states-are)
 
-sweep-requires : tie.Need-sweep-requires Inv-loop μ-loop
-sweep-requires c κs =
-    let pre = c .before .before .before .pre in
-    (pre .0, pre .2, c .before .loop .inv .0 .long, c .before .loop .inv .1)
+-- Places to look back to.
+abbrev opening : tie.After-count-open → Entry
+opening c = c .before .before .before .before
 
-array-read-finite : tie.Need-array-read-finite Inv-loop μ-loop
-array-read-finite c =
-    let at = entry (c .before .before) in
-    omega (arith, at .before .pre .1, size at .within .starts, size at .states)
+abbrev indexing : tie.After-by-target → tie.After-count-open
+indexing c = c .before .before .before
 
-loop-less : tie.Need-loop-less Inv-loop μ-loop
-loop-less c =
-    let swept = c .before .before .before .sweep in
-    swept .ensures .marks .fewer (not-false (swept .result .again) (c .before .if1 .left))
+abbrev pushing : tie.After-push-shut → tie.After-by-target
+pushing c = c .before .before .before .before
 
-loop-again : tie.Need-loop-again Inv-loop μ-loop
-loop-again c =
-    let swept = c .before .before .before in
-    let at = entry swept in
-    (marking-changed (decode (at .before .args .table .now)) (size at) (swept .sweep .ensures .marks .changed) (swept .before .before .loop .inv .0), swept .sweep .ensures .tallied)
+abbrev pushed : tie.After-stack2 → tie.After-push-shut
+pushed c = c .before .before .before .before .before
 
-returns : tie.Need-returns Inv-loop μ-loop
-unfolding marked
-returns c =
-    let swept = c .before .before .before in
-    let at = entry swept in
-    let a = at .before .args in
-    totals-say (decode (a .table .now)) (size at) (swept .before .before .loop .marks) (swept .sweep .last .1 .1 .1 .1 .1 .1 .0) (a .start) (swept .sweep .result) (swept .before .before .loop .inv .0)
-    (swept .sweep .ensures) (not-true (swept .sweep .result .again) (c .before .if1 .taken)) (at .before .pre .1)
+mul-arcs : tie.Need-mul-arcs
+mul-arcs c = omega (arith, few c)
+
+element-copy-out-arcs : tie.Need-element-copy-out-arcs
+element-copy-out-arcs c = omega (arith, few c)
+
+cast-arcs : tie.Need-cast-arcs
+cast-arcs c = omega (arith, arcs (c .before), size (c .before) .arcs)
+
+count-open-requires : tie.Need-count-open-requires
+count-open-requires c κs =
+    let e = c .before .before .before in
+    (start e .pre .0 .opened, arcs e, refl)
+
+by-target-requires : tie.Need-by-target-requires
+by-target-requires c κs =
+    let e = opening (c .before .before) in
+    (start e .pre .0 .opened, start e .pre .0 .states-are, arcs e, refl, length-replicate {A = ℕ} 3072 0)
+
+push-shut-requires : tie.Need-push-shut-requires
+push-shut-requires c κs = (few (opening (indexing (c .before .before .before))), length-replicate {A = ℕ} 1024 0)
+
+count-all-requires : tie.Need-count-all-requires
+count-all-requires c κs =
+    let put = pushed c in
+    let by = pushing put in
+    let opened = indexing by in
+    let e = opening opened in
+    let a = start e .args in
+    let t = decode (a .table .now) in
+    let pre = start e .pre in (
+      pre .0 .opened,
+      pre .0 .indexed,
+      pre .1,
+      pre .2,
+      by .by-target .ensures,
+      pre .3,
+      counting-first t (size e) (a .dead) (opened .count-open .last .1 .1 .1 .1 .0) (put .push-shut .last .1 .1 .1 .0) (put .push-shut .result) (pre .3)
+          (opened-all t (by-marks t (a .dead)) (getD (a .index .now) (a .states) 0) (opened .count-open .last .1 .1 .1 .1 .0) (arcs e)
+          (opened .count-open .ensures))
+          (stacked-all t (a .states) (a .dead) (opened .count-open .last .1 .1 .1 .1 .0) (put .push-shut .last .1 .1 .1 .0) (put .push-shut .result)
+          (pre .0 .states-are)
+          (put .push-shut .ensures)),
+    )
+
+returns : tie.Need-returns
+returns c = c .count-all .ensures
 
 pub counts-of-spec : {M : Type 1} → statement M
 counts-of-spec =
-    tie.close
-    (tie.spec
-    Inv-loop
-    μ-loop
-    loop-holds
-    sweep-requires
-    array-read-finite
-    loop-less
-    loop-again
-    returns)
+    tie.close (tie.spec mul-arcs element-copy-out-arcs cast-arcs count-open-requires by-target-requires push-shut-requires count-all-requires returns)

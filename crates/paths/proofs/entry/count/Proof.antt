@@ -1,44 +1,56 @@
 -- `count-bad`, `count-endless` and `count-found` say what is answered in each case; `headed` has the numbers that the calls ask for.
 use borrow.Author.Needs.{needs}
-use mathlib.Core.Path.{_≡_, sym, _∙_}
-use Prim.Native.Nat.{_+_, _*_}
+use mathlib.Core.Path.{_≡_, refl, sym, ap, _∙_}
+use mathlib.Core.Bool.{false}
 use native.Mathlib.Omega.{arith}
 use Rattle.wire.specs.Bytes.{Bytes}
 use Rattle.transducer.specs.Format.{refusal, decode}
+use Rattle.transducer.specs.Leaf.{Opened}
 use Rattle.transducer.proofs.Offsets.{length-accepted}
+use Rattle.paths.specs.declared.Counted.{Counted}
 use Rattle.paths.specs.Sweep.{Ready, at-state}
-use Rattle.paths.proofs.Ready.{Sized, Headed, sized, headed}
+use Rattle.paths.proofs.Ready.{Sized, Headed, sized, headed, headed-opened}
 use Rattle.paths.proofs.CountSays.{count-bad, count-endless, count-found}
 use Rattle.paths.proofs.entry.count.Statement.{statement}
 use Rattle.paths.proofs.entry.count.Tie as tie
 
--- The bytes are accepted.
-is-bytes : (c : tie.Else1) → Bytes (c .before .before .before .args .table .now)
-is-bytes c = λ i. omega (arith, c .before .before .shared-slice-known .given i)
+-- Places to look back to, from the last one to the first.
+abbrev at-pass : tie.After-counts-unsorted → tie.After-counts-sorted
+at-pass c = c .before .before .before .before .before .before
 
-accepted : (c : tie.Else1) → refusal (c .before .before .before .args .table .now) ≡ 0
-accepted c = sym (c .before .refusal .ensures) ∙ c .if1 .left
+abbrev at-first : tie.After-counts-sorted → tie.After-arcs-at
+at-first c = c .before .before
 
-size : (c : tie.Else1) → Sized (decode (c .before .before .before .args .table .now))
-size c = sized (c .before .before .before .args .table .now) (is-bytes c) (accepted c)
-
-head : (c : tie.After-header) → Headed (c .before .before .before .before .args .table .now) (c .header .result)
-head c = headed (c .before .before .before .before .args .table .now) (is-bytes (c .before)) (accepted (c .before)) (c .header .result) (c .header .ensures)
-
--- Places to look back to.
 abbrev at-header : tie.After-struct-known4 → tie.After-header
 at-header c = c .before .before .before .before
 
-abbrev at-index : tie.After-codes → tie.After-first-arcs-by-blocks
-at-index c = c .before .before .before
+abbrev start : tie.Else1 → tie.Start
+start c = c .before .before .before
 
-abbrev at-codes : tie.After-counts-by-state → tie.After-codes
-at-codes c = c .before
+-- The bytes are accepted.
+is-bytes : (c : tie.Else1) → Bytes (start c .args .table .now)
+is-bytes c = λ i. omega (arith, c .before .before .shared-slice-known .given i)
 
-ready : (c : tie.After-first-arcs-by-blocks) → Ready (at-header (c .before) .before .before .before .before .args .table .now) (12 + 10 * at-header (c .before) .header .result .finals) (at-header (c .before) .header .result .states) (c .first-arcs-by-blocks .result)
+accepted : (c : tie.Else1) → refusal (start c .args .table .now) ≡ 0
+accepted c = sym (c .before .refusal .ensures) ∙ c .if1 .left
+
+size : (c : tie.Else1) → Sized (decode (start c .args .table .now))
+size c = sized (start c .args .table .now) (is-bytes c) (accepted c)
+
+head : (c : tie.After-header) → Headed (start (c .before) .args .table .now) (c .header .result)
+head c = headed (start (c .before) .args .table .now) (is-bytes (c .before)) (accepted (c .before)) (c .header .result) (c .header .ensures)
+
+opened : (c : tie.After-arcs-at) → Opened (start (at-header (c .before) .before) .args .table .now) (c .arcs-at .result)
+opened c =
+    let header = at-header (c .before) in
+    headed-opened (start (header .before) .args .table .now) (header .header .result) (c .arcs-at .result) (head header) (c .arcs-at .ensures)
+
+ready : (c : tie.After-first-arcs-by-blocks)
+    → Ready (start (at-header (at-first (c .before .before) .before) .before) .args .table .now) (at-first (c .before .before) .arcs-at .result)
+    (at-header (at-first (c .before .before) .before) .header .result .states) (c .first-arcs-by-blocks .result)
 ready c =
-    let known = head (at-header (c .before)) in
-    record { opened = known .opened; states-are = known .states-are; indexed = c .first-arcs-by-blocks .ensures }
+    let first = at-first (c .before .before) in
+    record { opened = opened first; states-are = head (at-header (first .before)) .states-are; indexed = c .first-arcs-by-blocks .ensures }
 
 refusal-requires : tie.Need-refusal-requires
 refusal-requires c κs = tt
@@ -47,7 +59,7 @@ returns : tie.Need-returns
 returns c = count-bad (c .before .refusal .ensures) (c .if1 .taken)
 
 header-requires : tie.Need-header-requires
-header-requires c κs = omega (arith, length-accepted (c .before .before .before .args .table .now) (is-bytes c) (accepted c))
+header-requires c κs = omega (arith, length-accepted (start c .args .table .now) (is-bytes c) (accepted c))
 
 cast-n : tie.Need-cast-n
 cast-n c = search needs
@@ -58,47 +70,74 @@ cast-f c = search needs
 cast-start : tie.Need-cast-start
 cast-start c = search needs
 
-mul-first : tie.Need-mul-first
-mul-first c = omega (arith, head (c .before .before .before) .few-finals)
+cast-m : tie.Need-cast-m
+cast-m c = search needs
 
-add-first : tie.Need-add-first
-add-first c = omega (arith, head (c .before .before .before) .few-finals)
+arcs-at-requires : tie.Need-arcs-at-requires
+arcs-at-requires c κs = omega (arith, head (at-header c) .few-finals)
 
-cast-first-arcs-by-blocks : tie.Need-cast-first-arcs-by-blocks
-cast-first-arcs-by-blocks c = search needs
+empty-paths-requires : tie.Need-empty-paths-requires
+empty-paths-requires c κs = (opened c .accepted, head (at-header (c .before)) .finals-are)
 
-first-arcs-by-blocks-requires : tie.Need-first-arcs-by-blocks-requires
-first-arcs-by-blocks-requires c κs = let known = head (at-header c) in (known .opened, known .states-are, known .arcs-are)
+counts-sorted-requires : tie.Need-counts-sorted-requires
+counts-sorted-requires c κs = (opened (c .before), head (at-header (c .before .before)) .arcs-are, c .empty-paths .ensures)
 
-final-codes-requires : tie.Need-final-codes-requires
-final-codes-requires c κs = let known = head (at-header (c .before)) in (known .opened .accepted, known .finals-are)
+element-copy-out-all : tie.Need-element-copy-out-all
+element-copy-out-all c = head (at-header (at-first (c .before) .before)) .start-below
 
-counts-by-state-requires : tie.Need-counts-by-state-requires
-counts-by-state-requires c κs =
-    let index = at-index c in
-    (ready index, head (at-header (index .before)) .start-is, c .before .before .final-codes .ensures)
+counted-requires : tie.Need-counted-requires
+counted-requires c κs = tt
 
 returns-2 : tie.Need-returns-2
+unfolding at-state
 returns-2 c =
-    let counted = c .before in
-    let passed = at-header (at-index (at-codes counted) .before) .before in
-    count-endless (passed .before .refusal .ensures) (passed .if1 .left) (counted .counts-by-state .ensures .endless-is) (c .if2 .taken)
+    let passed = c .before .before in
+    let pass = passed .before .counts-sorted in
+    let header = at-header (at-first (passed .before) .before) in
+    let accepted = header .before in
+    let totals = pass .ensures .complete (passed .if2 .taken) in
+    rw (c .counted .ensures) (count-found {b = false} {cs = pass .result .counts} {start = header .header .result .start} (size accepted)
+    (accepted .before .refusal .ensures)
+    (accepted .if1 .left) (totals .endless-is) refl (totals .settled) (head header .start-is))
 
-mul-all : tie.Need-mul-all
-mul-all c = omega (arith, head (at-header (at-index (at-codes (c .before .before)) .before)) .start-below)
+first-arcs-by-blocks-requires : tie.Need-first-arcs-by-blocks-requires
+first-arcs-by-blocks-requires c κs =
+    let first = at-first (c .before) in
+    let known = head (at-header (first .before)) in
+    (opened first, known .states-are, known .arcs-are)
 
-array-copy-out-all : tie.Need-array-copy-out-all
-array-copy-out-all c = head (at-header (at-index (at-codes (c .before .before)) .before)) .start-below
+final-codes-requires : tie.Need-final-codes-requires
+final-codes-requires c κs =
+    let first = at-first (c .before .before) in
+    (opened first .accepted, head (at-header (first .before)) .finals-are)
+
+counts-unsorted-requires : tie.Need-counts-unsorted-requires
+counts-unsorted-requires c κs =
+    let index = c .before .before .before in
+    (ready index, head (at-header (at-first (index .before .before) .before)) .start-is, c .before .before .final-codes .ensures)
 
 returns-3 : tie.Need-returns-3
-unfolding at-state
 returns-3 c =
-    let passed = c .before .before in
-    let counted = passed .before in
-    let header = at-header (at-index (at-codes counted) .before) in
+    let asked = c .before in
+    let accepted = at-header (at-first (at-pass asked) .before) .before in
+    count-endless (accepted .before .refusal .ensures) (accepted .if1 .left) (asked .counts-unsorted .ensures .endless-is) (c .if3 .taken)
+
+element-copy-out-all-2 : tie.Need-element-copy-out-all-2
+element-copy-out-all-2 c = head (at-header (at-first (at-pass (c .before)) .before)) .start-below
+
+counted-requires-2 : tie.Need-counted-requires-2
+counted-requires-2 c κs = tt
+
+returns-4 : tie.Need-returns-4
+unfolding at-state
+returns-4 c =
+    let finite = c .before .before in
+    let totals = finite .before .counts-unsorted in
+    let header = at-header (at-first (at-pass (finite .before)) .before) in
     let accepted = header .before in
-    count-found {cs = counted .counts-by-state .result .counts} {start = header .header .result .start} (size accepted) (accepted .before .refusal .ensures) (accepted .if1 .left)
-    (counted .counts-by-state .ensures .endless-is) (passed .if2 .left) (counted .counts-by-state .ensures .settled) (head header .start-is)
+    rw (c .counted2 .ensures) (count-found {cs = totals .result .counts} {start = header .header .result .start} (size accepted)
+    (accepted .before .refusal .ensures)
+    (accepted .if1 .left) (totals .ensures .endless-is) (finite .if3 .left) (totals .ensures .settled) (head header .start-is))
 
 pub count-spec : {M : Type 1} → statement M
 count-spec =
@@ -110,13 +149,17 @@ count-spec =
     cast-n
     cast-f
     cast-start
-    mul-first
-    add-first
-    cast-first-arcs-by-blocks
+    cast-m
+    arcs-at-requires
+    empty-paths-requires
+    counts-sorted-requires
+    element-copy-out-all
+    counted-requires
+    returns-2
     first-arcs-by-blocks-requires
     final-codes-requires
-    counts-by-state-requires
-    returns-2
-    mul-all
-    array-copy-out-all
-    returns-3)
+    counts-unsorted-requires
+    returns-3
+    element-copy-out-all-2
+    counted-requires-2
+    returns-4)

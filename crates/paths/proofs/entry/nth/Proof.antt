@@ -1,15 +1,16 @@
 -- `nth-bad` to `nth-found` say what is answered in each case; `headed` has the numbers that the calls ask for, `found` what is told of the path.
 use borrow.Author.Needs.{needs}
-use mathlib.Core.Path.{_≡_, sym, _∙_}
+use mathlib.Core.Path.{_≡_, refl, sym, _∙_}
 use mathlib.Core.Bool.{false}
 use mathlib.Core.List.{List}
-use Prim.Native.Nat.{ℕ, _+_, _*_, _≤_, _<_}
+use Prim.Native.Nat.{ℕ, _≤_, _<_}
 use native.Mathlib.Omega.{arith}
 use Rattle.wire.specs.Bytes.{Bytes}
 use Rattle.transducer.specs.Format.{refusal, decode}
+use Rattle.transducer.specs.Leaf.{Opened, Finals-by-state}
 use Rattle.paths.specs.Count.{endless, path-count}
 use Rattle.paths.specs.Sweep.{Ready, at-state}
-use Rattle.paths.proofs.Ready.{Sized, Headed, sized, headed}
+use Rattle.paths.proofs.Ready.{Sized, Headed, sized, headed, headed-opened}
 use Rattle.paths.proofs.NthSays.{Found, found, start-count, nth-bad, nth-short-arcs, nth-short-labels, nth-endless, nth-none, nth-found}
 use Rattle.transducer.proofs.Offsets.{length-accepted}
 use Rattle.paths.proofs.entry.nth.Statement.{statement}
@@ -25,17 +26,20 @@ entry c = c .before .before .before .before
 abbrev start : tie.Else3 → tie.Start
 start c = entry (at-refusal c)
 
-abbrev at-header : tie.After-struct-known4 → tie.After-header
-at-header c = c .before .before .before .before
+abbrev at-header : tie.After-struct-known3 → tie.After-header
+at-header c = c .before .before .before
 
-abbrev at-index : tie.After-codes → tie.After-first-arcs-by-blocks
-at-index c = c .before .before .before
+abbrev at-first : tie.After-put-index → tie.After-arcs-at
+at-first c = c .before .before .before
 
-abbrev at-codes : tie.After-counts-by-state → tie.After-codes
+abbrev at-index : tie.After-codes2 → tie.After-put-index
+at-index c = c .before .before .before .before
+
+abbrev at-codes : tie.After-counts-by-state → tie.After-codes2
 at-codes c = c .before
 
 abbrev header-of : tie.After-counts-by-state → tie.After-header
-header-of c = at-header (at-index (at-codes c) .before)
+header-of c = at-header (at-first (at-index (at-codes c)) .before)
 
 abbrev not-endless : tie.Else5 → tie.Else4
 not-endless c = c .before .before .before .before
@@ -56,13 +60,33 @@ size c = sized (start c .args .table .now) (is-bytes c) (accepted c)
 head : (c : tie.After-header) → Headed (start (c .before) .args .table .now) (c .header .result)
 head c = headed (start (c .before) .args .table .now) (is-bytes (c .before)) (accepted (c .before)) (c .header .result) (c .header .ensures)
 
-ready : (c : tie.After-first-arcs-by-blocks) → Ready (start (at-header (c .before) .before) .args .table .now) (12 + 10 * at-header (c .before) .header .result .finals) (at-header (c .before) .header .result .states) (c .first-arcs-by-blocks .result)
+opened : (c : tie.After-arcs-at) → Opened (start (at-header (c .before) .before) .args .table .now) (c .arcs-at .result)
+opened c =
+    let header = at-header (c .before) in
+    headed-opened (start (header .before) .args .table .now) (header .header .result) (c .arcs-at .result) (head header) (c .arcs-at .ensures)
+
+-- The first-arc index and the final codes, as they are put.
+abbrev index : tie.After-put-index → List ℕ
+index c = c .put-index .last .1 .1 .1 .1 .0
+
+abbrev codes : tie.After-put-codes → List ℕ
+codes c = c .put-codes .last .1 .1 .0
+
+ready : (c : tie.After-put-index)
+    → Ready (start (at-header (at-first c .before) .before) .args .table .now) (at-first c .arcs-at .result)
+    (at-header (at-first c .before) .header .result .states) (index c)
 ready c =
-    let known = head (at-header (c .before)) in
-    record { opened = known .opened; states-are = known .states-are; indexed = c .first-arcs-by-blocks .ensures }
+    let first = at-first c in
+    record { opened = opened first; states-are = head (at-header (first .before)) .states-are; indexed = c .put-index .ensures }
+
+coded : (c : tie.After-codes2)
+    → Finals-by-state (decode (start (at-header (at-first (at-index c) .before) .before) .args .table .now)) (codes (c .before .before))
+coded c = c .before .before .put-codes .ensures
 
 -- The count at the start.
-counted : (c : tie.Else4) → at-state (c .before .counts-by-state .result .counts) (header-of (c .before) .header .result .start) ≡ path-count (decode (start (header-of (c .before) .before) .args .table .now))
+counted : (c : tie.Else4)
+    → at-state (c .before .counts-by-state .result .counts) (header-of (c .before) .header .result .start) ≡ path-count
+    (decode (start (header-of (c .before) .before) .args .table .now))
 counted c =
     let totals = c .before .counts-by-state in
     let header = header-of (c .before) in
@@ -77,7 +101,8 @@ unfolding at-state
 there c =
     let header = header-of (tested c) in
     let below : start (header .before) .args .k < at-state (tested c .counts-by-state .result .counts) (header .header .result .start) = c .if5 .left in
-    let is : at-state (tested c .counts-by-state .result .counts) (header .header .result .start) ≡ path-count (decode (start (header .before) .args .table .now)) = counted (not-endless c) in
+    let is : at-state (tested c .counts-by-state .result .counts) (header .header .result .start) ≡ path-count
+    (decode (start (header .before) .args .table .now)) = counted (not-endless c) in
     omega arith
 
 -- The path that was walked.
@@ -87,12 +112,15 @@ walking c = c .before .before .before .before
 abbrev walked : tie.After-walk → List ℕ
 walked c = c .walk .last .1 .1 .1 .1 .1 .1 .1 .1 .0
 
-path : (c : tie.After-walk) → Found (decode (start (header-of (tested (walking c)) .before) .args .table .now)) (start (header-of (tested (walking c)) .before) .args .k) (c .walk .result) (walked c)
+path : (c : tie.After-walk)
+    → Found (decode (start (header-of (tested (walking c)) .before) .args .table .now)) (start (header-of (tested (walking c)) .before) .args .k)
+    (c .walk .result) (walked c)
 path c =
     let at = walking c in
     let passed = header-of (tested at) .before in
     let a = start passed .args in
-    found (decode (a .table .now)) (size passed) (a .k) (c .walk .result) (a .arcs .now) (walked c) (finite (not-endless at)) (there at) (passed .before .if2 .left)
+    found (decode (a .table .now)) (size passed) (a .k) (c .walk .result) (a .arcs .now) (walked c) (finite (not-endless at)) (there at)
+    (passed .before .if2 .left)
     (c .walk .ensures .0) (c .walk .ensures .1)
 
 refusal-requires : tie.Need-refusal-requires
@@ -136,25 +164,27 @@ cast-f c = search needs
 cast-start : tie.Need-cast-start
 cast-start c = search needs
 
-mul-first : tie.Need-mul-first
-mul-first c = omega (arith, head (c .before .before .before) .few-finals)
+arcs-at-requires : tie.Need-arcs-at-requires
+arcs-at-requires c κs = omega (arith, head (at-header c) .few-finals)
 
-add-first : tie.Need-add-first
-add-first c = omega (arith, head (c .before .before .before) .few-finals)
+cast-put-index : tie.Need-cast-put-index
+cast-put-index c = search needs
 
-cast-first-arcs-by-blocks : tie.Need-cast-first-arcs-by-blocks
-cast-first-arcs-by-blocks c = search needs
+put-index-requires : tie.Need-put-index-requires
+put-index-requires c κs =
+    let first = c .before .before in
+    let known = head (at-header (first .before)) in
+    (opened first, known .states-are, known .arcs-are, refl)
 
-first-arcs-by-blocks-requires : tie.Need-first-arcs-by-blocks-requires
-first-arcs-by-blocks-requires c κs = let known = head (at-header c) in (known .opened, known .states-are, known .arcs-are)
-
-final-codes-requires : tie.Need-final-codes-requires
-final-codes-requires c κs = let known = head (at-header (c .before)) in (known .opened .accepted, known .finals-are)
+put-codes-requires : tie.Need-put-codes-requires
+put-codes-requires c κs =
+    let first = at-first (c .before) in
+    (opened first .accepted, head (at-header (first .before)) .finals-are, refl)
 
 counts-by-state-requires : tie.Need-counts-by-state-requires
 counts-by-state-requires c κs =
     let index = at-index c in
-    (ready index, head (at-header (index .before)) .start-is, c .before .before .final-codes .ensures)
+    (ready index, head (at-header (at-first index .before)) .start-is, coded c)
 
 refused-requires-4 : tie.Need-refused-requires-4
 refused-requires-4 c κs = tt
@@ -167,11 +197,11 @@ returns-4 c =
     nth-endless (a .table .now) (a .k) (at-refusal passed .refusal .ensures) (passed .before .before .if1 .left) (passed .before .if2 .left)
     (passed .if3 .left) (asked .counts-by-state .ensures .endless-is) (c .before .if4 .taken) (c .refused4 .ensures)
 
-mul-all : tie.Need-mul-all
-mul-all c = omega (arith, head (header-of (c .before .before)) .start-below)
-
 array-copy-out-all : tie.Need-array-copy-out-all
 array-copy-out-all c = head (header-of (c .before .before)) .start-below
+
+cast-if5 : tie.Need-cast-if5
+cast-if5 c = search needs
 
 refused-requires-5 : tie.Need-refused-requires-5
 refused-requires-5 c κs = tt
@@ -193,15 +223,30 @@ walk-requires : tie.Need-walk-requires
 walk-requires c κs =
     let at = c .before .before .before in
     let asked = tested at in
-    let index = at-index (at-codes asked) in
-    (ready index, at-codes asked .before .before .final-codes .ensures, asked .counts-by-state .ensures .settled, head (header-of asked) .start-is, finite (not-endless at), there at, header-of asked .before .before .if2 .left)
+    let index = at-index (at-codes asked) in (
+      ready index,
+      coded (at-codes asked),
+      asked .counts-by-state .ensures .settled,
+      head (header-of asked) .start-is,
+      finite (not-endless at),
+      there at,
+      header-of asked .before .before .if2 .left,
+    )
 
 tell-requires : tie.Need-tell-requires
 tell-requires c κs =
     let told = c .before .before .before .before .before in
     let asked = tested (walking told) in
-    let known = head (header-of asked) in
-    (known .opened, known .start-is, at-codes asked .before .before .final-codes .ensures, path told .inside, path told .few, path told .accepted, header-of asked .before .if3 .left)
+    let known = head (header-of asked) in (
+      opened (at-first (at-index (at-codes asked))),
+      known .start-is,
+      coded (at-codes asked),
+      path told .inside,
+      path told .few,
+      path told .accepted,
+      header-of
+          asked .before .if3 .left,
+    )
 
 same-length : tie.Need-same-length
 same-length c = search needs
@@ -235,16 +280,15 @@ nth-spec =
     cast-n
     cast-f
     cast-start
-    mul-first
-    add-first
-    cast-first-arcs-by-blocks
-    first-arcs-by-blocks-requires
-    final-codes-requires
+    arcs-at-requires
+    cast-put-index
+    put-index-requires
+    put-codes-requires
     counts-by-state-requires
     refused-requires-4
     returns-4
-    mul-all
     array-copy-out-all
+    cast-if5
     refused-requires-5
     returns-5
     walk-requires

@@ -1,4 +1,5 @@
 -- Two loops. The outer one has walked `n` arcs of the path (`Walked`), the inner one passes over arcs of the state that is reached (`Chosen`).
+use borrow.Author.Needs.{needs}
 use mathlib.Core.Path.{_≡_, refl, _∙_}
 use Prim.Native.Nat.{_+_, _-_, _<_}
 use native.Mathlib.Omega.{arith}
@@ -13,10 +14,10 @@ use Rattle.paths.proofs.path.walk.Statement.{statement}
 use Rattle.paths.proofs.path.walk.Tie as tie
 
 abbrev Inv-loop2 : tie.InvT-loop2
-Inv-loop2 table first states start k index codes arcs all s left₀ n i₀ left i = Chosen (decode table) k arcs s left n i
+Inv-loop2 table first states start k index codes arcs all s left₀ n own i₀ left i = Chosen (decode table) k arcs s left n i
 
 abbrev μ-loop2 : tie.MeasureT-loop2
-μ-loop2 table first states start k index codes arcs all s left₀ n i₀ left i = length (decode table .arcs) - i
+μ-loop2 table first states start k index codes arcs all s left₀ n own i₀ left i = length (decode table .arcs) - i
 
 abbrev Inv-loop : tie.InvT-loop
 Inv-loop table first states start k index codes arcs₀ all s₀ left₀ n₀ arcs s left n = Walked (decode table) k (length arcs₀) arcs s left n
@@ -31,7 +32,8 @@ Here = tie.At-loop Inv-loop2 μ-loop2 Inv-loop μ-loop
 abbrev start : Here → tie.Start Inv-loop2 μ-loop2 Inv-loop μ-loop
 start c = c .before .before .before
 
-seek : (c : tie.After-shared-slice-known Inv-loop2 μ-loop2 Inv-loop μ-loop) → Sought (decode (c .before .args .table .now)) (c .before .args .k) (c .before .args .t8) (length (c .before .args .arcs .now))
+seek : (c : tie.After-shared-slice-known Inv-loop2 μ-loop2 Inv-loop μ-loop)
+    → Sought (decode (c .before .args .table .now)) (c .before .args .k) (c .before .args .t8) (length (c .before .args .arcs .now))
 seek c =
     let bs = c .before .args .table .now in
     let bytes : Bytes bs = λ i. omega (arith, c .shared-slice-known .given i) in
@@ -44,26 +46,31 @@ sought c = seek (c .before .before)
 below : (c : Here) → (c .loop .s < decode (start c .args .table .now) .states) × (c .loop .s < 1024)
 below c =
     let a = start c .args in
-    walked-state (decode (a .table .now)) (a .k) (a .t8) (length (a .arcs .now)) (sought c) (c .loop .arcs) (c .loop .s) (c .loop .left) (c .loop .n) (c .loop .inv)
+    walked-state (decode (a .table .now)) (a .k) (a .t8) (length (a .arcs .now)) (sought c) (c .loop .arcs) (c .loop .s) (c .loop .left) (c .loop .n)
+    (c .loop .inv)
 
-mine : (c : tie.After-own Inv-loop2 μ-loop2 Inv-loop μ-loop) → c .own .result .value ≡ own (decode (start (c .before .before) .args .table .now)) (c .before .before .loop .s)
+mine : (c : tie.After-own Inv-loop2 μ-loop2 Inv-loop μ-loop)
+    → c .own .result .value ≡ own (decode (start (c .before .before) .args .table .now)) (c .before .before .loop .s)
 mine c =
     let here = c .before .before in
     let a = start here .args in
-    c .own .ensures ∙ own-code (decode (a .table .now)) (a .codes .now) (here .loop .s) (getD (a .codes .now) (here .loop .s) 0) (start here .pre .1) (below here .1) refl
+    c .own .ensures ∙ own-code (decode (a .table .now)) (a .codes .now) (here .loop .s) (getD (a .codes .now) (here .loop .s) 0) (start here .pre .1)
+    (below here .1) refl
 
-arcs : (c : Here) → Range (decode (start c .args .table .now)) (c .loop .s) (getD (start c .args .index .now) (c .loop .s) 0) (getD (start c .args .index .now) (c .loop .s + 1) 0)
+arcs : (c : Here) → Range (decode (start c .args .table .now)) (c .loop .s) (getD (start c .args .index .now) (c .loop .s) 0)
+    (getD (start c .args .index .now) (c .loop .s + 1) 0)
 arcs c = range (decode (start c .args .table .now)) (start c .args .index .now) (c .loop .s) _ _ (start c .pre .0 .indexed) (below c .0) refl refl
 
 -- The state whose arcs are passed over.
 abbrev here-of : tie.At-loop2 Inv-loop2 μ-loop2 Inv-loop μ-loop → Here
-here-of c = c .before .before .before .before .before .before .before
+here-of c = c .before .before .before .before .before .before
 
 is-arc : (c : tie.At-loop2 Inv-loop2 μ-loop2 Inv-loop μ-loop) → c .loop2 .i < length (decode (start (here-of c) .args .table .now) .arcs)
 is-arc c =
     let here = here-of c in
     let a = start here .args in
-    chosen-below (decode (a .table .now)) (a .k) (a .t8) (length (a .arcs .now)) (sought here) (here .loop .arcs) (here .loop .s) (c .loop2 .left) (here .loop .n) (c .loop2 .i) (c .loop2 .inv)
+    chosen-below (decode (a .table .now)) (a .k) (a .t8) (length (a .arcs .now)) (sought here) (here .loop .arcs) (here .loop .s) (c .loop2 .left)
+    (here .loop .n) (c .loop2 .i) (c .loop2 .inv)
 
 free : (c : tie.Then2 Inv-loop2 μ-loop2 Inv-loop μ-loop) → here-of (c .before .before .before .before) .loop .n < 1023
 unfolding at-state
@@ -72,7 +79,8 @@ free c =
     let here = here-of at in
     let a = start here .args in
     let target = c .before .before .before .target in
-    chosen-room (decode (a .table .now)) (a .k) (a .t8) (length (a .arcs .now)) (sought here) (here .loop .arcs) (here .loop .s) (at .loop2 .left) (here .loop .n) (at .loop2 .i)
+    chosen-room (decode (a .table .now)) (a .k) (a .t8) (length (a .arcs .now)) (sought here) (here .loop .arcs) (here .loop .s) (at .loop2 .left)
+    (here .loop .n) (at .loop2 .i)
     (target .result) (here .loop .s) (here .loop .left) (here .loop .inv) (at .loop2 .inv) (target .ensures .0) (c .if2 .taken)
 
 loop-holds : tie.Need-loop-holds Inv-loop2 μ-loop2 Inv-loop μ-loop
@@ -89,52 +97,56 @@ element-copy-out-own c = below c .1
 own-requires : tie.Need-own-requires Inv-loop2 μ-loop2 Inv-loop μ-loop
 own-requires c κs = tt
 
+cast-own : tie.Need-cast-own Inv-loop2 μ-loop2 Inv-loop μ-loop
+cast-own c = search needs
+
 mul-i : tie.Need-mul-i Inv-loop2 μ-loop2 Inv-loop μ-loop
-mul-i c = omega (arith, below (c .before .before .before .before .before) .1)
+mul-i c = omega (arith, below (c .before .before .before .before) .1)
 
 element-copy-out-i : tie.Need-element-copy-out-i Inv-loop2 μ-loop2 Inv-loop μ-loop
-element-copy-out-i c = omega (arith, below (c .before .before .before .before .before) .1)
+element-copy-out-i c = omega (arith, below (c .before .before .before .before) .1)
 
 cast-i : tie.Need-cast-i Inv-loop2 μ-loop2 Inv-loop μ-loop
 cast-i c =
-    let here = c .before .before .before .before .before .before in
+    let here = c .before .before .before .before .before in
     omega (arith, arcs here .order, arcs here .inside, sought here .size .arcs)
 
 loop2-holds : tie.Need-loop2-holds Inv-loop2 μ-loop2 Inv-loop μ-loop
 loop2-holds c =
-    let owned = c .before .before .before .before in
+    let owned = c .before .before .before in
     let here = owned .before .before in
     let a = start here .args in
     let s = here .loop .s in
     chosen-first (decode (a .table .now)) (a .k) (a .t8) (length (a .arcs .now)) (sought here) (here .loop .arcs) s (here .loop .left) (here .loop .n)
-    (getD (a .index .now) s 0) (getD (a .index .now) (s + 1) 0) (owned .own .result .value) (here .loop .inv) (mine owned) (c .before .before .if1 .left) (arcs here)
+    (getD (a .index .now) s 0) (getD (a .index .now) (s + 1) 0) (owned .own .result .value) (here .loop .inv) (mine owned) (c .before .if1 .left) (arcs here)
 
 target-requires : tie.Need-target-requires Inv-loop2 μ-loop2 Inv-loop μ-loop
 target-requires c κs = (start (here-of c) .pre .0 .opened, is-arc c)
 
-mul-count : tie.Need-mul-count Inv-loop2 μ-loop2 Inv-loop μ-loop
-mul-count c = omega (arith, c .target .ensures .1, sought (here-of (c .before)) .size .states)
-
 array-copy-out-count : tie.Need-array-copy-out-count Inv-loop2 μ-loop2 Inv-loop μ-loop
 array-copy-out-count c = omega (arith, c .target .ensures .1, sought (here-of (c .before)) .size .states)
 
+cast-there : tie.Need-cast-there Inv-loop2 μ-loop2 Inv-loop μ-loop
+cast-there c = search needs
+
 add-i : tie.Need-add-i Inv-loop2 μ-loop2 Inv-loop μ-loop
 add-i c =
-    let at = c .before .before .before .before .before in
+    let at = c .before .before .before .before in
     omega (arith, is-arc at, sought (here-of at) .size .arcs)
 
 loop2-less : tie.Need-loop2-less Inv-loop2 μ-loop2 Inv-loop μ-loop
-loop2-less c = let at = c .before .before .before .before .before in omega (arith, is-arc at)
+loop2-less c = let at = c .before .before .before .before in omega (arith, is-arc at)
 
 loop2-again : tie.Need-loop2-again Inv-loop2 μ-loop2 Inv-loop μ-loop
 unfolding at-state
 loop2-again c =
-    let at = c .before .before .before .before .before in
+    let at = c .before .before .before .before in
     let here = here-of at in
     let a = start here .args in
-    let target = c .before .before .before .before .target in
-    chosen-past (decode (a .table .now)) (a .k) (a .t8) (length (a .arcs .now)) (sought here) (here .loop .arcs) (here .loop .s) (at .loop2 .left) (here .loop .n) (at .loop2 .i)
-    (target .result) (at .loop2 .inv) (target .ensures .0) (c .before .if2 .left)
+    let target = c .before .before .before .target in
+    chosen-past (decode (a .table .now)) (a .k) (a .t8) (length (a .arcs .now)) (sought here) (here .loop .arcs) (here .loop .s) (at .loop2 .left)
+    (here .loop .n) (at .loop2 .i)
+    (target .result) (at .loop2 .inv) (target .ensures .0) (c .if2 .left)
 
 cast-arcs : tie.Need-cast-arcs Inv-loop2 μ-loop2 Inv-loop μ-loop
 cast-arcs c =
@@ -162,7 +174,8 @@ loop-again c =
     let here = here-of at in
     let a = start here .args in
     let target = c .before .before .before .target in
-    walked-next (decode (a .table .now)) (a .k) (a .t8) (length (a .arcs .now)) (sought here) (here .loop .arcs) (here .loop .s) (at .loop2 .left) (here .loop .n) (at .loop2 .i)
+    walked-next (decode (a .table .now)) (a .k) (a .t8) (length (a .arcs .now)) (sought here) (here .loop .arcs) (here .loop .s) (at .loop2 .left)
+    (here .loop .n) (at .loop2 .i)
     (target .result) (here .loop .s) (here .loop .left) (here .loop .inv) (at .loop2 .inv) (target .ensures .0) (c .if2 .taken)
 
 clear16-requires : tie.Need-clear16-requires Inv-loop2 μ-loop2 Inv-loop μ-loop
@@ -179,7 +192,8 @@ returns c =
     let owned = ended .before .before in
     let here = owned .before .before in
     let a = start here .args in
-    let done = walked-done (decode (a .table .now)) (a .k) (a .t8) (length (a .arcs .now)) (sought here) (here .loop .arcs) (here .loop .s) (here .loop .left) (here .loop .n)
+    let done = walked-done (decode (a .table .now)) (a .k) (a .t8) (length (a .arcs .now)) (sought here) (here .loop .arcs) (here .loop .s) (here .loop .left)
+    (here .loop .n)
     (owned .own .result .value) (here .loop .inv) (mine owned) (ended .if1 .taken) in
     (c .before .before .clear16 .ensures ∙ done .0, done .1)
 
@@ -195,13 +209,14 @@ walk-spec =
     mul-own
     element-copy-out-own
     own-requires
+    cast-own
     mul-i
     element-copy-out-i
     cast-i
     loop2-holds
     target-requires
-    mul-count
     array-copy-out-count
+    cast-there
     add-i
     loop2-less
     loop2-again

@@ -1,0 +1,66 @@
+// The counts of a transducer whose states are topologically sorted, as those of most lattices are: each arc leads to a higher number.
+ghost use mathlib.Core.Path.{_≡_};
+ghost use Prim.Native.Nat.{_≤_};
+ghost use lib.ListN.{length};
+ghost use Rattle.transducer.specs.Format.{decode, refusal, head-finals};
+ghost use Rattle.transducer.specs.Leaf.{Opened, Finals-by-state};
+ghost use Rattle.paths.specs.TopSorted.{Empty-paths, Pass-says};
+use crate::Count;
+use crate::Pass;
+use crate::counts;
+
+// The counts of the empty paths: 1 at each final state.
+pub fn empty_paths(table: &[u8], finals: usize) -> [Count; 1024]
+    requires { ⌜ (refusal (now table) ≡ 0) × (finals ≡ head-finals (now table)) ⌝ }
+    ensures { λ r. ⌜ Empty-paths (decode (now (table .entry))) (decode (now (table .entry)) .states) r ⌝ }
+{
+    let mut counts = [Count { value: 0 }; 1024];
+    let mut i = 0;
+    while i < finals {
+        // The record of final `i` stands where the arcs would begin behind so many finals.
+        let f = transducer::load_final(table, transducer::arcs_at(i));
+        let state = f.state as usize;
+        counts[state] = Count { value: 1 };
+        i += 1;
+    }
+    counts
+}
+
+// The same by the final codes of so many states.
+pub fn empty_by_codes(table: &[u8], states: usize, codes: &[u32; 1024]) -> [Count; 1024]
+    requires { ⌜ Finals-by-state (decode (now table)) (now codes) × (states ≤ 1024) ⌝ }
+    ensures { λ r. ⌜ Empty-paths (decode (now (table .entry))) states r ⌝ }
+{
+    let mut counts = [Count { value: 0 }; 1024];
+    let mut s = 0;
+    while s < states {
+        counts[s] = counts::own(codes[s]);
+        s += 1;
+    }
+    counts
+}
+
+// The counts by one pass over the arcs, the last one first: where states are topologically sorted, the count that an arc adds is complete.
+pub fn counts_sorted(table: &[u8], first: usize, arcs: usize, empty: [Count; 1024]) -> Pass
+    requires { ⌜ Opened (now table) first × (arcs ≡ length (decode (now table) .arcs)) × Empty-paths (decode (now table)) (decode (now table) .states) empty ⌝ }
+    ensures { λ r. ⌜ Pass-says (decode (now (table .entry))) r ⌝ }
+{
+    let mut counts = empty;
+    let mut i = arcs;
+    while 0 < i {
+        i -= 1;
+        let s = reach::source(table, first, i);
+        let to = reach::target(table, first, i);
+        if to <= s {
+            return Pass {
+                counts,
+                sorted: false,
+            };
+        }
+        counts[s] = counts[s].add(counts[to]);
+    }
+    Pass {
+        counts,
+        sorted: true,
+    }
+}
