@@ -177,6 +177,34 @@ passed-next t z last i cs s u x e k es eu up ex =
         let other : new v ≡ at-state cs v = at-set-other cs s x v (λ y. eqb-false (arc t i .source) v q (sym (y ∙ es))) in
         omega (arith, other, p .sums v l, rest v)
 
+-- A count at its most stays.
+pub passed-most : (t : Transducer) (last i : ℕ) (cs : List Count) (s u : ℕ) → suc i ≡ last → Passed t last cs → s ≡ arc t i .source → u ≡ arc t i .target
+    → s < u
+    → at-state cs s ≡ 99 → Passed t i cs
+unfolding sum-arcs arc
+passed-most t last i cs s u e k es eu up most =
+    record {
+      long = k .long;
+      within = omega (arith, p .within);
+      sorted = λ j l m. above j l m (ℕ-discrete j i);
+      sums = λ v l. rw (drop-cons (t .arcs) i no-arc (omega (arith, p .within))) (on v l (eqb (arc t i .source) v) refl);
+    }
+  where
+    p : Passed t (suc i) cs
+    p = rw e k
+
+    above : (j : ℕ) → i ≤ j → j < length (t .arcs) → Dec (j ≡ i) → arc t j .source < arc t j .target
+    above j l m (yes y) = rw y (omega (arith, es, eu, up))
+    above j l m (no n) = p .sorted j (omega arith) m
+
+    on : (v : ℕ) → v < t .states → (c : Bool) → eqb (arc t i .source) v ≡ c
+        → at-state cs v ≡ min 99 (own t v + (cond c (at-state cs (arc t i .target)) 0 + sum-arcs (drop (suc i) (t .arcs)) v (at-state cs)))
+    on v l true q =
+        let same : v ≡ s = sym (eqb-true (arc t i .source) v q) ∙ sym es in
+        let full : at-state cs v ≡ 99 = ap (at-state cs) same ∙ most in
+        omega (arith, full, p .sums v l)
+    on v l false q = omega (arith, p .sums v l)
+
 -- All arcs passed.
 module _ (t : Transducer) (z : Sized t) (cs : List Count) (p : Passed t 0 cs) where
   higher : (i : ℕ) → i < length (t .arcs) → arc t i .source < arc t i .target

@@ -1,11 +1,10 @@
--- Marks and counts by state, on their way and settled, and what one sweep over the states leaves of them. Assumes nothing: these are definitions.
+-- Marks and counts by state, on their way and settled. Assumes nothing: these are definitions.
 use mathlib.Core.Path.{_≡_}
-use mathlib.Core.Bool.{Bool, true, false, not, cond}
+use mathlib.Core.Bool.{Bool, true, false, not}
 use mathlib.Core.List.{List}
 use Prim.Native.Nat.{ℕ, zero, suc, _+_, _≤_, _<_, min}
-use lib.ListN.{length, getD, set}
+use lib.ListN.{length, getD}
 use Rattle.transducer.specs.Format.{Transducer, decode}
-use Rattle.transducer.specs.Path.{arc}
 use Rattle.transducer.specs.Leaf.{Opened, Indexed}
 use Rattle.paths.specs.declared.Count.{Count}
 use Rattle.paths.specs.declared.Totals.{Totals}
@@ -38,40 +37,9 @@ pub record Stopping (t : Transducer) (g : ℕ → Bool) : Type 0 where
   pub rounds : ℕ
   pub stops : (s : ℕ) → s < t .states → g s ≡ true → goes-on rounds t s ≡ false
 
--- An arc of a run of numbers that leads to an unmarked state, and that there is none.
-pub record Open (t : Transducer) (ms : List Bool) (from end : ℕ) : Type 0 where
-  pub number : ℕ
-  pub low : from ≤ number
-  pub high : number < end
-  pub unmarked : marked ms (arc t number .target) ≡ false
-
-abbrev pub Shut : Transducer → List Bool → (from end : ℕ) → Type 0
-Shut t ms from end = (i : ℕ) → from ≤ i → i < end → marked ms (arc t i .target) ≡ true
-
-pub record Leads-says (t : Transducer) (ms : List Bool) (from end : ℕ) (r : Bool) : Type 0 where
-  pub found : r ≡ true → Open t ms from end
-  pub none : r ≡ false → Shut t ms from end
-
 -- Whether some arc of a state leads to an unmarked one.
 unfoldable pub leads-on : Transducer → List Bool → (s : ℕ) → Bool
 leads-on t ms s = some-arc (t .arcs) s (λ u. not (marked ms u))
-
--- Marks changed to one value, state by state: a state may be marked where none of its arcs leads to an unmarked one, and unmarked where one does.
-pub data Changed (t : Transducer) (value : Bool) (before : List Bool) : List Bool → Type 0 where
-  none : Changed t value before before
-  more : {ms after : List Bool} (s : ℕ) → Changed t value before ms → s < t .states → marked ms s ≡ not value → leads-on t ms s ≡ not value
-      → after ≡ set ms s value → Changed t value before after
-
--- How many states have the other mark.
-unfoldable pub unlike : (value : Bool) → (states : ℕ) → List Bool → ℕ
-unlike value n ms = total n (λ s. cond value (cond (marked ms s) 0 1) (cond (marked ms s) 1 0))
-
--- What a sweep over the marks leaves: where no other sweep may change more, none can; else fewer states have the other mark.
-pub record Marked-says (t : Transducer) (value : Bool) (before after : List Bool) (again : Bool) : Type 0 where
-  pub long : length after ≡ 1024
-  pub changed : Changed t value before after
-  pub rest : again ≡ false → (s : ℕ) → s < t .states → marked after s ≡ not value → leads-on t after s ≡ value
-  pub fewer : again ≡ true → unlike value (t .states) after < unlike value (t .states) before
 
 -- Counts
 

@@ -13,7 +13,7 @@ ghost use Rattle.paths.specs.Counting.{by-marks, Opened-arcs, Stacked, C
 use crate::Count;
 use crate::Totals;
 
-const MOST: u8 = 99;
+pub const MOST: u8 = 99;
 
 impl Count {
     // The sum of two counts.
@@ -171,13 +171,14 @@ pub fn counts_of(
     table: &[u8],
     first: usize,
     states: usize,
+    arcs: usize,
     start: usize,
     index: &[u16; 1025],
     codes: &[u32; 1024],
     dead: [bool; 1024],
 ) -> Totals
-    requires { ⌜ Ready (now table) first states (now index) × (start ≡ decode (now table) .start) × Finals-by-state (decode (now table)) (now codes)
-        × Dead (decode (now table)) dead ⌝ }
+    requires { ⌜ Ready (now table) first states (now index) × (arcs ≡ length (decode (now table) .arcs)) × (start ≡ decode (now table) .start)
+        × Finals-by-state (decode (now table)) (now codes) × Dead (decode (now table)) dead ⌝ }
     ensures { λ r. ⌜ Totals-say (decode (now (table .entry))) r ⌝ }
 {
     let mut marks = dead;
@@ -185,7 +186,6 @@ pub fn counts_of(
     let mut stack = [0u16; 1024];
     let mut heads = [0u16; 1025];
     let mut into = [0u16; 3072];
-    let arcs = index[states] as usize;
     count_open(table, first, arcs, &marks, &mut left);
     reach::by_target(table, first, states, arcs, &mut heads, &mut into);
     let count = push_shut(states, &marks, &left, &mut stack);

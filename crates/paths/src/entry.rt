@@ -15,20 +15,22 @@ use crate::marks;
 use crate::path;
 use crate::sorted;
 
-// The counts by the dead states and by sweeps, for states in any order.
+// The counts for states in any order.
 fn counts_unsorted(
     table: &[u8],
     first: usize,
     states: usize,
+    arcs: usize,
     start: usize,
     index: &[u16; 1025],
     codes: &[u32; 1024],
 ) -> Totals
-    requires { ⌜ Ready (now table) first states (now index) × (start ≡ decode (now table) .start) × Finals-by-state (decode (now table)) (now codes) ⌝ }
+    requires { ⌜ Ready (now table) first states (now index) × (arcs ≡ length (decode (now table) .arcs)) × (start ≡ decode (now table) .start)
+        × Finals-by-state (decode (now table)) (now codes) ⌝ }
     ensures { λ r. ⌜ Totals-say (decode (now (table .entry))) r ⌝ }
 {
-    let dead = marks::dead_states(table, first, states, index, codes);
-    counts::counts_of(table, first, states, start, index, codes, dead)
+    let dead = marks::dead_states(table, first, states, arcs);
+    counts::counts_of(table, first, states, arcs, start, index, codes, dead)
 }
 
 // The counts of the accepting paths from each state, and whether those from the start are infinitely many: what the k-th path and the listing
@@ -54,7 +56,7 @@ pub fn counts_by_state(
             endless: false,
         };
     }
-    counts_unsorted(table, first, states, start, index, codes)
+    counts_unsorted(table, first, states, arcs, start, index, codes)
 }
 
 fn counted(all: Count) -> Counted
@@ -91,7 +93,7 @@ pub fn count(table: &[u8]) -> Counted
     }
     let index = transducer::first_arcs_by_blocks(table, first, n, m);
     let codes = transducer::final_codes(table, f);
-    let totals = counts_unsorted(table, first, n, start, &index, &codes);
+    let totals = counts_unsorted(table, first, n, m, start, &index, &codes);
     if totals.endless {
         return Counted {
             refusal: 14,

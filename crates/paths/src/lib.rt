@@ -1,11 +1,9 @@
 // Accepting paths: their count, and the k-th path.
-mod arcs;
 mod counts;
 mod entry;
 mod marks;
 mod path;
 mod sorted;
-mod turn;
 
 pub use entry::count as path_count;
 pub use entry::counts_by_state;

@@ -70,8 +70,8 @@ pub fn tell(
     len: usize,
     labels: &mut [u16],
 ) -> Told
-    requires { ⌜ Opened (now table) first × (start ≡ decode (now table) .start) × Finals-by-state (decode (now table)) (now codes) × (len ≤ length (now arcs)) × (len ≤ 1023)
-        × (accepts (decode (now table)) (take len (now arcs)) ≡ true) × (1023 ≤ length (now labels)) ⌝ }
+    requires { ⌜ Opened (now table) first × (start ≡ decode (now table) .start) × Finals-by-state (decode (now table)) (now codes)
+        × (len ≤ length (now arcs)) × (len ≤ 1023) × (accepts (decode (now table)) (take len (now arcs)) ≡ true) × (1023 ≤ length (now labels)) ⌝ }
     ensures { λ r. ⌜ Tells (decode (now (table .entry))) (take len (now (arcs .entry))) r (now (labels .entry)) (now (labels .exit)) ⌝ }
 {
     let mut s = start;

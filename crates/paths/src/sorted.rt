@@ -57,7 +57,12 @@ pub fn counts_sorted(table: &[u8], first: usize, arcs: usize, empty: [Count; 102
                 sorted: false,
             };
         }
-        counts[s] = counts[s].add(counts[to]);
+        // A count at its most is left alone: a store that the next arc's load waits for costs more than the test.
+        let here = counts[s];
+        if here.value == counts::MOST {
+            continue;
+        }
+        counts[s] = here.add(counts[to]);
     }
     Pass {
         counts,

@@ -2,11 +2,11 @@
 use mathlib.Core.Path.{_≡_, refl}
 use Prim.Native.Nat.{ℕ, _≤_}
 use native.Mathlib.Omega.{arith}
-use lib.ListN.{length, getD, length-replicate}
+use lib.ListN.{length-replicate}
 use Rattle.wire.specs.Bytes.{Bytes}
 use Rattle.transducer.specs.Format.{decode}
 use Rattle.paths.specs.Counting.{by-marks}
-use Rattle.paths.proofs.Ready.{Sized, sized, index-last}
+use Rattle.paths.proofs.Ready.{Sized, sized}
 use Rattle.paths.proofs.Counting.{counting-first, opened-all, stacked-all}
 use Rattle.paths.proofs.counts.counts_of.Statement.{statement}
 use Rattle.paths.proofs.counts.counts_of.Tie as tie
@@ -27,13 +27,9 @@ size c =
 few : (c : Entry) → start c .args .states ≤ 1024
 few c = omega (arith, start c .pre .0 .states-are, size c .states)
 
-arcs : (c : Entry) → getD (start c .args .index .now) (start c .args .states) 0 ≡ length (decode (start c .args .table .now) .arcs)
-arcs c = index-last (decode (start c .args .table .now)) (start c .args .index .now) (start c .args .states) (size c) (start c .pre .0 .indexed)
-    (start c .pre .0 .states-are)
-
 -- Places to look back to.
 abbrev opening : tie.After-count-open → Entry
-opening c = c .before .before .before .before
+opening c = c .before .before .before
 
 abbrev indexing : tie.After-by-target → tie.After-count-open
 indexing c = c .before .before .before
@@ -44,24 +40,15 @@ pushing c = c .before .before .before .before
 abbrev pushed : tie.After-stack2 → tie.After-push-shut
 pushed c = c .before .before .before .before .before
 
-mul-arcs : tie.Need-mul-arcs
-mul-arcs c = omega (arith, few c)
-
-element-copy-out-arcs : tie.Need-element-copy-out-arcs
-element-copy-out-arcs c = omega (arith, few c)
-
-cast-arcs : tie.Need-cast-arcs
-cast-arcs c = omega (arith, arcs (c .before), size (c .before) .arcs)
-
 count-open-requires : tie.Need-count-open-requires
 count-open-requires c κs =
-    let e = c .before .before .before in
-    (start e .pre .0 .opened, arcs e, refl)
+    let e = c .before .before in
+    (start e .pre .0 .opened, start e .pre .1, refl)
 
 by-target-requires : tie.Need-by-target-requires
 by-target-requires c κs =
     let e = opening (c .before .before) in
-    (start e .pre .0 .opened, start e .pre .0 .states-are, arcs e, refl, length-replicate {A = ℕ} 3072 0)
+    (start e .pre .0 .opened, start e .pre .0 .states-are, start e .pre .1, refl, length-replicate {A = ℕ} 3072 0)
 
 push-shut-requires : tie.Need-push-shut-requires
 push-shut-requires c κs = (few (opening (indexing (c .before .before .before))), length-replicate {A = ℕ} 1024 0)
@@ -77,12 +64,12 @@ count-all-requires c κs =
     let pre = start e .pre in (
       pre .0 .opened,
       pre .0 .indexed,
-      pre .1,
       pre .2,
-      by .by-target .ensures,
       pre .3,
-      counting-first t (size e) (a .dead) (opened .count-open .last .1 .1 .1 .1 .0) (put .push-shut .last .1 .1 .1 .0) (put .push-shut .result) (pre .3)
-          (opened-all t (by-marks t (a .dead)) (getD (a .index .now) (a .states) 0) (opened .count-open .last .1 .1 .1 .1 .0) (arcs e)
+      by .by-target .ensures,
+      pre .4,
+      counting-first t (size e) (a .dead) (opened .count-open .last .1 .1 .1 .1 .0) (put .push-shut .last .1 .1 .1 .0) (put .push-shut .result) (pre .4)
+          (opened-all t (by-marks t (a .dead)) (a .arcs) (opened .count-open .last .1 .1 .1 .1 .0) (pre .1)
           (opened .count-open .ensures))
           (stacked-all t (a .states) (a .dead) (opened .count-open .last .1 .1 .1 .1 .0) (put .push-shut .last .1 .1 .1 .0) (put .push-shut .result)
           (pre .0 .states-are)
@@ -94,4 +81,4 @@ returns c = c .count-all .ensures
 
 pub counts-of-spec : {M : Type 1} → statement M
 counts-of-spec =
-    tie.close (tie.spec mul-arcs element-copy-out-arcs cast-arcs count-open-requires by-target-requires push-shut-requires count-all-requires returns)
+    tie.close (tie.spec count-open-requires by-target-requires push-shut-requires count-all-requires returns)

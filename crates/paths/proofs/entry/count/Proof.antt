@@ -114,7 +114,8 @@ final-codes-requires c κs =
 counts-unsorted-requires : tie.Need-counts-unsorted-requires
 counts-unsorted-requires c κs =
     let index = c .before .before .before in
-    (ready index, head (at-header (at-first (index .before .before) .before)) .start-is, c .before .before .final-codes .ensures)
+    let known = head (at-header (at-first (index .before .before) .before)) in
+    (ready index, known .arcs-are, known .start-is, c .before .before .final-codes .ensures)
 
 returns-3 : tie.Need-returns-3
 returns-3 c =

@@ -52,7 +52,10 @@ returns : tie.Need-returns
 returns c = c .before .before .counts-sorted .ensures .complete (c .before .if1 .taken)
 
 counts-unsorted-requires : tie.Need-counts-unsorted-requires
-counts-unsorted-requires c κs = c .before .before .before .before .before .pre
+counts-unsorted-requires c κs =
+    let entry = c .before .before .before .before in
+    let pre = entry .before .pre in
+    (pre .0, arcs entry, pre .1, pre .2)
 
 returns-2 : tie.Need-returns-2
 returns-2 c = c .counts-unsorted .ensures

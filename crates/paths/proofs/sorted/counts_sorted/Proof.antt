@@ -9,7 +9,7 @@ use Rattle.transducer.specs.Format.{decode}
 use Rattle.paths.specs.Sweep.{at-state}
 use Rattle.paths.proofs.Ready.{Sized, sized}
 use Rattle.paths.proofs.MarksInPlace.{clash}
-use Rattle.paths.proofs.TopSorted.{Passed, passed-first, passed-next, passed-all}
+use Rattle.paths.proofs.TopSorted.{Passed, passed-first, passed-next, passed-most, passed-all}
 use Rattle.paths.proofs.sorted.counts_sorted.Statement.{statement}
 use Rattle.paths.proofs.sorted.counts_sorted.Tie as tie
 
@@ -38,8 +38,12 @@ here c = c .before .before .before
 source-below : (c : tie.After-target Inv-loop μ-loop) → c .before .source .result < 1024
 source-below c = omega (arith, c .before .source .ensures .1, size (here c) .states)
 
-abbrev ends : tie.After-add Inv-loop μ-loop → tie.After-target Inv-loop μ-loop
-ends c = c .before .before .before .before
+-- The ends from behind the test of the count.
+abbrev ends : tie.After-struct-known Inv-loop μ-loop → tie.After-target Inv-loop μ-loop
+ends c = c .before .before .before
+
+abbrev added : tie.After-add Inv-loop μ-loop → tie.After-struct-known Inv-loop μ-loop
+added c = c .before .before .before
 
 loop-holds : tie.Need-loop-holds Inv-loop μ-loop
 loop-holds c =
@@ -60,31 +64,41 @@ target-requires c κs =
 returns : tie.Need-returns Inv-loop μ-loop
 returns c = record { complete = λ q. clash false q refl }
 
-array-copy-out-add : tie.Need-array-copy-out-add Inv-loop μ-loop
-array-copy-out-add c = source-below (c .before)
+array-copy-out-here : tie.Need-array-copy-out-here Inv-loop μ-loop
+array-copy-out-here c = source-below (c .before)
 
-array-copy-out-add-2 : tie.Need-array-copy-out-add-2 Inv-loop μ-loop
-array-copy-out-add-2 c = let at = c .before .before in omega (arith, at .target .ensures .1, size (here at) .states)
+loop-less : tie.Need-loop-less Inv-loop μ-loop
+loop-less c = omega (arith, ends (c .before) .before .before .loop-test .taken)
+
+loop-again : tie.Need-loop-again Inv-loop μ-loop
+unfolding at-state
+loop-again c =
+    let at = ends (c .before) in
+    let loop = here at .loop in
+    passed-most (decode (start (here at) .args .table .now)) (loop .i) (loop .i - 1) (loop .counts) (at .before .source .result) (at .target .result)
+    (omega (arith, at .before .before .loop-test .taken)) (loop .inv) (at .before .source .ensures .0) (at .target .ensures .0)
+    (c .before .before .before .if1 .left) (c .if2 .taken)
+
+array-copy-out-add : tie.Need-array-copy-out-add Inv-loop μ-loop
+array-copy-out-add c = let at = ends (c .before) in omega (arith, at .target .ensures .1, size (here at) .states)
 
 add-requires : tie.Need-add-requires Inv-loop μ-loop
 add-requires c κs = tt
 
 array-set-from-counts : tie.Need-array-set-from-counts Inv-loop μ-loop
-array-set-from-counts c = source-below (ends c)
+array-set-from-counts c = source-below (ends (added c))
 
-loop-less : tie.Need-loop-less Inv-loop μ-loop
-loop-less c = omega (arith, ends c .before .before .loop-test .taken)
+loop-less-2 : tie.Need-loop-less-2 Inv-loop μ-loop
+loop-less-2 c = omega (arith, ends (added c) .before .before .loop-test .taken)
 
-loop-again : tie.Need-loop-again Inv-loop μ-loop
+loop-again-2 : tie.Need-loop-again-2 Inv-loop μ-loop
 unfolding at-state
-loop-again c =
-    let at = ends c in
-    let turn = at .before .before in
+loop-again-2 c =
+    let at = ends (added c) in
     let loop = here at .loop in
     passed-next (decode (start (here at) .args .table .now)) (size (here at)) (loop .i) (loop .i - 1) (loop .counts) (at .before .source .result)
-    (at .target .result) (c .add .result)
-    (omega (arith, turn .loop-test .taken)) (loop .inv) (at .before .source .ensures .0) (at .target .ensures .0) (c .before .before .before .if1 .left)
-    (c .add .ensures)
+    (at .target .result) (c .add .result) (omega (arith, at .before .before .loop-test .taken)) (loop .inv) (at .before .source .ensures .0)
+    (at .target .ensures .0) (added c .before .before .if1 .left) (c .add .ensures)
 
 returns-2 : tie.Need-returns-2 Inv-loop μ-loop
 returns-2 c =
@@ -103,10 +117,12 @@ counts-sorted-spec =
     source-requires
     target-requires
     returns
-    array-copy-out-add
-    array-copy-out-add-2
-    add-requires
-    array-set-from-counts
+    array-copy-out-here
     loop-less
     loop-again
+    array-copy-out-add
+    add-requires
+    array-set-from-counts
+    loop-less-2
+    loop-again-2
     returns-2)
