@@ -1,4 +1,4 @@
--- Settling by a queue: a state comes off, each arc that leads to it is relaxed, and in the end all is settled. These laws know of relaxing an arc
+-- Settling by a queue: all arcs are relaxed once, then those that lead to a state that comes off, until all is settled. These laws know of relaxing an arc
 -- only what `Relaxed` says. Assumes nothing.
 use mathlib.Core.Path.{_≡_, refl, sym, ap, _∙_}
 use mathlib.Core.Bool.{Bool, true, false, _&&_, cond}
@@ -18,15 +18,104 @@ use Rattle.paths.proofs.Ready.{Sized}
 use Rattle.reach.specs.Index.{leads-to, into-below, place, By-target}
 use Rattle.reach.proofs.ByTarget.{place-low, place-high, place-injective, stands-at}
 use Rattle.shortest.specs.Nearest.{by-state, Nearing, Settled, Long, No-better, Relaxed}
-use Rattle.shortest.specs.Queue.{cell, waiting, Queue, Settling, none, to-do}
+use Rattle.shortest.specs.Queue.{cell, waiting, Queue, Joined, Settling, none, to-do}
 use Rattle.shortest.proofs.Best.{clash}
 use Rattle.shortest.proofs.Waiting.{mark-other, queue-empty, queue-push, push-here, push-stays, queue-room, queue-pop, pop-state}
 
-pub settling-first : {t : Transducer} {n : ℕ} {cs ls ring : List ℕ} {waits : List Bool} {head many : ℕ} → Sized t → Long cs ls
-    → Nearing t (by-state cs) (by-state ls) → n ≡ t .states → Queue n ring waits head many → ((s : ℕ) → s < n → waiting waits s ≡ true)
-    → Settling t none cs ls ring waits head many
-settling-first {t} z long near e q all =
-    record { long = long; nearing = near; queue = rw e at q; by-arc = λ i b. inr (inl (all (arc t i .target) (omega (arith, z .within .arrives i b)))) }
+-- An arc is relaxed, and its source joins the queue where it gets better.
+
+module _ {t : Transducer} (z : Sized t) {cs ls ring : List ℕ} {waits : List Bool} {head many : ℕ} (i : ℕ) (b : i < length (t .arcs))
+    (q : Queue (t .states) ring waits head many) {cs' ls' : List ℕ} {better : Bool} (r : Relaxed t i cs ls cs' ls' better) where
+  step : {ring' : List ℕ} {waits' : List Bool} {many' : ℕ} → Queue (t .states) ring' waits' head many'
+      → ((u : ℕ) → waiting waits u ≡ true → waiting waits' u ≡ true) → (better ≡ true → waiting waits' (arc t i .source) ≡ true)
+      → many' ≤ many + cond better 1 0 → Joined t i cs ls waits many cs' ls' ring' waits' head many'
+  unfolding to-do
+  step {ring'} {waits'} {many'} q' stays joins most =
+      record { long = r .long; nearing = r .nearing; queue = q'; settles = λ x old. settles x old; falls = omega (arith, r .falls, most) }
+    where
+      Now : ℕ → Type 0
+      Now x = (waiting waits' (arc t x .target) ≡ true) ⊎ No-better t cs' ls' x
+
+      -- It leads to a state that waits, or not to what got better.
+      on : (x : ℕ) → (x ≡ i) ⊎ No-better t cs ls x → (v : Bool) → waiting waits' (arc t x .target) ≡ v → Now x
+      on x old true w = inl w
+      on x old false w = inr (r .settles x old (λ v same. clash (waiting waits' (arc t x .target)) (ap (waiting waits') same ∙ joins v) w))
+
+      settles : (x : ℕ) → (x ≡ i) ⊎ ((waiting waits (arc t x .target) ≡ true) ⊎ No-better t cs ls x) → Now x
+      settles x (inl e) = on x (inl e) (waiting waits' (arc t x .target)) refl
+      settles x (inr (inl w)) = inl (stays (arc t x .target) w)
+      settles x (inr (inr w)) = on x (inr w) (waiting waits' (arc t x .target)) refl
+
+  pub joined-kept : better ≡ false → Joined t i cs ls waits many cs' ls' ring waits head many
+  joined-kept e = step q (λ u w. w) (λ v. clash better v e) (omega arith)
+
+  -- The source as it was read.
+  module _ (u : ℕ) (is : u ≡ arc t i .source) where
+    is-state : u < t .states
+    is-state = omega (arith, is, z .within .leaves i b)
+
+    pub joined-waits : waiting waits u ≡ true → Joined t i cs ls waits many cs' ls' ring waits head many
+    joined-waits w = step q (λ x v. v) (λ _. rw is at w) (omega arith)
+
+    pub joined-room : waiting waits u ≡ false → many < t .states
+    joined-room w = queue-room (z .states) q u is-state w
+
+    pub joined-pushed : {ring' : List ℕ} {waits' : List Bool} → better ≡ true → waiting waits u ≡ false → ring' ≡ set ring (cell head many) u
+        → waits' ≡ set waits u true → Joined t i cs ls waits many cs' ls' ring' waits' head (many + 1)
+    joined-pushed v w e f =
+        let here : waiting (set waits u true) u ≡ true = push-here (z .states) q u is-state w in
+        rw (e, f)
+        (step (queue-push (z .states) q u is-state w) (push-stays (z .states) q u is-state w) (λ _. rw (← is) here) (rw v (omega arith)))
+
+-- What is left to relax is less by that arc.
+pub settling-joined : {t : Transducer} {left left' : ℕ → Bool} {cs ls ring : List ℕ} {waits : List Bool} {head many : ℕ}
+    → Settling t left cs ls ring waits head many → (i : ℕ) {cs' ls' ring' : List ℕ} {waits' : List Bool} {many' : ℕ}
+    → Joined t i cs ls waits many cs' ls' ring' waits' head many' → ((x : ℕ) → x < length (t .arcs) → left x ≡ true → (x ≡ i) ⊎ (left' x ≡ true))
+    → Settling t left' cs' ls' ring' waits' head many'
+settling-joined {t} {left} {left'} {cs} {ls} {waits = waits} k i {cs'} {ls'} {waits' = waits'} j less =
+    record { long = j .long; nearing = j .nearing; queue = j .queue; by-arc = λ x h. on x h (k .by-arc x h) }
+  where
+    Now : ℕ → Type 0
+    Now x = (left' x ≡ true) ⊎ ((waiting waits' (arc t x .target) ≡ true) ⊎ No-better t cs' ls' x)
+
+    one : (x : ℕ) → (x ≡ i) ⊎ (left' x ≡ true) → Now x
+    one x (inl e) = inr (j .settles x (inl e))
+    one x (inr e) = inl e
+
+    on : (x : ℕ) → x < length (t .arcs) → (left x ≡ true) ⊎ ((waiting waits (arc t x .target) ≡ true) ⊎ No-better t cs ls x) → Now x
+    on x h (inl e) = one x (less x h e)
+    on x h (inr w) = inr (j .settles x (inr w))
+
+-- All arcs in order, with an empty queue.
+
+unfoldable pub from-on : (i : ℕ) → ℕ → Bool
+from-on i x = leb i x
+
+pub ordered-first : {t : Transducer} {cs ls ring : List ℕ} {waits : List Bool} → Long cs ls → Nearing t (by-state cs) (by-state ls)
+    → Queue (t .states) ring waits 0 0 → Settling t (from-on 0) cs ls ring waits 0 0
+unfolding from-on
+ordered-first long near q = record { long = long; nearing = near; queue = q; by-arc = λ x h. inl (le-leb 0 x (omega arith)) }
+
+pub ordered-next : (i x : ℕ) → from-on i x ≡ true → (x ≡ i) ⊎ (from-on (i + 1) x ≡ true)
+unfolding from-on
+ordered-next i x e = on (ℕ-discrete x i)
+  where
+    on : Dec (x ≡ i) → (x ≡ i) ⊎ (leb (i + 1) x ≡ true)
+    on (yes q) = inl q
+    on (no q) = inr (le-leb (i + 1) x (omega (arith, leb-true i x e)))
+
+pub ordered-stop : {t : Transducer} {cs ls ring : List ℕ} {waits : List Bool} {head many i : ℕ} → Settling t (from-on i) cs ls ring waits head many
+    → length (t .arcs) ≤ i → Settling t none cs ls ring waits head many
+unfolding from-on
+ordered-stop {t} {cs} {ls} {waits = waits} {i = i} k e =
+    record { long = k .long; nearing = k .nearing; queue = k .queue; by-arc = λ x h. on x h (k .by-arc x h) }
+  where
+    on : (x : ℕ) → x < length (t .arcs) → (leb i x ≡ true) ⊎ ((waiting waits (arc t x .target) ≡ true) ⊎ No-better t cs ls x)
+        → (none x ≡ true) ⊎ ((waiting waits (arc t x .target) ≡ true) ⊎ No-better t cs ls x)
+    on x h (inl q) = absurd (omega (arith, leb-true i x q))
+    on x h (inr w) = inr w
+
+-- A state comes off.
 
 pub settling-popped : {t : Transducer} {cs ls ring : List ℕ} {waits waits' : List Bool} {head head' many : ℕ} → Sized t
     → Settling t none cs ls ring waits head many → 0 < many → (s : ℕ) → s ≡ getD ring head 0 → waits' ≡ set waits s false → head' ≡ cell head 1
@@ -126,60 +215,19 @@ module _ {t : Transducer} {heads into : List ℕ} (by : By-target t heads into) 
       let e : getD into p 0 ≡ x .number = ap (λ (k : ℕ). getD into k 0) (sym (x .there)) ∙ by .stands (x .number) (x .below) in
       rw e (record { below = x .below; leads = x .leads; there = x .there })
 
-module _ {t : Transducer} (z : Sized t) {s p many₀ : ℕ} {cs₀ ls₀ cs ls ring : List ℕ} {waits : List Bool} {head many : ℕ}
-    (k : Relaxing t s p cs₀ ls₀ many₀ cs ls ring waits head many) (i : ℕ) (arc-is : Stands t s p i) {cs' ls' : List ℕ} {better : Bool}
-    (r : Relaxed t i cs ls cs' ls' better) where
-  pub relaxing-source : arc t i .source < t .states
-  relaxing-source = z .within .leaves i (arc-is .below)
+pub relaxing-next : {t : Transducer} {s p many₀ : ℕ} {cs₀ ls₀ cs ls ring : List ℕ} {waits : List Bool} {head many : ℕ}
+    → Relaxing t s p cs₀ ls₀ many₀ cs ls ring waits head many → (i : ℕ) → Stands t s p i → {cs' ls' ring' : List ℕ} {waits' : List Bool} {many' : ℕ}
+    → Joined t i cs ls waits many cs' ls' ring' waits' head many' → Relaxing t s (p + 1) cs₀ ls₀ many₀ cs' ls' ring' waits' head many'
+unfolding left-from
+relaxing-next {t} {s} {p} k i here j =
+    record { low = omega (arith, k .low); settling = settling-joined (k .settling) i j less; falls = omega (arith, k .falls, j .falls) }
+  where
+    on : (x : ℕ) → x < length (t .arcs) → leads-to t s x ≡ true → p ≤ place t x → Dec (place t x ≡ p)
+        → (x ≡ i) ⊎ (leads-to t s x && leb (p + 1) (place t x) ≡ true)
+    on x h to le (yes e) = inl (place-injective t x i h (here .below) (e ∙ sym (here .there)))
+    on x h to le (no e) = inr (true-and (leads-to t s x) (leb (p + 1) (place t x)) to (le-leb (p + 1) (place t x) (omega arith)))
 
-  step : {ring' : List ℕ} {waits' : List Bool} {many' : ℕ} → Queue (t .states) ring' waits' head many'
-      → ((u : ℕ) → waiting waits u ≡ true → waiting waits' u ≡ true) → (better ≡ true → waiting waits' (arc t i .source) ≡ true)
-      → many' ≤ many + cond better 1 0 → Relaxing t s (p + 1) cs₀ ls₀ many₀ cs' ls' ring' waits' head many'
-  unfolding left-from leads-to to-do
-  step {ring'} {waits'} {many'} q stays joins most =
-      record {
-        low = omega (arith, k .low);
-        settling = record { long = r .long; nearing = r .nearing; queue = q; by-arc = λ x h. by-arc x h (k .settling .by-arc x h) };
-        falls = omega (arith, k .falls, r .falls, most);
-      }
-    where
-      Now : ℕ → Type 0
-      Now x = (left-from t s (p + 1) x ≡ true) ⊎ ((waiting waits' (arc t x .target) ≡ true) ⊎ No-better t cs' ls' x)
-
-      -- It waits, or the arc does not lead to what got better.
-      settled : (x : ℕ) → (x ≡ i) ⊎ No-better t cs ls x → Now x
-      settled x old = on (waiting waits' (arc t x .target)) refl
-        where
-          on : (v : Bool) → waiting waits' (arc t x .target) ≡ v → Now x
-          on true w = inr (inl w)
-          on false w = inr (inr (r .settles x old (λ v same. clash (waiting waits' (arc t x .target)) (ap (waiting waits') same ∙ joins v) w)))
-
-      left : (x : ℕ) → x < length (t .arcs) → leads-to t s x ≡ true → p ≤ place t x → Dec (place t x ≡ p) → Now x
-      left x h to le (yes e) = settled x (inl (place-injective t x i h (arc-is .below) (e ∙ sym (arc-is .there))))
-      left x h to le (no e) = inl (true-and (leads-to t s x) (leb (p + 1) (place t x)) to (le-leb (p + 1) (place t x) (omega arith)))
-
-      by-arc : (x : ℕ) → x < length (t .arcs) → (left-from t s p x ≡ true) ⊎ ((waiting waits (arc t x .target) ≡ true) ⊎ No-better t cs ls x) → Now x
-      by-arc x h (inl e) =
-          let both = and-true (leads-to t s x) (leb p (place t x)) e in
-          left x h (both .0) (leb-true p (place t x) (both .1)) (ℕ-discrete (place t x) p)
-      by-arc x h (inr (inl w)) = inr (inl (stays (arc t x .target) w))
-      by-arc x h (inr (inr w)) = settled x (inr w)
-
-  pub relaxing-kept : better ≡ false → Relaxing t s (p + 1) cs₀ ls₀ many₀ cs' ls' ring waits head many
-  relaxing-kept e = step (k .settling .queue) (λ u w. w) (λ v. clash better v e) (omega arith)
-
-  -- The source as it was read.
-  module _ (u : ℕ) (is : u ≡ arc t i .source) where
-    pub relaxing-waits : waiting waits u ≡ true → Relaxing t s (p + 1) cs₀ ls₀ many₀ cs' ls' ring waits head many
-    relaxing-waits w = step (k .settling .queue) (λ x v. v) (λ _. rw is at w) (omega arith)
-
-    pub relaxing-room : waiting waits u ≡ false → many < t .states
-    relaxing-room w = queue-room (z .states) (k .settling .queue) u (omega (arith, is, relaxing-source)) w
-
-    pub relaxing-pushed : {ring' : List ℕ} {waits' : List Bool} → better ≡ true → waiting waits u ≡ false → ring' ≡ set ring (cell head many) u
-        → waits' ≡ set waits u true → Relaxing t s (p + 1) cs₀ ls₀ many₀ cs' ls' ring' waits' head (many + 1)
-    relaxing-pushed v w e f =
-        let b : u < t .states = omega (arith, is, relaxing-source) in
-        let here : waiting (set waits u true) u ≡ true = push-here (z .states) (k .settling .queue) u b w in
-        rw (e, f) (step (queue-push (z .states) (k .settling .queue) u b w) (push-stays (z .states) (k .settling .queue) u b w)
-        (λ _. rw (← is) here) (rw v (omega arith)))
+    less : (x : ℕ) → x < length (t .arcs) → leads-to t s x && leb p (place t x) ≡ true → (x ≡ i) ⊎ (leads-to t s x && leb (p + 1) (place t x) ≡ true)
+    less x h e =
+        let both = and-true (leads-to t s x) (leb p (place t x)) e in
+        on x h (both .0) (leb-true p (place t x) (both .1)) (ℕ-discrete (place t x) p)

@@ -61,6 +61,18 @@ queue-empty {n} {waits = waits} q e s b = on (waiting waits s) refl
     on false w = w
     on true w = absurd (omega (arith, q .counted, count-before (waiting waits) s n b w))
 
+pub queue-none : (n : ℕ) {ring : List ℕ} {waits : List Bool} → n ≤ 1024 → length ring ≡ 1024 → waits ≡ replicate 1024 false → Queue n ring waits 0 0
+queue-none n {ring} {waits} few long e =
+    record {
+      ring-long = long;
+      waits-long = rw e (length-replicate {A = Bool} 1024 false);
+      head-below = omega arith;
+      counted = sym (count-none n (waiting waits) (λ u b. rw e (getD-replicate {A = Bool} 1024 u false false (omega arith))));
+      state = λ k c. absurd (omega arith);
+      waits-there = λ k c. absurd (omega arith);
+      once = λ j k c. absurd (omega arith);
+    }
+
 -- A state comes on.
 
 module _ {n head many : ℕ} {ring : List ℕ} {waits : List Bool} (few : n ≤ 1024) (q : Queue n ring waits head many) (s : ℕ) (b : s < n)
@@ -139,7 +151,9 @@ module _ {n head many : ℕ} {ring : List ℕ} {waits : List Bool} (few : n ≤ 
         head-below = cell-below head 1;
         counted = omega (arith, q .counted, one-less);
         state = λ k c. rw (cell-next head k) (q .state (k + 1) (omega arith));
-        waits-there = λ k c. rw (cell-next head k) (mark-other waits first (getD ring (cell head (k + 1)) 0) false (other k c) ∙ q .waits-there (k + 1) (omega arith));
+        waits-there = λ k c.
+            rw (cell-next head k)
+            (mark-other waits first (getD ring (cell head (k + 1)) 0) false (other k c) ∙ q .waits-there (k + 1) (omega arith));
         once = λ j k c d e. once j k c d e;
       }
     where
@@ -158,52 +172,3 @@ module _ {n head many : ℕ} {ring : List ℕ} {waits : List Bool} (few : n ≤ 
       once j k c d e =
           let e' : getD ring (cell head (j + 1)) 0 ≡ getD ring (cell head (k + 1)) 0 = rw (cell-next head j, cell-next head k) at e in
           omega (arith, q .once (j + 1) (k + 1) (omega arith) (omega arith) e')
-
--- All states come on, in order.
-
-pub record Filling (n s : ℕ) (ring : List ℕ) (waits : List Bool) : Type 0 where
-  pub queue : Queue n ring waits 0 s
-  pub so-far : (u : ℕ) → u < s → waiting waits u ≡ true
-  pub rest : (u : ℕ) → s ≤ u → u < n → waiting waits u ≡ false
-
-pub filling-first : {n : ℕ} {ring : List ℕ} {waits : List Bool} → n ≤ 1024 → length ring ≡ 1024 → waits ≡ replicate 1024 false → Filling n 0 ring waits
-filling-first {n} {ring} {waits} few long e =
-    record {
-      queue =
-          record {
-            ring-long = long;
-            waits-long = rw e (length-replicate {A = Bool} 1024 false);
-            head-below = omega arith;
-            counted = sym (count-none n (waiting waits) (λ u b. rest u (omega arith) b));
-            state = λ k c. absurd (omega arith);
-            waits-there = λ k c. absurd (omega arith);
-            once = λ j k c. absurd (omega arith);
-          };
-      so-far = λ u c. absurd (omega arith);
-      rest = rest;
-    }
-  where
-    rest : (u : ℕ) → 0 ≤ u → u < n → waiting waits u ≡ false
-    rest u a b = rw e (getD-replicate {A = Bool} 1024 u false false (omega arith))
-
-pub filling-next : {n s : ℕ} {ring ring' : List ℕ} {waits waits' : List Bool} → n ≤ 1024 → s < n → Filling n s ring waits
-    → ring' ≡ set ring (cell 0 s) s → waits' ≡ set waits s true → Filling n (s + 1) ring' waits'
-filling-next {n} {s} {ring} {ring'} {waits} few b k e f =
-    rw (e, f) (record {
-      queue = queue-push few (k .queue) s b new;
-      so-far = λ u c. so-far u c (ℕ-discrete u s);
-      rest = λ u c d. mark-other waits s u true (λ i. omega arith) ∙ k .rest u (omega arith) d;
-    })
-  where
-    new : waiting waits s ≡ false
-    new = k .rest s (omega arith) b
-
-    so-far : (u : ℕ) → u < s + 1 → Dec (u ≡ s) → waiting (set waits s true) u ≡ true
-    so-far u c (yes i) = rw i (push-here few (k .queue) s b new)
-    so-far u c (no i) = push-stays few (k .queue) s b new u (k .so-far u (omega arith))
-
-pub filling-stop : {n s : ℕ} {ring : List ℕ} {waits : List Bool} → Filling n s ring waits → s ≡ n
-    → Queue n ring waits 0 n × ((u : ℕ) → u < n → waiting waits u ≡ true)
-filling-stop {n} {s} {ring} {waits} k e =
-    let q : Queue n ring waits 0 n = rw e at (k .queue) in
-    (q, λ u b. k .so-far u (omega arith))

@@ -3,7 +3,7 @@ use mathlib.Core.Path.{_≡_}
 use mathlib.Core.Bool.{Bool, true, false}
 use mathlib.Core.Logic.{_⊎_}
 use mathlib.Core.List.{List}
-use Prim.Native.Nat.{ℕ, _+_, _%_, _<_}
+use Prim.Native.Nat.{ℕ, _+_, _%_, _≤_, _<_}
 use lib.ListN.{length, getD}
 use Rattle.transducer.specs.Format.{Transducer}
 use Rattle.transducer.specs.Path.{arc}
@@ -29,6 +29,21 @@ pub record Queue (n : ℕ) (ring : List ℕ) (waits : List Bool) (head many : �
   pub waits-there : (k : ℕ) → k < many → waiting waits (getD ring (cell head k) 0) ≡ true
   pub once : (j k : ℕ) → j < many → k < many → getD ring (cell head j) 0 ≡ getD ring (cell head k) 0 → j ≡ k
 
+-- What falls with each state that comes off the queue: a state comes on only when its cost or number of arcs falls.
+unfoldable pub to-do : Transducer → (cs ls : List ℕ) → (many : ℕ) → ℕ
+to-do t cs ls many = total (t .states) (height (by-state cs) (by-state ls)) + many
+
+-- What relaxing arc i leaves where its source joins the queue when it gets better: an arc makes its source better only where it leads to a state
+-- that waits, if that held before or it is arc i.
+pub record Joined (t : Transducer) (i : ℕ) (cs ls : List ℕ) (waits : List Bool) (many : ℕ) (cs' ls' ring' : List ℕ) (waits' : List Bool) (head many' : ℕ)
+    : Type 0 where
+  pub long : Long cs' ls'
+  pub nearing : Nearing t (by-state cs') (by-state ls')
+  pub queue : Queue (t .states) ring' waits' head many'
+  pub settles : (x : ℕ) → (x ≡ i) ⊎ ((waiting waits (arc t x .target) ≡ true) ⊎ No-better t cs ls x)
+      → (waiting waits' (arc t x .target) ≡ true) ⊎ No-better t cs' ls' x
+  pub falls : to-do t cs' ls' many' ≤ to-do t cs ls many
+
 -- Costs and numbers of arcs on their way: an arc that makes its source better leads to a state that waits, or is one of those left to relax.
 pub record Settling (t : Transducer) (left : ℕ → Bool) (cs ls ring : List ℕ) (waits : List Bool) (head many : ℕ) : Type 0 where
   pub long : Long cs ls
@@ -39,7 +54,3 @@ pub record Settling (t : Transducer) (left : ℕ → Bool) (cs ls ring : List �
 -- No arc is left.
 abbrev pub none : (i : ℕ) → Bool
 none i = false
-
--- What falls with each state that comes off the queue: a state comes on only when its cost or number of arcs falls.
-unfoldable pub to-do : Transducer → (cs ls : List ℕ) → (many : ℕ) → ℕ
-to-do t cs ls many = total (t .states) (height (by-state cs) (by-state ls)) + many

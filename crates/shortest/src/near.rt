@@ -1,8 +1,8 @@
 // By state, the least cost to come and the fewest arcs at that cost, updated in place until nothing changes, and the path along them.
 ghost use mathlib.Core.Path.{_≡_};
 ghost use Prim.Native.Nat.{ℕ, _+_, _-_, _≤_, _<_, min};
-ghost use mathlib.Core.Bool.{true};
-ghost use lib.ListN.{length, getD};
+ghost use mathlib.Core.Bool.{true, false};
+ghost use lib.ListN.{length, getD, replicate};
 ghost use Rattle.wire.specs.Bytes.{filled};
 ghost use Rattle.transducer.specs.Format.{decode};
 ghost use Rattle.transducer.specs.Leaf.{Opened, Indexed};
@@ -12,7 +12,7 @@ ghost use Rattle.shortest.specs.Shortest.{no-path, nearer};
 ghost use Rattle.reach.specs.Index.{leads-to, By-target};
 ghost use Rattle.shortest.specs.Nearest.{by-state, most-arcs, cost-by, arcs-by, is-nearest, code-cost, Nearing, Settled, Long};
 ghost use Rattle.shortest.specs.Nearest.{Relaxed, Swept-says, Settled-says, first-giving, first-tight, follow};
-ghost use Rattle.shortest.specs.Queue.{Settling, none, to-do};
+ghost use Rattle.shortest.specs.Queue.{Queue, Joined, Settling, none, to-do};
 use crate::queue;
 
 pub const NO_PATH: u32 = 4294967295;
@@ -168,7 +168,58 @@ fn sweep(
     again
 }
 
-// Relaxes the arcs that lead to state `s`; a source that gets better joins the queue, whose new length it returns.
+// Relaxes arc `i`; where its source gets better it joins the `count` states that wait, unless it is one of them. Returns how many wait now.
+fn relax_and_join(
+    table: &[u8],
+    first: usize,
+    i: usize,
+    costs: &mut [u32; 1024],
+    lens: &mut [u16; 1024],
+    ring: &mut [u16; 1024],
+    waits: &mut [bool; 1024],
+    head: usize,
+    count: usize,
+) -> usize
+    requires { ⌜ Opened (now table) first × (i < length (decode (now table) .arcs)) × Nearing (decode (now table)) (by-state (now costs)) (by-state (now lens))
+        × Long (now costs) (now lens) × Queue (decode (now table) .states) (now ring) (now waits) head count ⌝ }
+    ensures { λ r. ⌜ Joined (decode (now (table .entry))) i (now (costs .entry)) (now (lens .entry)) (now (waits .entry)) count
+        (now (costs .exit)) (now (lens .exit)) (now (ring .exit)) (now (waits .exit)) head r ⌝ }
+{
+    if !relax(table, first, i, costs, lens) {
+        return count;
+    }
+    let from = reach::source(table, first, i);
+    if waits[from] {
+        return count;
+    }
+    queue::push(ring, waits, head, count, from);
+    count + 1
+}
+
+// Relaxes all arcs in order, with an empty queue that what gets better joins. Returns how many wait then.
+fn relax_all(
+    table: &[u8],
+    first: usize,
+    arcs: usize,
+    costs: &mut [u32; 1024],
+    lens: &mut [u16; 1024],
+    ring: &mut [u16; 1024],
+    waits: &mut [bool; 1024],
+) -> usize
+    requires { ⌜ Opened (now table) first × (arcs ≡ length (decode (now table) .arcs)) × Nearing (decode (now table)) (by-state (now costs)) (by-state (now lens))
+        × Long (now costs) (now lens) × (length (now ring) ≡ 1024) × (now waits ≡ replicate 1024 false) ⌝ }
+    ensures { λ r. ⌜ Settling (decode (now (table .entry))) none (now (costs .exit)) (now (lens .exit)) (now (ring .exit)) (now (waits .exit)) 0 r ⌝ }
+{
+    let mut count = 0;
+    let mut i = 0;
+    while i < arcs {
+        count = relax_and_join(table, first, i, costs, lens, ring, waits, 0, count);
+        i += 1;
+    }
+    count
+}
+
+// Relaxes the arcs that lead to state `s`, as above.
 fn relax_into(
     table: &[u8],
     first: usize,
@@ -193,22 +244,13 @@ fn relax_into(
     let mut waiting = count;
     while at < to {
         let i = into[at] as usize;
+        waiting = relax_and_join(table, first, i, costs, lens, ring, waits, head, waiting);
         at += 1;
-        if !relax(table, first, i, costs, lens) {
-            continue;
-        }
-        let from = reach::source(table, first, i);
-        if waits[from] {
-            continue;
-        }
-        queue::push(ring, waits, head, waiting, from);
-        waiting += 1;
     }
     waiting
 }
 
-// Settles what a sweep may leave, by a queue that begins with all states: the arcs that lead to a state are relaxed when it comes off,
-// and it comes on again when it gets better.
+// Settles what a sweep may leave, by a queue of the states that got better: when one comes off, the arcs that lead to it are relaxed.
 fn drain(table: &[u8], first: usize, arcs: usize, costs: &mut [u32; 1024], lens: &mut [u16; 1024])
     requires { ⌜ Opened (now table) first × (arcs ≡ length (decode (now table) .arcs))
         × Nearing (decode (now table)) (by-state (now costs)) (by-state (now lens)) × Long (now costs) (now lens) ⌝ }
@@ -221,9 +263,8 @@ fn drain(table: &[u8], first: usize, arcs: usize, costs: &mut [u32; 1024], lens:
     reach::by_target(table, first, states, arcs, &mut heads, &mut into);
     let mut ring = [0u16; 1024];
     let mut waits = [false; 1024];
-    queue::fill(states, &mut ring, &mut waits);
+    let mut count = relax_all(table, first, arcs, costs, lens, &mut ring, &mut waits);
     let mut head = 0;
-    let mut count = states;
     while count > 0 {
         let s = queue::pop(&ring, &mut waits, head);
         head = queue::behind(head, 1);

@@ -1,9 +1,9 @@
 // A queue of states, first in first out, none twice: a ring of 1,024 cells in which so many wait from its head on, and whether each state waits.
 ghost use mathlib.Core.Path.{_≡_};
 ghost use mathlib.Core.Bool.{true, false};
-ghost use Prim.Native.Nat.{ℕ, _<_, _≤_};
-ghost use lib.ListN.{length, getD, set, replicate};
-ghost use Rattle.shortest.specs.Queue.{cell, Queue};
+ghost use Prim.Native.Nat.{_<_};
+ghost use lib.ListN.{length, getD, set};
+ghost use Rattle.shortest.specs.Queue.{cell};
 
 // The cell so many behind the head.
 pub fn behind(head: usize, k: usize) -> usize
@@ -31,17 +31,4 @@ pub fn pop(ring: &[u16; 1024], waits: &mut [bool; 1024], head: usize) -> usize
     let s = ring[head] as usize;
     waits[s] = false;
     s
-}
-
-// Puts all states on an empty queue, in order.
-pub fn fill(states: usize, ring: &mut [u16; 1024], waits: &mut [bool; 1024])
-    requires { ⌜ (states ≤ 1024) × (length (now ring) ≡ 1024) × (now waits ≡ replicate 1024 false) ⌝ }
-    ensures { λ _. ⌜ Queue states (now (ring .exit)) (now (waits .exit)) 0 states
-        × ((s : ℕ) → s < states → getD (now (waits .exit)) s false ≡ true) ⌝ }
-{
-    let mut s = 0;
-    while s < states {
-        push(ring, waits, 0, s, s);
-        s += 1;
-    }
 }

@@ -10,16 +10,16 @@ use Rattle.transducer.proofs.Offsets.{length-accepted}
 use Rattle.paths.proofs.Ready.{Sized, Headed, sized, headed}
 use Rattle.shortest.specs.Queue.{Settling, none, to-do}
 use Rattle.shortest.proofs.Waiting.{pop-state}
-use Rattle.shortest.proofs.Settling.{settling-first, settling-popped, popped-less, settling-stop}
+use Rattle.shortest.proofs.Settling.{settling-popped, popped-less, settling-stop}
 use Rattle.shortest.proofs.near.drain.Statement.{statement}
 use Rattle.shortest.proofs.near.drain.Tie as tie
 
 abbrev Inv-loop : tie.InvT-loop
-Inv-loop table first arcs costs₀ lens₀ states heads into ring₀ waits₀ head₀ count₀ costs lens ring waits head count =
+Inv-loop table first arcs costs₀ lens₀ states heads into ring₀ waits₀ count₀ head₀ costs lens ring waits count head =
     Settling (decode table) none costs lens ring waits head count
 
 abbrev μ-loop : tie.MeasureT-loop
-μ-loop table first arcs costs₀ lens₀ states heads into ring₀ waits₀ head₀ count₀ costs lens ring waits head count = to-do (decode table) costs lens count
+μ-loop table first arcs costs₀ lens₀ states heads into ring₀ waits₀ count₀ head₀ costs lens ring waits count head = to-do (decode table) costs lens count
 
 -- The entry, with what is known of the bytes.
 abbrev Entry : Type 0
@@ -39,12 +39,12 @@ known c =
     let from = c .before .before in
     headed (from .args .table .now) (is-bytes (c .before)) (from .pre .0 .accepted) (c .header .result) (c .header .ensures)
 
--- The arcs are placed, the states wait.
+-- The arcs are placed, and all were relaxed once.
 abbrev header-of : tie.After-by-target Inv-loop μ-loop → tie.After-header Inv-loop μ-loop
 header-of c = c .before .before .before .before
 
-abbrev placed : tie.After-fill Inv-loop μ-loop → tie.After-by-target Inv-loop μ-loop
-placed c = c .before .before .before
+abbrev placed : tie.After-relax-all Inv-loop μ-loop → tie.After-by-target Inv-loop μ-loop
+placed c = c .before .before .before .before .before
 
 -- A turn of the loop, whose state came off.
 abbrev Turn : Type 0
@@ -79,16 +79,13 @@ by-target-requires c κs =
     let pre = header .before .before .pre in
     (pre .0, known header .states-are, pre .1, refl, length-replicate {A = ℕ} 3072 0)
 
-fill-requires : tie.Need-fill-requires Inv-loop μ-loop
-fill-requires c κs =
-    let header = header-of (c .before .before) in
-    (omega (arith, known header .states-are, size (header .before) .states), length-replicate {A = ℕ} 1024 0, refl)
+relax-all-requires : tie.Need-relax-all-requires Inv-loop μ-loop
+relax-all-requires c κs =
+    let pre = header-of (c .before .before .before .before) .before .before .pre in
+    (pre .0, pre .1, pre .2, pre .3, length-replicate {A = ℕ} 1024 0, refl)
 
 loop-holds : tie.Need-loop-holds Inv-loop μ-loop
-loop-holds c =
-    let header = header-of (placed c) in
-    let pre = header .before .before .pre in
-    settling-first (size (header .before)) (pre .3) (pre .2) (known header .states-are) (c .fill .ensures .0) (c .fill .ensures .1)
+loop-holds c = c .relax-all .ensures
 
 pop-requires : tie.Need-pop-requires Inv-loop μ-loop
 pop-requires c κs =
@@ -137,7 +134,7 @@ drain-spec =
     header-requires
     cast-states
     by-target-requires
-    fill-requires
+    relax-all-requires
     loop-holds
     pop-requires
     behind-requires

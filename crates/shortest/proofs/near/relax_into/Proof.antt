@@ -1,6 +1,4 @@
--- The invariant: the arcs that lead to `s` and stand before `at` are relaxed (`Relaxing`). A turn leaves its arc's source as it was, or where it got
--- better finds it waiting or puts it on the queue.
-use borrow.Author.Tests.{not-true, not-false}
+-- The invariant: the arcs that lead to `s` and stand before `at` are relaxed (`Relaxing`).
 use Prim.Native.Nat.{ℕ, _+_, _-_, _≤_, _<_}
 use native.Mathlib.Omega.{arith}
 use lib.ListN.{length, getD}
@@ -9,8 +7,7 @@ use Rattle.transducer.specs.Format.{Transducer, decode}
 use Rattle.transducer.specs.Path.{arc}
 use Rattle.paths.proofs.Ready.{Sized, sized}
 use Rattle.reach.proofs.ByTarget.{heads-inside}
-use Rattle.shortest.proofs.Settling.{Relaxing, Stands, relaxing-first, relaxing-arc, relaxing-source, relaxing-kept, relaxing-waits}
-use Rattle.shortest.proofs.Settling.{relaxing-room, relaxing-pushed, relaxing-stop}
+use Rattle.shortest.proofs.Settling.{Relaxing, Stands, relaxing-first, relaxing-arc, relaxing-next, relaxing-stop}
 use Rattle.shortest.proofs.near.relax_into.Statement.{statement}
 use Rattle.shortest.proofs.near.relax_into.Tie as tie
 
@@ -62,24 +59,8 @@ stands c =
     let from = entry c .before in
     relaxing-arc (from .pre .1) (from .args .s) (from .pre .2) (c .before .loop .inv .low) (c .loop-test .taken)
 
--- The arc is relaxed; its source is read.
-abbrev relaxed : tie.After-relax Inv-loop μ-loop → Turn
-relaxed c = c .before .before .before .before
-
-abbrev Read : Type 0
-Read = tie.After-source Inv-loop μ-loop
-
-abbrev got : Read → tie.After-relax Inv-loop μ-loop
-got c = c .before .before
-
-source-few : (c : Read) → c .source .result < 1024
-source-few c = omega (arith, c .source .ensures .1, size (entry (relaxed (got c))) .states)
-
-abbrev pushed : tie.After-push Inv-loop μ-loop → tie.Else2 Inv-loop μ-loop
-pushed c = c .before .before .before
-
-abbrev asked : tie.Else2 Inv-loop μ-loop → Read
-asked c = c .before .before
+abbrev turn : tie.After-relax-and-join Inv-loop μ-loop → Turn
+turn c = c .before .before .before .before .before .before
 
 add-to : tie.Need-add-to Inv-loop μ-loop
 add-to c = omega (arith, is-state c)
@@ -116,71 +97,20 @@ element-copy-out-i c = few c
 cast-i : tie.Need-cast-i Inv-loop μ-loop
 cast-i c = let t = c .before in omega (arith, stands t .below, size (entry t) .arcs)
 
-add-at : tie.Need-add-at Inv-loop μ-loop
-add-at c = omega (arith, few (c .before))
-
-relax-requires : tie.Need-relax-requires Inv-loop μ-loop
-relax-requires c κs =
-    let t = c .before .before .before in
+relax-and-join-requires : tie.Need-relax-and-join-requires Inv-loop μ-loop
+relax-and-join-requires c κs =
+    let t = c .before .before .before .before .before in
     let k = t .before .loop .inv .settling in
-    (entry t .before .pre .0, stands t .below, k .nearing, k .long)
+    (entry t .before .pre .0, stands t .below, k .nearing, k .long, k .queue)
+
+add-at : tie.Need-add-at Inv-loop μ-loop
+add-at c = omega (arith, few (turn c))
 
 loop-less : tie.Need-loop-less Inv-loop μ-loop
-loop-less c = omega (arith, relaxed (c .before) .loop-test .taken)
+loop-less c = omega (arith, turn c .loop-test .taken)
 
 loop-again : tie.Need-loop-again Inv-loop μ-loop
-loop-again c =
-    let t = relaxed (c .before) in
-    relaxing-kept (size (entry t)) (t .before .loop .inv) (number t) (stands t) (c .before .relax .ensures)
-    (not-true (c .before .relax .result) (c .if1 .taken))
-
-source-requires : tie.Need-source-requires Inv-loop μ-loop
-source-requires c κs = let t = relaxed (c .before) in (entry t .before .pre .0, stands t .below)
-
-element-copy-out-if2 : tie.Need-element-copy-out-if2 Inv-loop μ-loop
-element-copy-out-if2 c = source-few c
-
-loop-less-2 : tie.Need-loop-less-2 Inv-loop μ-loop
-loop-less-2 c = omega (arith, relaxed (got (c .before .before)) .loop-test .taken)
-
-loop-again-2 : tie.Need-loop-again-2 Inv-loop μ-loop
-loop-again-2 c =
-    let read = c .before .before in
-    let t = relaxed (got read) in
-    relaxing-waits (size (entry t)) (t .before .loop .inv) (number t) (stands t) (got read .relax .ensures) (read .source .result)
-    (read .source .ensures .0) (c .if2 .taken)
-
-push-requires : tie.Need-push-requires Inv-loop μ-loop
-push-requires c κs =
-    let at = c .before .before in
-    let read = asked at in
-    let t = relaxed (got read) in
-    let z = size (entry t) in
-    let k = t .before .loop .inv in
-    let queue = k .settling .queue in
-    let room = relaxing-room z k (number t) (stands t) (got read .relax .ensures) (read .source .result) (read .source .ensures .0) (at .if2 .left) in
-    (queue .head-below, omega (arith, room, z .states), source-few read, queue .ring-long, queue .waits-long)
-
-add-waiting : tie.Need-add-waiting Inv-loop μ-loop
-add-waiting c =
-    let at = pushed c in
-    let read = asked at in
-    let t = relaxed (got read) in
-    let z = size (entry t) in
-    let k = t .before .loop .inv in
-    let room = relaxing-room z k (number t) (stands t) (got read .relax .ensures) (read .source .result) (read .source .ensures .0) (at .if2 .left) in
-    omega (arith, room, z .states)
-
-loop-less-3 : tie.Need-loop-less-3 Inv-loop μ-loop
-loop-less-3 c = omega (arith, relaxed (got (asked (pushed c))) .loop-test .taken)
-
-loop-again-3 : tie.Need-loop-again-3 Inv-loop μ-loop
-loop-again-3 c =
-    let at = pushed c in
-    let read = asked at in
-    let t = relaxed (got read) in
-    relaxing-pushed (size (entry t)) (t .before .loop .inv) (number t) (stands t) (got read .relax .ensures) (read .source .result)
-    (read .source .ensures .0) (not-false (got read .relax .result) (read .before .if1 .left)) (at .if2 .left) (c .push .ensures .0) (c .push .ensures .1)
+loop-again c = let t = turn c in relaxing-next (t .before .loop .inv) (number t) (stands t) (c .relax-and-join .ensures)
 
 returns : tie.Need-returns Inv-loop μ-loop
 returns c =
@@ -205,16 +135,8 @@ relax-into-spec =
     mul-i
     element-copy-out-i
     cast-i
+    relax-and-join-requires
     add-at
-    relax-requires
     loop-less
     loop-again
-    source-requires
-    element-copy-out-if2
-    loop-less-2
-    loop-again-2
-    push-requires
-    add-waiting
-    loop-less-3
-    loop-again-3
     returns)
