@@ -4,8 +4,9 @@ pub mod Explored
 pub mod KeyFinals
 pub mod Labels
 pub mod Leads
+pub mod Leaving
 pub mod LeastSums
-pub mod Marks
+pub mod Links
 pub mod MetPaths
 pub mod Moves
 pub mod Numbered

@@ -13,15 +13,16 @@ use Rattle.transducer.specs.declared.Arc.{Arc}
 use Rattle.transducer.specs.Format.{Transducer, Good}
 use Rattle.transducer.specs.Path.{arc}
 use Rattle.transducer.specs.Leaf.{arcs-below}
-use Rattle.transducer.proofs.Ranges.{arcs-below-length, arcs-below-rises}
 use Rattle.explore.proofs.Cases.{by-test, never}
 use Rattle.compose.specs.declared.Begin.{Begin}
 use Rattle.compose.specs.declared.Run.{Run}
 use Rattle.compose.specs.declared.State.{State}
 use Rattle.compose.specs.declared.Step.{Step}
+use Rattle.compose.specs.Lookup.{Rest}
 use Rattle.compose.specs.Walk.{run-step, run-steps, reading-from, begin-from, run-at}
 use Rattle.compose.specs.Taking.{Ready, In-both}
 use Rattle.transducer.proofs.RoundTrip.{good-range, good-content}
+use Rattle.compose.proofs.Leaving.{rest-at, state-leaving}
 use Rattle.compose.proofs.RunSteps.{
   run-none,
   run-skip,
@@ -91,6 +92,16 @@ module _ (u : Transducer) (label : ℕ) where
         unread = reading-unread (to - j) j;
       }
 
+  pub reading-unique : (j to k : ℕ) → j ≤ to → First-reading j to k → k ≡ reading-from u label (to - j) j
+  reading-unique j to k l f =
+      let r : ℕ = reading-from u label (to - j) j in
+      let g : First-reading j to r = first-reading j to l in
+      by-test (ltb k r)
+      (λ e. let h : k < r = ltb-true k r e in absurd (g .unread k (f .least) h (f .reads (omega (arith, g .most)))))
+      (λ e. by-test (ltb r k)
+      (λ d. let h : r < k = ltb-true r k d in absurd (f .unread r (g .least) h (g .reads (omega (arith, f .most)))))
+      (λ d. omega (arith, ltb-false k r e, ltb-false r k d)))
+
 -- One step of a run
 
 module _ (u : Transducer) (r : Run) where
@@ -105,50 +116,45 @@ module _ (u : Transducer) (r : Run) where
     pub ready : Ready u r k to
     pub are : run-steps u r (to - j) j ≡ run-step u r j ∷ run-steps u r (to - k) k
 
-  pub next-step : (j to k : ℕ) → Ready u r j to → j < to → k ≡ cond (r .alone) to (reading-from u (r .label) (to - (j + 1)) (j + 1))
-      → Next-step j to k
-  next-step j to k ready l is = by-test (r .alone) alone both
-    where
-      alone : r .alone ≡ true → Next-step j to k
-      alone e =
-          let k-is : k ≡ to = rw e at is in
-          let short : to ≤ j + 1 = ready .single e in
-          let same : k ≡ suc j = omega arith in
-          record {
-            past = omega arith;
-            ready =
-                record {
-                  target-fits = ready .target-fits;
-                  weight-fits = ready .weight-fits;
-                  inside = ready .inside;
-                  single = λ h. omega arith;
-                  fits-here = λ h. absurd (omega arith);
-                };
-            are = rw same (first-step j to ready l);
-          }
-
-      both : r .alone ≡ false → Next-step j to k
-      both e =
-          let k-is : k ≡ reading-from u (r .label) (to - (j + 1)) (j + 1) = rw e at is in
-          let first : First-reading u (r .label) (j + 1) to k = rw k-is (first-reading u (r .label) (j + 1) to (omega arith)) in
-          let skip : run-steps u r (to - suc j) (suc j) ≡ run-steps u r (to - k) k =
-          run-skip u r e (suc j) k to (omega (arith, first .least)) (first .most) (λ m p q. first .unread m (omega arith) q) in
-          record {
-            past = omega (arith, first .least);
-            ready =
-                record {
-                  target-fits = ready .target-fits;
-                  weight-fits = ready .weight-fits;
-                  inside = ready .inside;
-                  single = λ h. never (rw e at h);
-                  fits-here = λ h. rw e (eq-eqb (arc u k .input) (r .label) (first .reads h));
-                };
-            are = first-step j to ready l ∙ ap (λ (ss : List Step). run-step u r j ∷ ss) skip;
-          }
-
   -- A run alone is at its end after one step.
   pub next-alone : (j to : ℕ) → Ready u r j to → j < to → r .alone ≡ true → Next-step j to to
-  next-alone j to ready l e = next-step j to to ready l (rw e)
+  next-alone j to ready l e =
+      let short : to ≤ j + 1 = ready .single e in
+      let same : to ≡ suc j = omega arith in
+      record {
+        past = l;
+        ready =
+            record {
+              target-fits = ready .target-fits;
+              weight-fits = ready .weight-fits;
+              inside = ready .inside;
+              single = λ h. omega arith;
+              rest = λ h k. absurd (omega arith);
+              fits-here = λ h. absurd (omega arith);
+            };
+        are = rw same (first-step j (suc j) (rw same at ready) (omega arith));
+      }
+
+  -- Any other goes on with the next right arc that reads its label.
+  pub next-together : (j to k : ℕ) → Ready u r j to → j < to → r .alone ≡ false → k ≡ reading-from u (r .label) (to - suc j) (suc j)
+      → Next-step j to k
+  next-together j to k ready l e is =
+      let first : First-reading u (r .label) (suc j) to k = rw is (first-reading u (r .label) (suc j) to l) in
+      let skip : run-steps u r (to - suc j) (suc j) ≡ run-steps u r (to - k) k =
+      run-skip u r e (suc j) k to (first .least) (first .most) (first .unread) in
+      record {
+        past = first .least;
+        ready =
+            record {
+              target-fits = ready .target-fits;
+              weight-fits = ready .weight-fits;
+              inside = ready .inside;
+              single = λ h. never (rw e at h);
+              rest = λ h m. rest-at k (ready .rest e l) (omega (arith, first .least)) m;
+              fits-here = λ h. rw e (eq-eqb (arc u k .input) (r .label) (first .reads h));
+            };
+        are = first-step j to ready l ∙ ap (λ (ss : List Step). run-step u r j ∷ ss) skip;
+      }
 
 -- The next run
 
@@ -184,11 +190,14 @@ here-skip t u x i last to b r l none h =
     }
 
 module _ (t u : Transducer) (tg : Good t) (ug : Good u) (x : State) (inside : In-both t u x) where
+  right-rest : Rest u (x .right) (right-from u x) (right-to u x)
+  right-rest = state-leaving u (x .right) ug .rest
+
   right-inside : right-to u x ≤ length (u .arcs)
-  right-inside = arcs-below-length (suc (x .right)) (u .arcs)
+  right-inside = right-rest .within
 
   right-order : right-from u x ≤ right-to u x
-  right-order = arcs-below-rises (x .right) (suc (x .right)) (u .arcs) (omega arith)
+  right-order = right-rest .order
 
   -- Behind the last left arc: the right arcs alone.
   here-right : (last : ℕ)
@@ -207,6 +216,7 @@ module _ (t u : Transducer) (tg : Good t) (ug : Good u) (x : State) (inside : In
               weight-fits = omega arith;
               inside = λ h. right-inside;
               single = λ h. never h;
+              rest = λ h m. rest-at j right-rest (first .least) m;
               fits-here = λ h. eq-eqb (arc u j .input) 0 (first .reads h);
             };
         are-more = λ h. absurd (omega arith);
@@ -230,6 +240,7 @@ module _ (t u : Transducer) (tg : Good t) (ug : Good u) (x : State) (inside : In
               weight-fits = good-content t tg .weight i (omega arith);
               inside = λ h. never (sym h);
               single = λ h. omega arith;
+              rest = λ h. never (sym h);
               fits-here = λ h. refl;
             };
         are-more = λ h.
@@ -258,6 +269,7 @@ module _ (t u : Transducer) (tg : Good t) (ug : Good u) (x : State) (inside : In
               weight-fits = good-content t tg .weight i (omega arith);
               inside = λ h. right-inside;
               single = λ h. never h;
+              rest = λ h m. rest-at j right-rest (first .least) m;
               fits-here = λ h. eq-eqb (arc u j .input) label (first .reads h);
             };
         are-more = λ h.
@@ -311,8 +323,8 @@ module _ (t u : Transducer) (tg : Good t) (ug : Good u) (x : State) (inside : In
       (arc-steps-unread t u x i writes (λ m p q. first .unread m p (omega arith))) more)))
 
 -- The same in the words of the code.
-pub next-run-here : (t u : Transducer) (x : State) (i last from to : ℕ) (b : Begin) (r : Run) → Good t → Good u → In-both t u x
-    → from ≡ right-from u x → to ≡ right-to u x → i ≤ last → last ≤ length (t .arcs)
-    → b ≡ begin-from t u (x .filter) from (to - from) (last - i) i → r ≡ run-at t last x b → Run-here t u x i last to b r
-next-run-here t u x i last from to b r tg ug inside from-is to-is l within b-is r-is =
-    rw (r-is, b-is, from-is, to-is) (begin-here t u tg ug x inside (last - i) i last (omega arith) within)
+pub next-run-here : (t u : Transducer) (x : State) (i last to : ℕ) (b : Begin) (r : Run) → Good t → Good u → In-both t u x → to ≡ right-to u x
+    → i ≤ last → last ≤ length (t .arcs)
+    → b ≡ begin-from t u (x .filter) (right-from u x) (to - right-from u x) (last - i) i → r ≡ run-at t last x b → Run-here t u x i last to b r
+next-run-here t u x i last to b r tg ug inside to-is l within b-is r-is =
+    rw (r-is, b-is, to-is) (begin-here t u tg ug x inside (last - i) i last (omega arith) within)

@@ -1,5 +1,4 @@
--- What the code of a run relies on: an arc's labels read in place, the search for the next right arc that reads a label, and the search for
--- the next left arc with a step. Assumes nothing.
+-- What the code of a run relies on: an arc's labels read in place, and the search for the next left arc with a step. Assumes nothing.
 use mathlib.Core.Path.{_≡_, refl, sym, ap, _∙_}
 use mathlib.Core.Bool.{Bool, true, false}
 use mathlib.Core.List.{List}
@@ -44,47 +43,6 @@ module _ (bs : List ℕ) (bytes : Bytes bs) (first : ℕ) (opened : Opened bs fi
 
   pub opened-weight : (j : ℕ) → j < length (decode bs .arcs) → arc (decode bs) j .weight ≤ 1000000
   opened-weight j h = let b : Bounds bs = bounds bytes (opened .accepted) in b .weight j (omega (arith, b .arcs-long))
-
--- reading-from
-
-module _ (u : Transducer) (label to j : ℕ) where
-  reading-found : j < to → arc u j .input ≡ label → reading-from u label (to - j) j ≡ j
-  unfolding reading-from
-  reading-found l e =
-      let more : to - j ≡ suc (to - suc j) = omega arith in
-      rw (more, eq-eqb (arc u j .input) label e)
-
-  reading-next : j < to → (arc u j .input ≡ label → ⊥) → reading-from u label (to - j) j ≡ reading-from u label (to - (j + 1)) (j + 1)
-  unfolding reading-from
-  reading-next l e =
-      let more : to - j ≡ suc (to - suc j) = omega arith in
-      rw (add-one, more, ne-eqb (arc u j .input) label e)
-
-  reading-stop : to ≤ j → reading-from u label (to - j) j ≡ j
-  unfolding reading-from
-  reading-stop l = let none : to - j ≡ 0 = omega arith in rw none
-
--- The search for the next arc that reads a label has come to arc j, whose input label stands at a place: what is left gives the whole.
-pub record Fitting (u : Transducer) (first label from to j place : ℕ) : Type 0 where
-  pub within : j ≤ to
-  pub there : place ≡ first + 16 * j + 6
-  pub same : reading-from u label (to - j) j ≡ reading-from u label (to - from) from
-
-module _ {u : Transducer} {first label from to : ℕ} where
-  pub fitting-first : (place : ℕ) → from ≤ to → place ≡ first + 16 * from + 6 → Fitting u first label from to from place
-  fitting-first place l e = record { within = l; there = e; same = refl }
-
-  pub fitting-found : {j place : ℕ} → j < to → arc u j .input ≡ label → Fitting u first label from to j place
-      → j ≡ reading-from u label (to - from) from
-  fitting-found {j} l e f = sym (reading-found u label to j l e) ∙ f .same
-
-  pub fitting-next : {j place : ℕ} → j < to → (arc u j .input ≡ label → ⊥) → Fitting u first label from to j place
-      → Fitting u first label from to (j + 1) (place + 16)
-  fitting-next {j} l e f =
-      record { within = omega arith; there = omega (arith, f .there); same = sym (reading-next u label to j l e) ∙ f .same }
-
-  pub fitting-stop : {j place : ℕ} → to ≤ j → Fitting u first label from to j place → j ≡ reading-from u label (to - from) from
-  fitting-stop {j} l f = sym (reading-stop u label to j l) ∙ f .same
 
 -- Runs that differ in their target alone.
 pub to-target : {alone : Bool} {left label input target target' weight : ℕ} → target ≡ target'

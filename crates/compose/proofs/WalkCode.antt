@@ -24,9 +24,11 @@ use Rattle.compose.specs.declared.Run.{Run}
 use Rattle.compose.specs.declared.State.{State}
 use Rattle.compose.specs.declared.Step.{Step}
 use Rattle.compose.specs.Compose.{left-origin, right-origin, origin-pair, steps}
+use Rattle.compose.specs.Lookup.{Leaving}
 use Rattle.compose.specs.Walk.{unpacked, coded, keyed-step, key-steps, run-step, run-steps}
 use Rattle.compose.specs.Taking.{Ready, In-both}
 use Rattle.compose.proofs.Explored.{two-origins}
+use Rattle.compose.proofs.Leaving.{state-leaving}
 use Rattle.compose.proofs.RunSteps.{runs-from, good-runs}
 use Rattle.compose.proofs.Reading.{first-step, Next-step, right-from, right-to, Run-here}
 
@@ -74,29 +76,27 @@ module _ (u : Transducer) (r : Run) (to j : ℕ) where
   unfolding run-steps
   run-left-none end = let none : to - j ≡ 0 = omega arith in rw none
 
--- Where the arcs of a composed state's parts stand: the left ones from `first` to below `last`, the right ones from `from` to below `to`.
-pub record Placed (t u : Transducer) (x : State) (first last from to : ℕ) : Type 0 where
+-- Where the arcs of a composed state's parts stand: the left ones from `first` to below `last`, the right ones up to below `to`.
+pub record Placed (t u : Transducer) (x : State) (first last to : ℕ) : Type 0 where
   pub inside : In-both t u x
   pub first-is : first ≡ arcs-below (x .left) (t .arcs)
   pub last-is : last ≡ arcs-below (suc (x .left)) (t .arcs)
-  pub from-is : from ≡ right-from u x
   pub to-is : to ≡ right-to u x
 
 next-index : {t : Transducer} {index : List ℕ} (s : ℕ) → Indexed t index → s < t .states → getD index (s + 1) 0 ≡ arcs-below (suc s) (t .arcs)
 next-index {t} {index} s at l = ap (λ (k : ℕ). getD index k 0) (add-one s) ∙ at .at-state (suc s) l
 
 pub placed : (t u : Transducer) (x : State) (lindex rindex : List ℕ) → Indexed t lindex → Indexed u rindex → In-both t u x
-    → Placed t u x (getD lindex (x .left) 0) (getD lindex (x .left + 1) 0) (getD rindex (x .right) 0) (getD rindex (x .right + 1) 0)
+    → Placed t u x (getD lindex (x .left) 0) (getD lindex (x .left + 1) 0) (getD rindex (x .right + 1) 0)
 placed t u x lindex rindex l r inside =
     record {
       inside = inside;
       first-is = l .at-state (x .left) (omega (arith, inside .left-in));
       last-is = next-index (x .left) l (inside .left-in);
-      from-is = r .at-state (x .right) (omega (arith, inside .right-in));
       to-is = next-index (x .right) r (inside .right-in);
     }
 
-module _ {t u : Transducer} {x : State} {first last from to : ℕ} (p : Placed t u x first last from to) where
+module _ {t u : Transducer} {x : State} {first last to : ℕ} (p : Placed t u x first last to) where
   pub placed-left : (first ≤ last) × (last ≤ length (t .arcs))
   placed-left =
       let order : arcs-below (x .left) (t .arcs) ≤ arcs-below (suc (x .left)) (t .arcs) =
@@ -104,11 +104,11 @@ module _ {t u : Transducer} {x : State} {first last from to : ℕ} (p : Placed t
       let inside : arcs-below (suc (x .left)) (t .arcs) ≤ length (t .arcs) = arcs-below-length (suc (x .left)) (t .arcs) in
       (omega (arith, p .first-is, p .last-is), omega (arith, p .last-is))
 
-  pub placed-right : (from ≤ to) × (to ≤ length (u .arcs))
-  placed-right =
-      let order : right-from u x ≤ right-to u x = arcs-below-rises (x .right) (suc (x .right)) (u .arcs) (omega arith) in
-      let inside : right-to u x ≤ length (u .arcs) = arcs-below-length (suc (x .right)) (u .arcs) in
-      (omega (arith, p .from-is, p .to-is), omega (arith, p .to-is))
+  pub placed-right : to ≤ length (u .arcs)
+  placed-right = rw (p .to-is) (arcs-below-length (suc (x .right)) (u .arcs))
+
+  pub placed-leaving : Good u → Leaving u (x .right) (right-from u x) to
+  placed-leaving g = rw (p .to-is) (state-leaving u (x .right) g)
 
 -- The steps of a state
 
@@ -116,10 +116,10 @@ module _ {t u : Transducer} {x : State} {first last from to : ℕ} (p : Placed t
 unfoldable pub runs-left : (t u : Transducer) → State → (last i : ℕ) → List Keyed
 runs-left t u x last i = cond (leb i last) (map keyed-step (runs-from t u x (last - i) i)) []
 
-runs-left-first : (t u : Transducer) (x : State) (key first last from to : ℕ) → Good t → Good u → x ≡ unpacked key → Placed t u x first last from to
+runs-left-first : (t u : Transducer) (x : State) (key first last to : ℕ) → Good t → Good u → x ≡ unpacked key → Placed t u x first last to
     → key-steps t u key ≡ runs-left t u x last first
 unfolding key-steps runs-left
-runs-left-first t u x key first last from to tg ug x-is p =
+runs-left-first t u x key first last to tg ug x-is p =
     let are : map coded (steps t u x) ≡ runs-from t u x (last - first) first = rw (p .first-is, p .last-is) (good-runs t u x tg ug) in
     let order : leb first last ≡ true = le-leb first last (placed-left p .0) in
     rw (← x-is, order, are)
@@ -159,11 +159,11 @@ pub record Serving (t u : Transducer) (x : State) (source last : ℕ) (goal : So
     : Type 0 where
   pub taking : Taking 2 source (runs-left t u x last i) goal w table origins states heads links
 
-pub serving-first : (t u : Transducer) (x : State) (source first last from to : ℕ) (b : Sofar) (w : Walk) (table origins states heads links : List ℕ) → Good t
-    → Good u → source < w .states → x ≡ unpacked (getD states source 0) → Placed t u x first last from to → Walked 2 b w table origins states heads links
+pub serving-first : (t u : Transducer) (x : State) (source first last to : ℕ) (b : Sofar) (w : Walk) (table origins states heads links : List ℕ) → Good t
+    → Good u → source < w .states → x ≡ unpacked (getD states source 0) → Placed t u x first last to → Walked 2 b w table origins states heads links
     → Serving t u x source last (state-served (key-steps t u) source b) first w table origins states heads links
-serving-first t u x source first last from to b w table origins states heads links tg ug l x-is p k =
-    let are = runs-left-first t u x (getD states source 0) first last from to tg ug x-is p in
+serving-first t u x source first last to b w table origins states heads links tg ug l x-is p k =
+    let are = runs-left-first t u x (getD states source 0) first last to tg ug x-is p in
     record { taking = rw are at (taking-state (key-steps t u) source l k) }
 
 module _ {t u : Transducer} {x : State} {source last : ℕ} {goal : Sofar} {i : ℕ} {w : Walk} {table origins states heads links : List ℕ}

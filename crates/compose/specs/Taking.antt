@@ -8,13 +8,16 @@ use Rattle.transducer.specs.Format.{Transducer}
 use Rattle.transducer.specs.Path.{arc}
 use Rattle.compose.specs.declared.State.{State}
 use Rattle.compose.specs.declared.Run.{Run}
+use Rattle.compose.specs.Lookup.{Rest}
 
--- A run can be taken from right arc j to below `to`: its numbers are in range, and arc j fits unless j is at the end.
+-- A run can be taken from right arc j to below `to`: its numbers are in range, and unless j is at the end, arc j fits and the arcs of its state
+-- end at `to`.
 pub record Ready (u : Transducer) (r : Run) (j to : ℕ) : Type 0 where
   pub target-fits : r .target ≤ 2097152
   pub weight-fits : r .weight ≤ 1000000
   pub inside : r .alone ≡ false → to ≤ length (u .arcs)
   pub single : r .alone ≡ true → to ≤ j + 1
+  pub rest : r .alone ≡ false → j < to → Rest u (arc u j .source) j to
   pub fits-here : j < to → r .alone || eqb (arc u j .input) (r .label) ≡ true
 
 -- The parts of a composed state are states of the two transducers.

@@ -1,10 +1,8 @@
 -- The walk that composes: states as keys, and steps with keys for targets. Assumes nothing: these are definitions.
-use mathlib.Core.Path.{_≡_}
-use mathlib.Core.Bool.{Bool, true, false, _||_, cond}
+use mathlib.Core.Bool.{true, false, _||_, cond}
 use mathlib.Core.List.{List, [], _∷_, map}
-use Prim.Native.Nat.{ℕ, zero, suc, _+_, _*_, _/_, _%_, _≤_, _<_}
+use Prim.Native.Nat.{ℕ, zero, suc, _+_, _*_, _/_, _%_}
 use lib.Dec.{ltb, eqb}
-use lib.ListN.{length, getD}
 use Rattle.transducer.specs.Format.{Transducer, barred, decode}
 use Rattle.transducer.specs.Path.{arc}
 use Rattle.transducer.specs.Weight.{plus}
@@ -18,6 +16,7 @@ use Rattle.compose.specs.declared.Step.{Step}
 use Rattle.compose.specs.declared.Run.{Run}
 use Rattle.compose.specs.declared.Begin.{Begin}
 use Rattle.compose.specs.Compose.{steps, first-state, origin-pair}
+use Rattle.compose.specs.Lookup.{Lookup}
 
 -- A composed state as one number, and its parts again.
 unfoldable pub pack : State → ℕ
@@ -86,22 +85,11 @@ run-at t last x b =
     (record { alone = true; left = b .i; label = 0; input = a .input; target = 2048 * a .target + 2 * x .right; weight = a .weight })
     (record { alone = false; left = b .i; label = a .output; input = a .input; target = 2048 * a .target; weight = a .weight }))
 
--- The bucket of a state and a label.
-unfoldable pub label-bucket : (state label : ℕ) → ℕ
-label-bucket q label = (q * 61 + label) % 4096
-
--- The bucket of each arc's source and input label is marked.
-pub record Present (u : Transducer) (present : List Bool) : Type 0 where
-  pub marked : (j : ℕ) → j < length (u .arcs) → getD present (label-bucket (arc u j .source) (arc u j .input)) false ≡ true
-
--- The arcs from `from` to below `to` leave state q.
-pub record Leaving (u : Transducer) (q from to : ℕ) : Type 0 where
-  pub sources : (j : ℕ) → from ≤ j → j < to → arc u j .source ≡ q
-
--- Two accepted transducers with their first-arc indexes, and the labels that the right one reads.
-pub record Walkable (left : List ℕ) (lfirst : ℕ) (lindex right : List ℕ) (rfirst : ℕ) (rindex : List ℕ) (present : List Bool) : Type 0 where
+-- Two accepted transducers with their first-arc indexes, and the look-up of the right one's arcs.
+pub record Walkable (left : List ℕ) (lfirst : ℕ) (lindex right : List ℕ) (rfirst : ℕ) (rindex : List ℕ)
+    (heads chain again : List ℕ) : Type 0 where
   pub left-open : Opened left lfirst
   pub left-index : Indexed (decode left) lindex
   pub right-open : Opened right rfirst
   pub right-index : Indexed (decode right) rindex
-  pub right-labels : Present (decode right) present
+  pub right-lookup : Lookup (decode right) heads chain again

@@ -7,6 +7,7 @@ ghost use Rattle.compose.specs.Compose.{composed};
 ghost use Rattle.compose.specs.Entry.{Compose-says, compose-refusal};
 ghost use Rattle.compose.specs.Finished.{Composable, Walked-through};
 use crate::finish;
+use crate::lookup;
 use crate::runs;
 use crate::walking;
 use explore::Walk;
@@ -62,7 +63,17 @@ fn compose_into(
     let rfirst = 12 + 10 * (r.finals as usize);
     let lindex = transducer::first_arcs(left, lfirst, l.states as usize, l.arcs as usize);
     let rindex = transducer::first_arcs(right, rfirst, r.states as usize, r.arcs as usize);
-    let present = runs::labels_present(right, rfirst, r.arcs as usize);
+    let mut rheads = [0u16; 4096];
+    let mut chain = [0u16; 3072];
+    let mut again = [0u16; 3072];
+    lookup::put_chains(
+        right,
+        rfirst,
+        r.arcs as usize,
+        &mut rheads,
+        &mut chain,
+        &mut again,
+    );
     let first = runs::pack(l.start, r.start, 0);
     let w = walking::walk_all(
         left,
@@ -71,7 +82,9 @@ fn compose_into(
         right,
         rfirst,
         &rindex,
-        &present,
+        &rheads,
+        &chain,
+        &again,
         first,
         table,
         origins,

@@ -1,6 +1,7 @@
 // Composition with the epsilon-sequencing filter (paper 01: the join).
 mod entry;
 mod finish;
+mod lookup;
 mod runs;
 mod walking;
 

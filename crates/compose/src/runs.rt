@@ -7,12 +7,14 @@ ghost use lib.ListN.{length};
 ghost use Rattle.transducer.specs.Format.{decode, barred};
 ghost use Rattle.transducer.specs.Leaf.{Opened};
 ghost use Rattle.compose.specs.Compose.{left-origin, right-origin};
-ghost use Rattle.compose.specs.Walk.{pack, unpacked, run-step, run-at, begin-from, reading-from, label-bucket, Present, Leaving};
+ghost use Rattle.compose.specs.Lookup.{Heads, Chain, Leaving};
+ghost use Rattle.compose.specs.Walk.{pack, unpacked, run-step, run-at, begin-from};
 use crate::Begin;
 use crate::Origin;
 use crate::Run;
 use crate::State;
 use crate::Step;
+use crate::lookup;
 
 const STILL: u16 = 65535;
 
@@ -42,70 +44,6 @@ pub fn unpack(key: u32) -> State
     }
 }
 
-// The first right arc from `from` on, below `to`, that reads `label`; `to` where none does.
-pub fn next_fit(right: &[u8], first: usize, from: usize, to: usize, label: u16) -> usize
-    requires { ⌜ Opened (now right) first × (from ≤ to) × (to ≤ length (decode (now right) .arcs)) ⌝ }
-    ensures { λ r. ⌜ r ≡ reading-from (decode (now (right .entry))) label (to - from) from ⌝ }
-{
-    let mut j = from;
-    let mut place = first + 16 * from + 6;
-    while j < to {
-        if wire::u16_at(right, place) == label {
-            return j;
-        }
-        place += 16;
-        j += 1;
-    }
-    j
-}
-
-// The bucket of a state and a label.
-fn label_bucket(state: u16, label: u16) -> usize
-    ensures { λ r. ⌜ (r ≡ label-bucket state label) × (r < 4096) ⌝ }
-{
-    ((state as usize) * 61 + (label as usize)) % 4096
-}
-
-// Marks the bucket of each right arc's source and input label.
-pub fn labels_present(right: &[u8], rfirst: usize, arcs: usize) -> [bool; 4096]
-    requires { ⌜ Opened (now right) rfirst × (arcs ≡ length (decode (now right) .arcs)) ⌝ }
-    ensures { λ r. ⌜ Present (decode (now (right .entry))) r ⌝ }
-{
-    let mut present = [false; 4096];
-    let mut j = 0;
-    let mut place = rfirst + 4;
-    while j < arcs {
-        let source = wire::u16_at(right, place);
-        let label = wire::u16_at(right, place + 2);
-        let b = label_bucket(source, label);
-        present[b] = true;
-        place += 16;
-        j += 1;
-    }
-    present
-}
-
-// The first arc of right state `q` that reads `label`; `to` where none does, which a bucket without a mark tells without a search.
-fn first_fit(
-    right: &[u8],
-    rfirst: usize,
-    present: &[bool; 4096],
-    q: u16,
-    from: usize,
-    to: usize,
-    label: u16,
-) -> usize
-    requires { ⌜ Opened (now right) rfirst × (from ≤ to) × (to ≤ length (decode (now right) .arcs)) ⌝ }
-    requires { ⌜ Present (decode (now right)) (now present) × Leaving (decode (now right)) q from to ⌝ }
-    ensures { λ r. ⌜ r ≡ reading-from (decode (now (right .entry))) label (to - from) from ⌝ }
-{
-    let b = label_bucket(q, label);
-    if present[b] {
-        return next_fit(right, rfirst, from, to, label);
-    }
-    to
-}
-
 // Where the next run with a step begins, from left arc `i` on: a left arc that writes nothing, where the filter state allows it; one
 // whose output some right arc reads; or behind the last left arc, with the first right arc that reads nothing.
 pub fn next_run(
@@ -116,15 +54,15 @@ pub fn next_run(
     filter: u32,
     right: &[u8],
     rfirst: usize,
-    present: &[bool; 4096],
+    heads: &[u16; 4096],
+    chain: &[u16; 3072],
     q: u16,
-    from: usize,
     to: usize,
 ) -> Begin
     requires { ⌜ Opened (now left) lfirst × (i ≤ last) × (last ≤ length (decode (now left) .arcs)) ⌝ }
-    requires { ⌜ Opened (now right) rfirst × (from ≤ to) × (to ≤ length (decode (now right) .arcs)) ⌝ }
-    requires { ⌜ Present (decode (now right)) (now present) × Leaving (decode (now right)) q from to ⌝ }
-    ensures { λ r. ⌜ r ≡ begin-from (decode (now (left .entry))) (decode (now (right .entry))) filter from (to - from) (last - i) i ⌝ }
+    requires { ⌜ Opened (now right) rfirst × Heads (decode (now right)) 0 (now heads) × Chain (decode (now right)) 0 (now chain) ⌝ }
+    ensures { λ r. ⌜ ((from : ℕ) → Leaving (decode (now (right .entry))) q from to →
+        r ≡ begin-from (decode (now (left .entry))) (decode (now (right .entry))) filter from (to - from) (last - i) i) ⌝ }
 {
     let mut k = i;
     while k < last {
@@ -140,7 +78,7 @@ pub fn next_run(
                 };
             }
         } else {
-            let j = first_fit(right, rfirst, present, q, from, to, label);
+            let j = lookup::first_fit(right, rfirst, heads, chain, q, label, to);
             if j < to {
                 return Begin {
                     alone: false,
@@ -153,7 +91,7 @@ pub fn next_run(
     Begin {
         alone: false,
         i: last,
-        j: next_fit(right, rfirst, from, to, 0),
+        j: lookup::first_fit(right, rfirst, heads, chain, q, 0, to),
     }
 }
 
@@ -227,17 +165,6 @@ pub fn step_of(run: Run, right: &[u8], rfirst: usize, j: usize) -> Step
         target: run.target + 2 * (b.target as u32),
         weight: run.weight + b.weight,
     }
-}
-
-// The right arc of the run's next step, from `j` on; `to` where there is none.
-pub fn advance(run: Run, right: &[u8], rfirst: usize, j: usize, to: usize) -> usize
-    requires { ⌜ Opened (now right) rfirst × (run .alone ≡ false → (j ≤ to) × (to ≤ length (decode (now right) .arcs))) ⌝ }
-    ensures { λ r. ⌜ r ≡ cond (run .alone) to (reading-from (decode (now (right .entry))) (run .label) (to - j) j) ⌝ }
-{
-    if run.alone {
-        return to;
-    }
-    next_fit(right, rfirst, j, to, run.label)
 }
 
 // The left and the right arc of an origin, 65,535 where that side stood still.

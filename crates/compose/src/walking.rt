@@ -1,6 +1,6 @@
 // The walk: each state is served in turn, its steps taken, their targets numbered as first reached.
 ghost use mathlib.Core.Path.{_≡_};
-ghost use mathlib.Core.Bool.{true, cond};
+ghost use mathlib.Core.Bool.{true, false, cond};
 ghost use mathlib.Core.List.{map};
 ghost use Prim.Native.Nat.{_-_, _≤_, _<_};
 ghost use lib.ListN.{length, getD};
@@ -8,6 +8,7 @@ ghost use Rattle.transducer.specs.Format.{decode};
 ghost use Rattle.transducer.specs.Leaf.{Opened};
 ghost use Rattle.explore.specs.Walk.{Sofar, all-taken, state-served, traced-by, Records, Walked, Went, Walk-says};
 ghost use Rattle.compose.specs.Compose.{first-state, origin-pair};
+ghost use Rattle.compose.specs.Lookup.{Again};
 ghost use Rattle.compose.specs.Walk.{pack, unpacked, keyed-step, key-steps, key-walk, run-steps, Walkable};
 ghost use Rattle.compose.specs.Taking.{Ready, In-both};
 use crate::Begin;
@@ -106,6 +107,7 @@ fn take_one(
 fn take_each(
     right: &[u8],
     rfirst: usize,
+    again: &[u16; 3072],
     r: Run,
     source: u16,
     from: usize,
@@ -117,7 +119,7 @@ fn take_each(
     heads: &mut [u16; 1024],
     links: &mut [u16; 1024],
 ) -> Walk
-    requires { ⌜ Opened (now right) rfirst × Ready (decode (now right)) r from to ⌝ }
+    requires { ⌜ Opened (now right) rfirst × Again (decode (now right)) 0 (now again) × Ready (decode (now right)) r from to × (r .alone ≡ false) ⌝ }
     requires { ⌜ ((b : Sofar) × Walked 2 b w (now table) (now origins) (now states) (now heads) (now links)) ⌝ }
     ensures { λ z. ⌜ ((b : Sofar) → Walked 2 b w (now (table .entry)) (now (origins .entry)) (now (states .entry)) (now (heads .entry)) (now (links .entry)) →
         Went 2 (all-taken source (map keyed-step (run-steps (decode (now (right .entry))) r (to - from) from)) b) z
@@ -147,7 +149,11 @@ fn take_each(
         }
         walk.states = explore::store_new(states, heads, links, count, key, number);
         walk = record_step(table, origins, walk, source, s, number);
-        j = runs::advance(r, right, rfirst, j + 1, to);
+        let link = again[j] as usize;
+        if link == 0 {
+            return walk;
+        }
+        j = link - 1;
     }
     walk
 }
@@ -156,6 +162,7 @@ fn take_each(
 fn take_run(
     right: &[u8],
     rfirst: usize,
+    again: &[u16; 3072],
     r: Run,
     source: u16,
     from: usize,
@@ -167,7 +174,7 @@ fn take_run(
     heads: &mut [u16; 1024],
     links: &mut [u16; 1024],
 ) -> Walk
-    requires { ⌜ Opened (now right) rfirst × Ready (decode (now right)) r from to ⌝ }
+    requires { ⌜ Opened (now right) rfirst × Again (decode (now right)) 0 (now again) × Ready (decode (now right)) r from to ⌝ }
     requires { ⌜ ((b : Sofar) × Walked 2 b w (now table) (now origins) (now states) (now heads) (now links)) ⌝ }
     ensures { λ z. ⌜ ((b : Sofar) → Walked 2 b w (now (table .entry)) (now (origins .entry)) (now (states .entry)) (now (heads .entry)) (now (links .entry)) →
         Went 2 (all-taken source (map keyed-step (run-steps (decode (now (right .entry))) r (to - from) from)) b) z
@@ -192,6 +199,7 @@ fn take_run(
     take_each(
         right,
         rfirst,
+        again,
         r,
         source,
         from,
@@ -223,7 +231,9 @@ fn serve(
     right: &[u8],
     rfirst: usize,
     rindex: &[u16; 1025],
-    present: &[bool; 4096],
+    rheads: &[u16; 4096],
+    chain: &[u16; 3072],
+    again: &[u16; 3072],
     source: usize,
     w: Walk,
     table: &mut [u8],
@@ -232,7 +242,7 @@ fn serve(
     heads: &mut [u16; 1024],
     links: &mut [u16; 1024],
 ) -> Walk
-    requires { ⌜ Walkable (now left) lfirst (now lindex) (now right) rfirst (now rindex) (now present) × (source < w .states) ⌝ }
+    requires { ⌜ Walkable (now left) lfirst (now lindex) (now right) rfirst (now rindex) (now rheads) (now chain) (now again) × (source < w .states) ⌝ }
     requires { ⌜ In-both (decode (now left)) (decode (now right)) (unpacked (getD (now states) source 0)) ⌝ }
     requires { ⌜ ((b : Sofar) × Walked 2 b w (now table) (now origins) (now states) (now heads) (now links)) ⌝ }
     ensures { λ z. ⌜ ((b : Sofar) → Walked 2 b w (now (table .entry)) (now (origins .entry)) (now (states .entry)) (now (heads .entry)) (now (links .entry)) →
@@ -242,7 +252,6 @@ fn serve(
     let x = runs::unpack(states[source]);
     let p = x.left as usize;
     let q = x.right as usize;
-    let from = rindex[q] as usize;
     let to = rindex[q + 1] as usize;
     let last = lindex[p + 1] as usize;
     let mut walk = w;
@@ -256,9 +265,9 @@ fn serve(
             x.filter,
             right,
             rfirst,
-            present,
+            rheads,
+            chain,
             q as u16,
-            from,
             to,
         );
         let r = runs::run_of(left, lfirst, at, last, x);
@@ -266,6 +275,7 @@ fn serve(
         walk = take_run(
             right,
             rfirst,
+            again,
             r,
             source as u16,
             at.j,
@@ -293,13 +303,15 @@ pub fn walk_all(
     right: &[u8],
     rfirst: usize,
     rindex: &[u16; 1025],
-    present: &[bool; 4096],
+    rheads: &[u16; 4096],
+    chain: &[u16; 3072],
+    again: &[u16; 3072],
     first: u32,
     table: &mut [u8],
     origins: &mut [u16],
     states: &mut [u32],
 ) -> Walk
-    requires { ⌜ Walkable (now left) lfirst (now lindex) (now right) rfirst (now rindex) (now present) ⌝ }
+    requires { ⌜ Walkable (now left) lfirst (now lindex) (now right) rfirst (now rindex) (now rheads) (now chain) (now again) ⌝ }
     requires { ⌜ first ≡ pack (first-state (decode (now left)) (decode (now right))) ⌝ }
     requires { ⌜ (59404 ≤ length (now table)) × (6144 ≤ length (now origins)) × (1024 ≤ length (now states)) ⌝ }
     ensures { λ r. ⌜ Walk-says 2 (key-walk (decode (now (left .entry))) (decode (now (right .entry)))) r (now (table .entry)) (now (table .exit))
@@ -323,7 +335,9 @@ pub fn walk_all(
             right,
             rfirst,
             rindex,
-            present,
+            rheads,
+            chain,
+            again,
             s,
             walk,
             table,

@@ -1,6 +1,9 @@
 -- The heads, the walk, 11 and 12, each with its law in `ComposeSays`; what is written is `write_out`'s.
 use borrow.Author.Needs.{needs}
+use mathlib.Core.Path.{refl}
+use Prim.Native.Nat.{ℕ}
 use native.Mathlib.Omega.{arith}
+use lib.ListN.{length-replicate}
 use Rattle.wire.specs.Bytes.{Bytes}
 use Rattle.transducer.specs.Format.{decode}
 use Rattle.compose.proofs.ComposeSays.{says-11, says-12, says-same}
@@ -16,10 +19,10 @@ abbrev entry : tie.After-shared-slice-known2 → tie.Start
 entry c = c .before .before
 
 abbrev heads : tie.After-pack → tie.After-header2
-heads c = c .before .before .before .before .before .before .before .before .before .before .before
+heads c = c .before .before .before .before .before .before .before .before .before .before .before .before .before .before
 
 abbrev packed : tie.After-walk-all → tie.After-pack
-packed c = c .before .before .before .before .before .before .before
+packed c = c .before .before .before .before .before .before .before .before .before
 
 -- The bytes are bytes.
 left-bytes : (c : tie.After-shared-slice-known2) → Bytes (entry c .args .left .now)
@@ -83,29 +86,31 @@ cast-first-arcs-4 c = search needs
 first-arcs-requires-2 : tie.Need-first-arcs-requires-2
 first-arcs-requires-2 c κs = let h = right-head (c .before .before .before .before .before .before .before) in (h .opened, h .states, h .arcs)
 
-cast-labels-present : tie.Need-cast-labels-present
-cast-labels-present c = search needs
+cast-put-chains : tie.Need-cast-put-chains
+cast-put-chains c = search needs
 
-labels-present-requires : tie.Need-labels-present-requires
-labels-present-requires c κs = let h = right-head (c .before .before .before .before .before .before .before .before .before) in (h .opened, h .arcs)
+put-chains-requires : tie.Need-put-chains-requires
+put-chains-requires c κs =
+    let h = right-head (c .before .before .before .before .before .before .before .before .before .before .before .before) in
+    (h .opened, h .arcs, refl, length-replicate {A = ℕ} 3072 0, length-replicate {A = ℕ} 3072 0)
 
 pack-requires : tie.Need-pack-requires
 pack-requires c κs =
-    let h = c .before .before .before .before .before .before .before .before .before .before in
+    let h = c .before .before .before .before .before .before .before .before .before .before .before .before .before in
     (left-head h .small, right-head h .small, omega arith)
 
 walk-all-requires : tie.Need-walk-all-requires
 walk-all-requires c κs =
-    let p = c .before .before .before .before .before .before in
+    let p = c .before .before .before .before .before .before .before .before in
     let h = heads p in
     let k = lent (h .before) in
     let pre = entry k .pre in (
       record {
         left-open = left-head h .opened;
-        left-index = p .before .before .before .before .before .before .first-arcs .ensures;
+        left-index = p .before .before .before .before .before .before .before .before .before .first-arcs .ensures;
         right-open = right-head h .opened;
-        right-index = p .before .before .before .first-arcs2 .ensures;
-        right-labels = p .before .labels-present .ensures;
+        right-index = p .before .before .before .before .before .before .first-arcs2 .ensures;
+        right-lookup = p .before .put-chains .ensures;
       },
       (
         first-key (decode (entry k .args .left .now)) (decode (entry k .args .right .now)) (p .pack .result)
@@ -163,7 +168,7 @@ cast-final-codes c = search needs
 
 final-codes-requires : tie.Need-final-codes-requires
 final-codes-requires c κs =
-    let h = c .before .before .before .before .before .before .before .before .before .before .before .before .before .before .before .before .before .before .before .before .before .before .before .before .before .before .before in
+    let h = heads (packed (c .before .before .before .before .before .before .before .before .before)) in
     (entry (lent (h .before)) .pre .left-accepted, left-head h .finals)
 
 cast-final-codes-2 : tie.Need-cast-final-codes-2
@@ -171,7 +176,7 @@ cast-final-codes-2 c = search needs
 
 final-codes-requires-2 : tie.Need-final-codes-requires-2
 final-codes-requires-2 c κs =
-    let h = c .before .before .before .before .before .before .before .before .before .before .before .before .before .before .before .before .before .before .before .before .before .before .before .before .before .before .before .before .before in
+    let h = heads (packed (c .before .before .before .before .before .before .before .before .before .before .before)) in
     (entry (lent (h .before)) .pre .right-accepted, right-head h .finals)
 
 write-out-requires : tie.Need-write-out-requires
@@ -229,8 +234,8 @@ compose-into-spec =
     cast-first-arcs-3
     cast-first-arcs-4
     first-arcs-requires-2
-    cast-labels-present
-    labels-present-requires
+    cast-put-chains
+    put-chains-requires
     pack-requires
     walk-all-requires
     refuse-requires

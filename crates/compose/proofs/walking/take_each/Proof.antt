@@ -8,7 +8,8 @@ use mathlib.Core.List.{List}
 use Prim.Native.Nat.{ℕ, suc, _-_, _≤_, _<_}
 use native.Mathlib.Omega.{arith}
 use lib.Dec.{eqb}
-use lib.ListN.{length}
+use lib.ListN.{length, getD}
+use Rattle.wire.specs.Bytes.{Bytes}
 use Rattle.transducer.specs.Format.{decode}
 use Rattle.explore.specs.Explore.{place}
 use Rattle.explore.specs.Chain.{Chained}
@@ -17,50 +18,78 @@ use Rattle.explore.proofs.Search.{Searching, search-first, search-le, search-in
 use Rattle.explore.proofs.Walking.{went-full, Taking, taking-first, taking-next, taking-over, taking-stop}
 use Rattle.compose.specs.Walk.{keyed-step}
 use Rattle.compose.specs.Taking.{Ready}
-use Rattle.compose.proofs.Reading.{Next-step, next-step}
+use Rattle.compose.proofs.Reading.{Next-step}
+use Rattle.compose.proofs.Links.{step-last, step-more, step-link}
+use Rattle.compose.proofs.RunCode.{opened-few}
 use Rattle.compose.proofs.WalkCode.{step-walked, run-left, run-left-first, run-left-next, run-left-none}
 use Rattle.compose.proofs.walking.take_each.Statement.{statement}
 use Rattle.compose.proofs.walking.take_each.Tie as tie
 
 abbrev Inv-loop2 : tie.InvT-loop2
-Inv-loop2 right rfirst r source from to table origins states heads links walk j s key count next₀ next =
+Inv-loop2 right rfirst again r source from to table origins states heads links walk j s key count next₀ next =
     (xs : List ℕ) → Chained xs states heads links → Searching key xs next
 
 abbrev μ-loop2 : tie.MeasureT-loop2
-μ-loop2 right rfirst r source from to table origins states heads links walk j s key count next₀ next = next
+μ-loop2 right rfirst again r source from to table origins states heads links walk j s key count next₀ next = next
 
 abbrev Inv-loop : tie.InvT-loop
-Inv-loop right rfirst r source from to table₀ origins₀ states₀ heads₀ links₀ walk₀ j₀ table origins states heads links walk j =
+Inv-loop right rfirst again r source from to table₀ origins₀ states₀ heads₀ links₀ walk₀ j₀ table origins states heads links walk j =
     ((b : Sofar) → Walked 2 b walk₀ table₀ origins₀ states₀ heads₀ links₀
     → Taking 2 source (run-left (decode right) r to j) (all-taken source (run-left (decode right) r to j₀) b) walk table origins states heads links)
     × Ready (decode right) r j to × (length table ≡ length table₀) × (length origins ≡ length origins₀) × (length states ≡ length states₀)
 
 abbrev μ-loop : tie.MeasureT-loop
-μ-loop right rfirst r source from to table₀ origins₀ states₀ heads₀ links₀ walk₀ j₀ table origins states heads links walk j = to - j
+μ-loop right rfirst again r source from to table₀ origins₀ states₀ heads₀ links₀ walk₀ j₀ table origins states heads links walk j = to - j
+
+-- Places to look back to: from the loop's head to the start; from where the search has ended to the step and to the loop's head; from the step
+-- recorded to what was stored and found before it; and from the link to the step recorded.
+abbrev start : tie.At-loop Inv-loop2 μ-loop2 Inv-loop μ-loop → tie.Start Inv-loop2 μ-loop2 Inv-loop μ-loop
+start c = c .before .before .before .before .before
+
+abbrev searched : tie.Joined1 Inv-loop2 μ-loop2 Inv-loop μ-loop → tie.After-step-of Inv-loop2 μ-loop2 Inv-loop μ-loop
+searched c = c .before .before .before .before
+
+abbrev head : tie.After-step-of Inv-loop2 μ-loop2 Inv-loop μ-loop → tie.At-loop Inv-loop2 μ-loop2 Inv-loop μ-loop
+head c = c .before .before
+
+abbrev stored : tie.After-record-step Inv-loop2 μ-loop2 Inv-loop μ-loop → tie.After-store-new Inv-loop2 μ-loop2 Inv-loop μ-loop
+stored c = c .before .before .before .before .before
+
+abbrev found : tie.After-record-step Inv-loop2 μ-loop2 Inv-loop μ-loop → tie.Joined1 Inv-loop2 μ-loop2 Inv-loop μ-loop
+found c = stored c .before .before .before .before .before
+
+abbrev turn : tie.After-record-step Inv-loop2 μ-loop2 Inv-loop μ-loop → tie.At-loop Inv-loop2 μ-loop2 Inv-loop μ-loop
+turn c = head (searched (found c))
+
+abbrev put : tie.After-link Inv-loop2 μ-loop2 Inv-loop μ-loop → tie.After-record-step Inv-loop2 μ-loop2 Inv-loop μ-loop
+put c = c .before .before .before .before .before
 
 loop-holds : tie.Need-loop-holds Inv-loop2 μ-loop2 Inv-loop μ-loop
 loop-holds c =
-    let a = c .before .before .before .before .args in
-    let pre = c .before .before .before .before .pre in (
+    let s = c .before .before .before .before in
+    let a = s .args in (
       λ b k. taking-first (a .source) (run-left (decode (a .right .now)) (a .r) (a .to) (a .from)) k,
-      pre .0 .1,
+      s .pre .0 .2,
       refl,
       refl,
       refl,
     )
 
 -- What has been built at the loop's head, for one such.
-built : (c : tie.At-loop Inv-loop2 μ-loop2 Inv-loop μ-loop) → (b : Sofar) × Walked 2 b (c .loop .walk) (c .loop .table) (c .loop .origins) (c .loop .states) (c .loop .heads) (c .loop .links)
+built : (c : tie.At-loop Inv-loop2 μ-loop2 Inv-loop μ-loop)
+    → (b : Sofar) × Walked 2 b (c .loop .walk) (c .loop .table) (c .loop .origins) (c .loop .states) (c .loop .heads) (c .loop .links)
 built c =
-    let pre = c .before .before .before .before .before .pre in
+    let pre = start c .pre in
     let g = c .loop .inv .0 (pre .1 .0) (pre .1 .1) in
     (g .sofar, g .walked)
+
+-- The search
 
 step-of-requires : tie.Need-step-of-requires Inv-loop2 μ-loop2 Inv-loop μ-loop
 step-of-requires c κs =
     let ready = c .before .loop .inv .1 in
     let l = c .loop-test .taken in
-    (c .before .before .before .before .before .before .pre .0 .0, λ e. omega (arith, ready .inside e), ready .target-fits, ready .weight-fits)
+    (start (c .before) .pre .0 .0, λ e. omega (arith, ready .inside e), ready .target-fits, ready .weight-fits)
 
 bucket-requires : tie.Need-bucket-requires Inv-loop2 μ-loop2 Inv-loop μ-loop
 bucket-requires c κs = search needs
@@ -92,7 +121,8 @@ mul-if2 : tie.Need-mul-if2 Inv-loop2 μ-loop2 Inv-loop μ-loop
 mul-if2 c = omega (arith, in-range c)
 
 slice-read-if2 : tie.Need-slice-read-if2 Inv-loop2 μ-loop2 Inv-loop μ-loop
-slice-read-if2 c = omega (arith, in-range (c .before), built (c .before .before .before .before .before .before .before) .1 .chained .room)
+slice-read-if2 c =
+    omega (arith, in-range (c .before), built (c .before .before .before .before .before .before .before) .1 .chained .room)
 
 mul-next-2 : tie.Need-mul-next-2 Inv-loop2 μ-loop2 Inv-loop μ-loop
 mul-next-2 c = omega (arith, in-range (c .before .before))
@@ -100,20 +130,26 @@ mul-next-2 c = omega (arith, in-range (c .before .before))
 element-copy-out-next-2 : tie.Need-element-copy-out-next-2 Inv-loop2 μ-loop2 Inv-loop μ-loop
 element-copy-out-next-2 c = in-range (c .before .before)
 
+-- The turn of the search before a link is followed.
+abbrev other : tie.After-next2 Inv-loop2 μ-loop2 Inv-loop μ-loop → tie.Else1 Inv-loop2 μ-loop2 Inv-loop μ-loop
+other c = c .before .before .before
+
 loop2-less : tie.Need-loop2-less Inv-loop2 μ-loop2 Inv-loop μ-loop
 loop2-less c =
-    let k = built (c .before .before .before .before .before .before .before .before .before) in
-    search-less (k .1 .chained) (c .before .before .before .before .loop2 .inv (k .0 .keys) (k .1 .chained)) (c .before .before .before .if1 .left)
+    let e = other c in
+    let k = built (e .before .before .before .before .before .before) in
+    search-less (k .1 .chained) (e .before .loop2 .inv (k .0 .keys) (k .1 .chained)) (e .if1 .left)
 
 cast-next-2 : tie.Need-cast-next-2 Inv-loop2 μ-loop2 Inv-loop μ-loop
-cast-next-2 c = omega (arith, loop2-less c, in-range (c .before .before .before))
+cast-next-2 c = omega (arith, loop2-less c, in-range (other c))
 
 loop2-again : tie.Need-loop2-again Inv-loop2 μ-loop2 Inv-loop μ-loop
-loop2-again c = λ xs chained. search-next chained (c .before .before .before .before .loop2 .inv xs chained) (c .before .before .before .if1 .left) (c .before .if2 .left)
+loop2-again c = λ xs chained. search-next chained (other c .before .loop2 .inv xs chained) (other c .if1 .left) (c .before .if2 .left)
 
 -- The number that the search gives is the key's, or the next one.
-number-is : (c : tie.Joined1 Inv-loop2 μ-loop2 Inv-loop μ-loop) (xs : List ℕ) → Chained xs (c .before .before .before .before .before .before .loop .states) (c .before .before .before .before .before .before .loop .heads) (c .before .before .before .before .before .before .loop .links)
-    → length xs ≡ c .before .before .before .before .before .before .loop .walk .states → c .if1 .number ≡ place eqb (c .before .before .before .before .step-of .result .target) xs
+number-is : (c : tie.Joined1 Inv-loop2 μ-loop2 Inv-loop μ-loop) (xs : List ℕ)
+    → Chained xs (head (searched c) .loop .states) (head (searched c) .loop .heads) (head (searched c) .loop .links)
+    → length xs ≡ head (searched c) .loop .walk .states → c .if1 .number ≡ place eqb (searched c .step-of .result .target) xs
 number-is c xs chained long =
     let s = c .before .loop2 .inv xs chained in
     ⊎-elim (λ w. w .2 ∙ sym (search-none chained s (w .0 .taken) .0 ∙ long)) (λ w. w .4 ∙ search-found chained s (w .0 .left) (w .2 .taken) .0)
@@ -121,99 +157,168 @@ number-is c xs chained long =
 
 number-le : (c : tie.Joined1 Inv-loop2 μ-loop2 Inv-loop μ-loop) → c .if1 .number ≤ 1024
 number-le c =
-    let k = built (c .before .before .before .before .before .before) in
+    let k = built (head (searched c)) in
     let e = number-is c (k .0 .keys) (k .1 .chained) (sym (k .1 .states-are)) in
-    omega (arith, e, place-le (c .before .before .before .before .step-of .result .target) (k .0 .keys), k .1 .chained .few)
+    omega (arith, e, place-le (searched c .step-of .result .target) (k .0 .keys), k .1 .chained .few)
+
+-- Too many states
 
 same-length : tie.Need-same-length Inv-loop2 μ-loop2 Inv-loop μ-loop
-same-length c = c .before .before .before .before .before .before .before .loop .inv .2
+same-length c = head (searched (c .before)) .loop .inv .2
 
 same-length-2 : tie.Need-same-length-2 Inv-loop2 μ-loop2 Inv-loop μ-loop
-same-length-2 c = c .before .before .before .before .before .before .before .loop .inv .3
+same-length-2 c = head (searched (c .before)) .loop .inv .3
 
 same-length-3 : tie.Need-same-length-3 Inv-loop2 μ-loop2 Inv-loop μ-loop
-same-length-3 c = c .before .before .before .before .before .before .before .loop .inv .4
+same-length-3 c = head (searched (c .before)) .loop .inv .4
 
 returns : tie.Need-returns Inv-loop2 μ-loop2 Inv-loop μ-loop
 unfolding keyed-step
 returns c = λ b k.
-    let a = c .before .before .before .before .before .before .before .before .before .before .before .before .args in
-    let here = c .before .before .before .before .before .before .before .loop in
+    let step = searched (c .before) in
+    let a = start (head step) .args in
+    let here = head step .loop in
     let g = here .inv .0 b k in
-    let step = c .before .before .before .before .before .step-of in
     let u = decode (a .right .now) in
     went-full refl
-    (taking-over g (keyed-step (step .result)) (run-left u (a .r) (a .to) (suc (here .j)))
-    (run-left-first u (a .r) (a .to) (here .j) (step .result) (here .inv .1) (c .before .before .before .before .before .before .loop-test .taken) (step .ensures))
+    (taking-over g (keyed-step (step .step-of .result)) (run-left u (a .r) (a .to) (suc (here .j)))
+    (run-left-first u (a .r) (a .to) (here .j) (step .step-of .result) (here .inv .1) (step .before .loop-test .taken) (step .step-of .ensures))
     (c .before .if1 .number) (number-is (c .before) (g .sofar .keys) (g .walked .chained) (sym (g .walked .states-are))) (c .if3 .taken))
+
+-- The step taken
 
 -- Fewer than 1,024 keys, or the key is one of them.
 number-lt : (c : tie.Else3 Inv-loop2 μ-loop2 Inv-loop μ-loop) → c .before .if1 .number < 1024
 number-lt c = omega (arith, number-le (c .before), c .if3 .left)
 
 store-new-requires : tie.Need-store-new-requires Inv-loop2 μ-loop2 Inv-loop μ-loop
-store-new-requires c κs = (number-lt (c .before .before .before), built (c .before .before .before .before .before .before .before .before .before .before) .1 .chained .room)
+store-new-requires c κs =
+    let e = c .before .before .before in
+    (number-lt e, built (head (searched (e .before))) .1 .chained .room)
 
 record-step-requires : tie.Need-record-step-requires Inv-loop2 μ-loop2 Inv-loop μ-loop
 record-step-requires c κs =
-    let k = built (c .before .before .before .before .before .before .before .before .before .before .before .before .before .before .before) in
-    (number-lt (c .before .before .before .before .before .before .before .before), k .1 .recorded .arcs-held .table-long, k .1 .recorded .origins-held .origins-long)
+    let e = c .before .before .before .before .before .before .before .before in
+    let k = built (head (searched (e .before))) .1 .recorded in
+    (number-lt e, k .arcs-held .table-long, k .origins-held .origins-long)
 
-add-advance : tie.Need-add-advance Inv-loop2 μ-loop2 Inv-loop μ-loop
-add-advance c = omega (arith, c .before .before .before .before .before .before .before .before .before .before .before .before .before .before .before .before .before .before .before .loop-test .taken, c .before .before .before .before .before .before .before .before .before .before .before .before .before .before .before .before .before .before .before .before .before .before .before .before .before .fits .to)
+-- The steps left once this one is taken, where the next one is with right arc k.
+gone-on : (c : tie.After-record-step Inv-loop2 μ-loop2 Inv-loop μ-loop) (k : ℕ)
+    → Next-step (decode (start (turn c) .args .right .now)) (start (turn c) .args .r) (turn c .loop .j) (start (turn c) .args .to) k
+    → (b : Sofar) → Walked 2 b (start (turn c) .args .w) (start (turn c) .args .table .now) (start (turn c) .args .origins .now)
+    (start (turn c) .args .states .now) (start (turn c) .args .heads .now) (start (turn c) .args .links .now)
+    → Taking 2 (start (turn c) .args .source)
+    (run-left (decode (start (turn c) .args .right .now)) (start (turn c) .args .r) (start (turn c) .args .to) k)
+    (all-taken (start (turn c) .args .source)
+    (run-left (decode (start (turn c) .args .right .now)) (start (turn c) .args .r) (start (turn c) .args .to) (start (turn c) .args .from)) b)
+    (c .record-step .result) (c .record-step .last .0) (c .record-step .last .1 .0) (stored c .store-new .last .0)
+    (stored c .store-new .last .1 .0) (stored c .store-new .last .1 .1 .0)
+gone-on c k next b was =
+    let a = start (turn c) .args in
+    let here = turn c .loop in
+    let step = searched (found c) .step-of in
+    let store = stored c .store-new in
+    let wrote = c .record-step in
+    let g = here .inv .0 b was in
+    let w = g .walked in
+    let is = number-is (found c) (g .sofar .keys) (w .chained) (sym (w .states-are)) in
+    let kept = store .ensures (g .sofar .keys) (sym (w .states-are)) is (w .chained) in
+    let u = decode (a .right .now) in
+    taking-next g (keyed-step (step .result)) (run-left u (a .r) (a .to) k)
+    (run-left-next u (a .r) (a .to) (here .j) k (step .result) next (step .ensures)) (wrote .result) (wrote .last .0) (wrote .last .1 .0)
+    (store .last .0) (store .last .1 .0) (store .last .1 .1 .0)
+    (step-walked (g .sofar) (a .source) (found c .if1 .number) (store .result) (step .result) (here .walk) (wrote .result) (here .table) (wrote .last .0)
+    (here .origins) (wrote .last .1 .0) (here .states) (store .last .0) (here .heads) (store .last .1 .0) (here .links) (store .last .1 .1 .0) w is
+    (kept .0) (kept .1) (wrote .ensures .0) (wrote .ensures .1))
 
-advance-requires : tie.Need-advance-requires Inv-loop2 μ-loop2 Inv-loop μ-loop
-advance-requires c κs =
-    let ready = c .before .before .before .before .before .before .before .before .before .before .before .before .before .before .before .before .before .before .before .before .loop .inv .1 in
-    let l = c .before .before .before .before .before .before .before .before .before .before .before .before .before .before .before .before .before .before .before .loop-test .taken in
-    (c .before .before .before .before .before .before .before .before .before .before .before .before .before .before .before .before .before .before .before .before .before .before .before .before .before .pre .0 .0, λ e. (omega arith, ready .inside e))
+-- The link to the next step
 
--- Where the next step of the run is.
-next : (c : tie.After-advance Inv-loop2 μ-loop2 Inv-loop μ-loop) → Next-step (decode (c .before .before .before .before .before .before .before .before .before .before .before .before .before .before .before .before .before .before .before .before .before .before .before .before .before .before .args .right .now)) (c .before .before .before .before .before .before .before .before .before .before .before .before .before .before .before .before .before .before .before .before .before .before .before .before .before .before .args .r) (c .before .before .before .before .before .before .before .before .before .before .before .before .before .before .before .before .before .before .before .before .before .loop .j) (c .before .before .before .before .before .before .before .before .before .before .before .before .before .before .before .before .before .before .before .before .before .before .before .before .before .before .args .to) (c .advance .result)
-next c =
-    let a = c .before .before .before .before .before .before .before .before .before .before .before .before .before .before .before .before .before .before .before .before .before .before .before .before .before .before .args in
-    next-step (decode (a .right .now)) (a .r) (c .before .before .before .before .before .before .before .before .before .before .before .before .before .before .before .before .before .before .before .before .before .loop .j) (a .to) (c .advance .result) (c .before .before .before .before .before .before .before .before .before .before .before .before .before .before .before .before .before .before .before .before .before .loop .inv .1) (c .before .before .before .before .before .before .before .before .before .before .before .before .before .before .before .before .before .before .before .before .loop-test .taken) (c .advance .ensures)
+few : (c : tie.At-loop Inv-loop2 μ-loop2 Inv-loop μ-loop) → length (decode (start c .args .right .now) .arcs) ≤ 3072
+few c =
+    let s = start c in
+    let bytes : Bytes (s .args .right .now) = λ i. omega (arith, c .before .before .before .before .shared-slice-known .given i) in
+    opened-few (s .args .right .now) bytes (s .args .rfirst) (s .pre .0 .0)
 
-loop-less : tie.Need-loop-less Inv-loop2 μ-loop2 Inv-loop μ-loop
-loop-less c = let past = next c .past in omega (arith, past, c .before .before .before .before .before .before .before .before .before .before .before .before .before .before .before .before .before .before .before .before .loop-test .taken)
+-- There is a right arc at hand.
+below : (c : tie.After-record-step Inv-loop2 μ-loop2 Inv-loop μ-loop) → turn c .loop .j < start (turn c) .args .to
+below c = searched (found c) .before .loop-test .taken
 
-loop-again : tie.Need-loop-again Inv-loop2 μ-loop2 Inv-loop μ-loop
-loop-again c =
-    let a = c .before .before .before .before .before .before .before .before .before .before .before .before .before .before .before .before .before .before .before .before .before .before .before .before .before .before .args in
-    let here = c .before .before .before .before .before .before .before .before .before .before .before .before .before .before .before .before .before .before .before .before .before .loop in
-    let step = c .before .before .before .before .before .before .before .before .before .before .before .before .before .before .before .before .before .before .before .step-of in
-    let store = c .before .before .before .before .before .before .before .before .before .before .store-new in
-    let put = c .before .before .before .before .before .record-step in
-    let number = c .before .before .before .before .before .before .before .before .before .before .before .before .before .before .before .if1 .number in (
-      λ b k.
-          let g = here .inv .0 b k in
-          let w = g .walked in
-          let is = number-is (c .before .before .before .before .before .before .before .before .before .before .before .before .before .before .before) (g .sofar .keys) (w .chained) (sym (w .states-are)) in
-          let stored = store .ensures (g .sofar .keys) (sym (w .states-are)) is (w .chained) in
-          taking-next g (keyed-step (step .result)) (run-left (decode (a .right .now)) (a .r) (a .to) (c .advance .result))
-          (run-left-next (decode (a .right .now)) (a .r) (a .to) (here .j) (c .advance .result) (step .result) (next c) (step .ensures)) (put .result)
-          (put .last .0) (put .last .1 .0) (store .last .0) (store .last .1 .0) (store .last .1 .1 .0)
-          (step-walked (g .sofar) (a .source) number (store .result) (step .result) (here .walk) (put .result) (here .table) (put .last .0) (here .origins)
-          (put .last .1 .0) (here .states) (store .last .0) (here .heads) (store .last .1 .0) (here .links) (store .last .1 .1 .0) w is (stored .0)
-          (stored .1) (put .ensures .0) (put .ensures .1)),
-      next c .ready,
-      put .kept .0 ∙ here .inv .2,
-      put .kept .1 .0 ∙ here .inv .3,
-      store .kept .0 ∙ here .inv .4,
+in-links : (c : tie.After-record-step Inv-loop2 μ-loop2 Inv-loop μ-loop) → turn c .loop .j < 3072
+in-links c =
+    let t = turn c in
+    omega (arith, below c, few t, t .loop .inv .1 .inside (start t .pre .0 .3))
+
+mul-link : tie.Need-mul-link Inv-loop2 μ-loop2 Inv-loop μ-loop
+mul-link c = omega (arith, in-links (c .before .before .before .before))
+
+element-copy-out-link : tie.Need-element-copy-out-link Inv-loop2 μ-loop2 Inv-loop μ-loop
+element-copy-out-link c = in-links (c .before .before .before .before)
+
+-- The next step is with the arc that the link leads to, and there is none where it leads nowhere.
+last-step : (c : tie.Then4 Inv-loop2 μ-loop2 Inv-loop μ-loop) → let t = turn (put (c .before)) in
+    Next-step (decode (start t .args .right .now)) (start t .args .r) (t .loop .j) (start t .args .to) (start t .args .to)
+last-step c =
+    let t = turn (put (c .before)) in
+    step-last (start t .pre .0 .1) (t .loop .j) (start t .args .to) (t .loop .inv .1) (below (put (c .before))) (start t .pre .0 .3) (c .if4 .taken)
+
+next-step : (c : tie.Else4 Inv-loop2 μ-loop2 Inv-loop μ-loop) → let t = turn (put (c .before)) in
+    Next-step (decode (start t .args .right .now)) (start t .args .r) (t .loop .j) (start t .args .to) (getD (start t .args .again .now) (t .loop .j) 0 - 1)
+next-step c =
+    let t = turn (put (c .before)) in
+    step-more (start t .pre .0 .1) (t .loop .j) (start t .args .to) (t .loop .inv .1) (below (put (c .before))) (start t .pre .0 .3) (c .if4 .left)
+
+cast-link : tie.Need-cast-link Inv-loop2 μ-loop2 Inv-loop μ-loop
+cast-link c =
+    let t = turn (put c) in
+    omega (
+      arith,
+      few t,
+      step-link (start t .pre .0 .1) (t .loop .j) (start t .args .to) (t .loop .inv .1) (below (put c)) (start t .pre .0 .3),
     )
 
 same-length-4 : tie.Need-same-length-4 Inv-loop2 μ-loop2 Inv-loop μ-loop
-same-length-4 c = c .before .loop .inv .2
+same-length-4 c = put (c .before) .record-step .kept .0 ∙ turn (put (c .before)) .loop .inv .2
 
 same-length-5 : tie.Need-same-length-5 Inv-loop2 μ-loop2 Inv-loop μ-loop
-same-length-5 c = c .before .loop .inv .3
+same-length-5 c = put (c .before) .record-step .kept .1 .0 ∙ turn (put (c .before)) .loop .inv .3
 
 same-length-6 : tie.Need-same-length-6 Inv-loop2 μ-loop2 Inv-loop μ-loop
-same-length-6 c = c .before .loop .inv .4
+same-length-6 c = stored (put (c .before)) .store-new .kept .0 ∙ turn (put (c .before)) .loop .inv .4
 
 returns-2 : tie.Need-returns-2 Inv-loop2 μ-loop2 Inv-loop μ-loop
 returns-2 c = λ b k.
-    let a = c .before .before .before .before .before .before .args in
+    let a = start (turn (put (c .before))) .args in
+    taking-stop (gone-on (put (c .before)) (a .to) (last-step c) b k) (run-left-none (decode (a .right .now)) (a .r) (a .to) (a .to) (omega arith))
+
+sub-j : tie.Need-sub-j Inv-loop2 μ-loop2 Inv-loop μ-loop
+sub-j c = omega (arith, c .if4 .left)
+
+loop-less : tie.Need-loop-less Inv-loop2 μ-loop2 Inv-loop μ-loop
+loop-less c = omega (arith, next-step c .past, below (put (c .before)))
+
+loop-again : tie.Need-loop-again Inv-loop2 μ-loop2 Inv-loop μ-loop
+loop-again c =
+    let p = put (c .before) in
+    let t = turn p in (
+      gone-on p (getD (start t .args .again .now) (t .loop .j) 0 - 1) (next-step c),
+      next-step c .ready,
+      p .record-step .kept .0 ∙ t .loop .inv .2,
+      p .record-step .kept .1 .0 ∙ t .loop .inv .3,
+      stored p .store-new .kept .0 ∙ t .loop .inv .4,
+    )
+
+same-length-7 : tie.Need-same-length-7 Inv-loop2 μ-loop2 Inv-loop μ-loop
+same-length-7 c = c .before .loop .inv .2
+
+same-length-8 : tie.Need-same-length-8 Inv-loop2 μ-loop2 Inv-loop μ-loop
+same-length-8 c = c .before .loop .inv .3
+
+same-length-9 : tie.Need-same-length-9 Inv-loop2 μ-loop2 Inv-loop μ-loop
+same-length-9 c = c .before .loop .inv .4
+
+returns-3 : tie.Need-returns-3 Inv-loop2 μ-loop2 Inv-loop μ-loop
+returns-3 c = λ b k.
+    let a = start (c .before) .args in
     taking-stop (c .before .loop .inv .0 b k) (run-left-none (decode (a .right .now)) (a .r) (a .to) (c .before .loop .j) (c .loop-test .left))
 
 pub take-each-spec : {M : Type 1} → statement M
@@ -245,11 +350,17 @@ take-each-spec =
     returns
     store-new-requires
     record-step-requires
-    add-advance
-    advance-requires
-    loop-less
-    loop-again
+    mul-link
+    element-copy-out-link
+    cast-link
     same-length-4
     same-length-5
     same-length-6
-    returns-2)
+    returns-2
+    sub-j
+    loop-less
+    loop-again
+    same-length-7
+    same-length-8
+    same-length-9
+    returns-3)

@@ -3,8 +3,12 @@ use borrow.Author.Needs.{needs}
 use Rattle.compose.proofs.walking.take_run.Statement.{statement}
 use Rattle.compose.proofs.walking.take_run.Tie as tie
 
+-- The way back to the start.
+abbrev start : tie.After-slice-known3 → tie.Start
+start c = c .before .before .before .before
+
 take-one-requires : tie.Need-take-one-requires
-take-one-requires c κs = let pre = c .before .before .before .before .before .before .before .before .before .before .pre in ((pre .0 .0, pre .0 .1, c .before .before .before .before .before .if1 .taken), pre .1)
+take-one-requires c κs = let pre = start (c .before .before .before .before .before .before) .pre in ((pre .0 .0, pre .0 .2, c .before .before .before .before .before .if1 .taken), pre .1)
 
 same-length : tie.Need-same-length
 same-length c = search needs
@@ -19,7 +23,7 @@ returns : tie.Need-returns
 returns c = c .before .before .before .before .before .before .take-one .ensures
 
 take-each-requires : tie.Need-take-each-requires
-take-each-requires c κs = c .before .before .before .before .before .before .before .before .before .before .pre
+take-each-requires c κs = let pre = start (c .before .before .before .before .before .before) .pre in ((pre .0 .0, pre .0 .1, pre .0 .2, c .before .before .before .before .before .if1 .left), pre .1)
 
 same-length-4 : tie.Need-same-length-4
 same-length-4 c = search needs

@@ -20,43 +20,63 @@ use Rattle.compose.proofs.walking.walk_all.Statement.{statement}
 use Rattle.compose.proofs.walking.walk_all.Tie as tie
 
 abbrev Inv-loop : tie.InvT-loop
-Inv-loop left lfirst lindex right rfirst rindex present first table₀ origins₀ states₀ heads₀ links₀ walk₀ s₀ table origins states heads links walk s =
+Inv-loop left lfirst lindex right rfirst rindex rheads chain again first table₀ origins₀ states₀ heads₀ links₀ walk₀ s₀ table origins states heads links walk s =
     Walking pack (Within (decode left) (decode right)) 2 (key-steps (decode left) (decode right)) (pack (first-state (decode left) (decode right))) s walk
     table origins states heads links × (length table ≡ length table₀) × (length origins ≡ length origins₀)
     × (length states ≡ length states₀)
 
 abbrev μ-loop : tie.MeasureT-loop
-μ-loop left lfirst lindex right rfirst rindex present first table₀ origins₀ states₀ heads₀ links₀ walk₀ s₀ table origins states heads links walk s = 1024 - s
+μ-loop left lfirst lindex right rfirst rindex rheads chain again first table₀ origins₀ states₀ heads₀ links₀ walk₀ s₀ table origins states heads links walk s =
+    1024 - s
+
+-- Places to look back to: the start, the first state stored, the loop's head, the turn in which a state is served.
+abbrev start : tie.After-shared-slice-known2 Inv-loop μ-loop → tie.Start Inv-loop μ-loop
+start c = c .before .before
+
+abbrev lent : tie.After-insert Inv-loop μ-loop → tie.After-shared-slice-known2 Inv-loop μ-loop
+lent c = c .before .before .before .before .before .before .before
+
+abbrev begun : tie.At-loop Inv-loop μ-loop → tie.After-insert Inv-loop μ-loop
+begun c = c .before .before .before
+
+abbrev turn : tie.After-serve Inv-loop μ-loop → tie.Then1 Inv-loop μ-loop
+turn c = c .before .before .before .before .before .before
+
+abbrev head : tie.Then1 Inv-loop μ-loop → tie.At-loop Inv-loop μ-loop
+head c = c .before .before
+
+abbrev served : tie.After-slice-known7 Inv-loop μ-loop → tie.After-serve Inv-loop μ-loop
+served c = c .before .before .before .before .before .before
 
 -- Both transducers are good ones.
-left-good : (c : tie.After-shared-slice-known Inv-loop μ-loop) → Good (decode (c .before .args .left .now))
-left-good c = accepted-good (c .before .args .left .now) (λ i. omega (arith, c .shared-slice-known .given i)) (c .before .pre .0 .left-open .accepted)
+left-good : (c : tie.After-shared-slice-known2 Inv-loop μ-loop) → Good (decode (start c .args .left .now))
+left-good c =
+    accepted-good (start c .args .left .now) (λ i. omega (arith, c .before .shared-slice-known .given i)) (start c .pre .0 .left-open .accepted)
 
-right-good : (c : tie.After-shared-slice-known2 Inv-loop μ-loop) → Good (decode (c .before .before .args .right .now))
-right-good c = accepted-good (c .before .before .args .right .now) (λ i. omega (arith, c .shared-slice-known2 .given i)) (c .before .before .pre .0 .right-open .accepted)
+right-good : (c : tie.After-shared-slice-known2 Inv-loop μ-loop) → Good (decode (start c .args .right .now))
+right-good c =
+    accepted-good (start c .args .right .now) (λ i. omega (arith, c .shared-slice-known2 .given i)) (start c .pre .0 .right-open .accepted)
 
 -- Keys stand for the states of the composition.
 keying : (c : tie.After-shared-slice-known2 Inv-loop μ-loop)
-    → Keying same-state (steps (decode (c .before .before .args .left .now)) (decode (c .before .before .args .right .now)))
-    (first-state (decode (c .before .before .args .left .now)) (decode (c .before .before .args .right .now))) pack origin-pair
-    (key-steps (decode (c .before .before .args .left .now)) (decode (c .before .before .args .right .now)))
-    (Within (decode (c .before .before .args .left .now)) (decode (c .before .before .args .right .now)))
-keying c =
-    let a = c .before .before .args in
-    composed-keying (decode (a .left .now)) (decode (a .right .now)) (left-good (c .before)) (right-good c)
+    → Keying same-state (steps (decode (start c .args .left .now)) (decode (start c .args .right .now)))
+    (first-state (decode (start c .args .left .now)) (decode (start c .args .right .now))) pack origin-pair
+    (key-steps (decode (start c .args .left .now)) (decode (start c .args .right .now)))
+    (Within (decode (start c .args .left .now)) (decode (start c .args .right .now)))
+keying c = composed-keying (decode (start c .args .left .now)) (decode (start c .args .right .now)) (left-good c) (right-good c)
 
 insert-requires : tie.Need-insert-requires Inv-loop μ-loop
-insert-requires c κs = (omega arith, c .before .before .before .before .before .before .before .before .pre .1 .1 .2)
+insert-requires c κs = (omega arith, start (c .before .before .before .before .before .before) .pre .1 .1 .2)
 
 loop-holds : tie.Need-loop-holds Inv-loop μ-loop
 unfolding there
 loop-holds c =
-    let a = c .before .before .before .before .before .before .before .before .before .before .before .args in
-    let pre = c .before .before .before .before .before .before .before .before .before .before .before .pre in
-    let out = c .before .before .insert .last in (
-      walking-first (keying (c .before .before .before .before .before .before .before .before .before)) 2 (a .first)
-          (a .table .now) (a .origins .now) (out .0) (out .1 .0) (out .1 .1 .0) (pre .1 .0) (pre .1 .1 .0) (pre .1 .1 .1)
-          (c .before .before .insert .ensures .0 [] refl refl (chained-zeros (a .states .now) (pre .1 .1 .2))),
+    let k = c .before .before in
+    let a = start (lent k) .args in
+    let pre = start (lent k) .pre in
+    let out = k .insert .last in (
+      walking-first (keying (lent k)) 2 (a .first) (a .table .now) (a .origins .now) (out .0) (out .1 .0) (out .1 .1 .0) (pre .1 .0) (pre .1 .1 .0)
+          (pre .1 .1 .1) (k .insert .ensures .0 [] refl refl (chained-zeros (a .states .now) (pre .1 .1 .2))),
       refl,
       refl,
       refl,
@@ -64,64 +84,70 @@ loop-holds c =
 
 serve-requires : tie.Need-serve-requires Inv-loop μ-loop
 serve-requires c κs =
-    let a = c .before .before .before .before .before .before .before .before .before .before .before .before .before .before .before .before .before .before .before .args in
-    let g = c .before .before .before .before .before .before .before .loop .inv .0 in (
-      (c .before .before .before .before .before .before .before .before .before .before .before .before .before .before .before .before .before .before .before .pre .0, c .before .before .before .before .before .if1 .taken),
+    let t = c .before .before .before .before .before in
+    let k = lent (begun (head t)) in
+    let a = start k .args in
+    let g = head t .loop .inv .0 in (
+      (start k .pre .0, t .if1 .taken),
       (
-        key-inside (decode (a .left .now)) (decode (a .right .now)) (left-good (c .before .before .before .before .before .before .before .before .before .before .before .before .before .before .before .before .before .before)) (right-good (c .before .before .before .before .before .before .before .before .before .before .before .before .before .before .before .before .before)) _
-            (walking-state (keying (c .before .before .before .before .before .before .before .before .before .before .before .before .before .before .before .before .before)) 2 g (c .before .before .before .before .before .if1 .taken)),
+        key-inside (decode (a .left .now)) (decode (a .right .now)) (left-good k) (right-good k) _ (walking-state (keying k) 2 g (t .if1 .taken)),
         (g .sofar, g .walked),
       ),
     )
 
 -- The state served has a number below 1,024.
-small : (c : tie.Then1 Inv-loop μ-loop) → c .before .before .loop .s < 1024
-small c =
-    let a = c .before .before .before .before .before .before .before .before .before .before .before .before .before .before .args in
-    walking-small (keying (c .before .before .before .before .before .before .before .before .before .before .before .before)) 2 (c .before .before .loop .inv .0)
-    (c .if1 .taken)
+small : (c : tie.Then1 Inv-loop μ-loop) → head c .loop .s < 1024
+small c = walking-small (keying (lent (begun (head c)))) 2 (head c .loop .inv .0) (c .if1 .taken)
 
 same-length : tie.Need-same-length Inv-loop μ-loop
-same-length c = c .before .before .before .before .before .before .before .serve .kept .1 .1 .1 .1 .1 .1 .1 .1 .1 .0 ∙ c .before .before .before .before .before .before .before .before .before .before .before .before .before .before .before .loop .inv .1
+same-length c =
+    let k = served (c .before) in
+    k .serve .kept .1 .1 .1 .1 .1 .1 .1 .1 .1 .1 .1 .0 ∙ head (turn k) .loop .inv .1
 
 same-length-2 : tie.Need-same-length-2 Inv-loop μ-loop
-same-length-2 c = c .before .before .before .before .before .before .before .serve .kept .1 .1 .1 .1 .1 .1 .1 .1 .1 .1 .0 ∙ c .before .before .before .before .before .before .before .before .before .before .before .before .before .before .before .loop .inv .2
+same-length-2 c =
+    let k = served (c .before) in
+    k .serve .kept .1 .1 .1 .1 .1 .1 .1 .1 .1 .1 .1 .1 .0 ∙ head (turn k) .loop .inv .2
 
 same-length-3 : tie.Need-same-length-3 Inv-loop μ-loop
-same-length-3 c = c .before .before .before .before .before .before .before .serve .kept .1 .1 .1 .1 .1 .1 .1 .1 .1 .1 .1 .0 ∙ c .before .before .before .before .before .before .before .before .before .before .before .before .before .before .before .loop .inv .3 ∙ c .before .before .before .before .before .before .before .before .before .before .before .before .before .before .before .before .before .before .insert .kept .0
+same-length-3 c =
+    let k = served (c .before) in
+    k .serve .kept .1 .1 .1 .1 .1 .1 .1 .1 .1 .1 .1 .1 .1 .0 ∙ head (turn k) .loop .inv .3 ∙ begun (head (turn k)) .insert .kept .0
 
 returns : tie.Need-returns Inv-loop μ-loop
 returns c =
-    let a = c .before .before .before .before .before .before .before .before .before .before .before .before .before .before .before .before .before .before .before .before .before .before .before .before .before .before .before .args in
-    let g = c .before .before .before .before .before .before .before .before .before .before .before .before .before .before .before .loop .inv .0 in
-    let out = c .before .before .before .before .before .before .before .serve .last .1 .1 .1 .1 .1 .1 .1 .1 .1 in
+    let k = served (c .before) in
+    let h = head (turn k) in
+    let g = h .loop .inv .0 in
+    let out = k .serve .last .1 .1 .1 .1 .1 .1 .1 .1 .1 .1 .1 in
     record {
       full =
-          walking-full (keying (c .before .before .before .before .before .before .before .before .before .before .before .before .before .before .before .before .before .before .before .before .before .before .before .before .before)) 2 g (c .before .before .before .before .before .before .before .before .before .before .before .before .before .if1 .taken)
-          (c .before .before .before .before .before .before .before .serve .result) (out .0) (out .1 .0) (out .1 .1 .0) (out .1 .1 .1 .0) (out .1 .1 .1 .1 .0) (c .before .before .before .before .before .before .before .serve .ensures (g .sofar) (g .walked));
-      done = λ h. clash (c .if2 .taken) h;
+          walking-full (keying (lent (begun h))) 2 g (turn k .if1 .taken) (k .serve .result) (out .0) (out .1 .0) (out .1 .1 .0) (out .1 .1 .1 .0)
+          (out .1 .1 .1 .1 .0) (k .serve .ensures (g .sofar) (g .walked));
+      done = λ e. clash (c .if2 .taken) e;
       table-kept = same-length c;
       origins-kept = same-length-2 c;
       states-kept = same-length-3 c;
     }
 
 add-s : tie.Need-add-s Inv-loop μ-loop
-add-s c = omega (arith, small (c .before .before .before .before .before .before .before .before .before .before .before .before .before))
+add-s c = omega (arith, small (turn (served (c .before))))
 
 loop-less : tie.Need-loop-less Inv-loop μ-loop
-loop-less c = omega (arith, small (c .before .before .before .before .before .before .before .before .before .before .before .before .before))
+loop-less c = omega (arith, small (turn (served (c .before))))
 
 loop-again : tie.Need-loop-again Inv-loop μ-loop
 loop-again c =
-    let a = c .before .before .before .before .before .before .before .before .before .before .before .before .before .before .before .before .before .before .before .before .before .before .before .before .before .before .before .args in
-    let g = c .before .before .before .before .before .before .before .before .before .before .before .before .before .before .before .loop .inv .0 in
-    let out = c .before .before .before .before .before .before .before .serve .last .1 .1 .1 .1 .1 .1 .1 .1 .1 in
-    let kept = c .before .before .before .before .before .before .before .serve .kept .1 .1 .1 .1 .1 .1 .1 .1 .1 in (
-      walking-next (keying (c .before .before .before .before .before .before .before .before .before .before .before .before .before .before .before .before .before .before .before .before .before .before .before .before .before)) 2 g (c .before .before .before .before .before .before .before .before .before .before .before .before .before .if1 .taken)
-          (c .before .before .before .before .before .before .before .serve .result) (out .0) (out .1 .0) (out .1 .1 .0) (out .1 .1 .1 .0) (out .1 .1 .1 .1 .0) (c .before .before .before .before .before .before .before .serve .ensures (g .sofar) (g .walked)) (c .if2 .left),
-      kept .0 ∙ c .before .before .before .before .before .before .before .before .before .before .before .before .before .before .before .loop .inv .1,
-      kept .1 .0 ∙ c .before .before .before .before .before .before .before .before .before .before .before .before .before .before .before .loop .inv .2,
-      kept .1 .1 .0 ∙ c .before .before .before .before .before .before .before .before .before .before .before .before .before .before .before .loop .inv .3,
+    let k = served (c .before) in
+    let h = head (turn k) in
+    let g = h .loop .inv .0 in
+    let out = k .serve .last .1 .1 .1 .1 .1 .1 .1 .1 .1 .1 .1 in
+    let kept = k .serve .kept .1 .1 .1 .1 .1 .1 .1 .1 .1 .1 .1 in (
+      walking-next (keying (lent (begun h))) 2 g (turn k .if1 .taken) (k .serve .result) (out .0) (out .1 .0) (out .1 .1 .0) (out .1 .1 .1 .0)
+          (out .1 .1 .1 .1 .0) (k .serve .ensures (g .sofar) (g .walked)) (c .if2 .left),
+      kept .0 ∙ h .loop .inv .1,
+      kept .1 .0 ∙ h .loop .inv .2,
+      kept .1 .1 .0 ∙ h .loop .inv .3,
     )
 
 same-length-4 : tie.Need-same-length-4 Inv-loop μ-loop
@@ -131,16 +157,15 @@ same-length-5 : tie.Need-same-length-5 Inv-loop μ-loop
 same-length-5 c = c .before .before .loop .inv .2
 
 same-length-6 : tie.Need-same-length-6 Inv-loop μ-loop
-same-length-6 c = c .before .before .loop .inv .3 ∙ c .before .before .before .before .before .insert .kept .0
+same-length-6 c = c .before .before .loop .inv .3 ∙ begun (c .before .before) .insert .kept .0
 
 returns-2 : tie.Need-returns-2 Inv-loop μ-loop
 returns-2 c =
-    let a = c .before .before .before .before .before .before .before .before .before .before .before .before .before .before .args in
-    let g = c .before .before .loop .inv .0 in
+    let h = c .before .before in
+    let g = h .loop .inv .0 in
     record {
-      full = λ h. clash h (g .walked .not-full);
-      done = λ h.
-          walking-stop (keying (c .before .before .before .before .before .before .before .before .before .before .before .before)) 2 g (c .if1 .left);
+      full = λ e. clash e (g .walked .not-full);
+      done = λ e. walking-stop (keying (lent (begun h))) 2 g (c .if1 .left);
       table-kept = same-length-4 c;
       origins-kept = same-length-5 c;
       states-kept = same-length-6 c;

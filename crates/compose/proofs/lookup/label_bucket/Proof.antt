@@ -1,8 +1,8 @@
 -- The code computes what the definition says.
 use borrow.Author.Needs.{needs}
-use Rattle.compose.specs.Walk.{label-bucket}
-use Rattle.compose.proofs.runs.label_bucket.Statement.{statement}
-use Rattle.compose.proofs.runs.label_bucket.Tie as tie
+use Rattle.compose.specs.Lookup.{label-bucket}
+use Rattle.compose.proofs.lookup.label_bucket.Statement.{statement}
+use Rattle.compose.proofs.lookup.label_bucket.Tie as tie
 
 mul-result : tie.Need-mul-result
 mul-result c = search needs
