@@ -43,7 +43,7 @@ enum {
 };
 
 /* Bytes of stack that a call needs at most, for whoever sizes the stack of a thread. */
-enum { FORTHWN_STACK = 262144 };
+enum { FORTHWN_STACK = 327680 };
 
 /* The side that stood still in a step of a composition, in place of an arc's number; and the count that stands for 99 or more. */
 enum { FORTHWN_STOOD_STILL = 65535, FORTHWN_MANY = 99 };

@@ -26,7 +26,7 @@ pub const WEIGHTS: usize = 3072;
 pub const TEXT: usize = 602898;
 
 /// Bytes of stack that a call needs at most, for whoever sizes the stack of a thread.
-pub const STACK: usize = 262144;
+pub const STACK: usize = 327680;
 
 /// The numbers at the head of a table.
 #[repr(C)]
