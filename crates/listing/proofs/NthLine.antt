@@ -12,6 +12,7 @@ use Rattle.wire.specs.Bytes.{filled}
 use Rattle.wire.proofs.Places.{length-filled}
 use Rattle.transducer.specs.Format.{Transducer}
 use Rattle.transducer.specs.Path.{written-by}
+use Rattle.transducer.specs.Entry.{unless, left-in}
 use Rattle.paths.specs.declared.Told.{Told}
 use Rattle.paths.specs.Count.{endless, path-count, nth-path}
 use Rattle.paths.specs.Entry.{Tells}
