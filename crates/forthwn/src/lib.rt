@@ -178,7 +178,7 @@ pub extern "C" fn forthwn_shortest(
 }
 
 // The whole chain in one call: composes two transducers, applies a string and puts the number of accepting paths into `count`. Nothing is
-// lent: it works in arrays of its own on the stack (`bench/stack` says how much each call takes).
+// lent: it works in arrays of its own on the stack (docs/reference.md says how much).
 #[no_mangle]
 pub extern "C" fn forthwn_readings(
     left: &[u8],
