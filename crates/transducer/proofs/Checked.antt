@@ -5,7 +5,7 @@
 --     all-checked-content, given-content      the same in bytes, and in runs of fields
 -- Assumes nothing.
 use mathlib.Core.Path.{_≡_, refl, sym, _∙_}
-use mathlib.Core.Bool.{Bool, true, false, _&&_}
+use mathlib.Core.Bool.{Bool, true, false, _&&_, and-assoc, and-true}
 use mathlib.Core.List.{List}
 use Prim.Native.Nat.{ℕ, zero, suc, _+_, _*_, _-_, _≤_, _<_}
 use native.Mathlib.Nat.{mul-zero, mul-suc, sub-zero}
@@ -13,7 +13,6 @@ use native.Mathlib.Numerals.{add-one}
 use native.Mathlib.Omega.{arith}
 use lib.Dec.{ltb, leb, eqb}
 use Rattle.wire.specs.Bytes.{four, places, every}
-use Rattle.wire.proofs.Places.{and-assoc}
 use Rattle.transducer.specs.declared.Arc.{Arc}
 use Rattle.transducer.specs.declared.Final.{Final}
 use Rattle.transducer.specs.declared.Checks.{Checks}
@@ -61,10 +60,6 @@ pub record Gathered (c d : Checks) (heads states order labels weights : Bool) : 
   pub labels-are : d .labels ≡ c .labels && labels
   pub weights-are : d .weights ≡ c .weights && weights
 
-and-truth : (b : Bool) → b ≡ b && true
-and-truth true = refl
-and-truth false = refl
-
 -- The floor is no test.
 gathered-none : (c : Checks) (floor : ℕ) →
     Gathered c
@@ -72,11 +67,11 @@ gathered-none : (c : Checks) (floor : ℕ) →
     true true true true true
 gathered-none c floor =
     record {
-      heads-are = and-truth (c .heads);
-      states-are = and-truth (c .states);
-      order-is = and-truth (c .order);
-      labels-are = and-truth (c .labels);
-      weights-are = and-truth (c .weights);
+      heads-are = sym (and-true (c .heads));
+      states-are = sym (and-true (c .states));
+      order-is = sym (and-true (c .order));
+      labels-are = sym (and-true (c .labels));
+      weights-are = sym (and-true (c .weights));
     }
 
 gathered-more : {c d e : Checks} {h s o l w h' s' o' l' w' : Bool} → Gathered c d h s o l w → Gathered d e h' s' o' l' w' →
@@ -99,7 +94,7 @@ finals-gathered zero at s n word final c = gathered-none c (c .floor)
 finals-gathered (suc k) at s n word final c =
     let d = final-checked n (word at) (final at) c in
     let first : Gathered c d (eqb (word at) final-word) (ltb (final at .state) n) (leb (c .floor) (final at .state)) true (weight-good (final at .weight)) =
-    record { heads-are = refl; states-are = refl; order-is = refl; labels-are = and-truth (c .labels); weights-are = refl } in
+    record { heads-are = refl; states-are = refl; order-is = refl; labels-are = sym (and-true (c .labels)); weights-are = refl } in
     gathered-more first (finals-gathered k (at + s) s n word final d)
 
 pub arcs-gathered : (k at s n : ℕ) (word : ℕ → ℕ) (arc : ℕ → Arc) (c : Checks) →

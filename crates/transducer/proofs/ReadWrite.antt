@@ -15,6 +15,7 @@ use lib.ListN.{length, getD, take, List·getD-map, length-map}
 use lib.Seq.{take-length}
 use Rattle.wire.specs.Bytes.{places, filled}
 use Rattle.wire.proofs.Places.{length-places, places-same, map-places, getD-filled, length-filled, take-filled}
+use Rattle.wire.proofs.Bool.{passed, or-false, not-raised}
 use Rattle.transducer.specs.declared.Arc.{Arc}
 use Rattle.transducer.specs.declared.Final.{Final}
 use Rattle.transducer.specs.declared.Header.{Header}
@@ -26,7 +27,7 @@ use Rattle.transducer.specs.Entry.{Read-says, read-refusal, read-room, W
 use Rattle.transducer.specs.RoundTrip.{Read-then-written, Same-bytes, Written-then-read, Same-transducer}
 use Rattle.transducer.proofs.Answers.{or-else-none, none-or-else, unless-none, left-in-none}
 use Rattle.transducer.proofs.Copy.{places-shift, length-arc-fields}
-use Rattle.transducer.proofs.Good.{Head-range, passed}
+use Rattle.transducer.proofs.Good.{Head-range}
 use Rattle.transducer.proofs.ReadSays.{long-enough}
 use Rattle.transducer.proofs.RoundTrip.{encode-decode, accepted-good, decode-encode, refusal-encode, good-range}
 use Rattle.transducer.proofs.WriteSays.{Enough, not-too-few}
@@ -152,14 +153,6 @@ fields-given (suc m) (x₀ ∷ x₁ ∷ x₂ ∷ x₃ ∷ c) [] h l = absurd (om
 
 -- What the refusals say that are 0
 
-or-none : (a b : Bool) → a || b ≡ false → (a ≡ false) × (b ≡ false)
-or-none false b h = (refl, h)
-or-none true b h = absurd (let z : _≡_ {A = ℕ} 0 1 = cc in omega arith)
-
-cond-none : (b : Bool) (k r : ℕ) → cond b (suc k) r ≡ 0 → (b ≡ false) × (r ≡ 0)
-cond-none false k r h = (refl, h)
-cond-none true k r h = absurd (omega arith)
-
 -- Buffers that are long enough for reading.
 record Room (a b c d : ℕ) : Type 0 where
   states : max-states ≤ a
@@ -170,18 +163,18 @@ record Room (a b c d : ℕ) : Type 0 where
 read-room-none : (a b c d : ℕ) → read-room a b c d ≡ 0 → Room a b c d
 unfolding read-room
 read-room-none a b c d h =
-    let p = cond-none (ltb a 1024 || (ltb b 1024 || (ltb c 12288 || ltb d 3072))) 9 0 h .0 in
-    let q = or-none (ltb a 1024) (ltb b 1024 || (ltb c 12288 || ltb d 3072)) p in
-    let r = or-none (ltb b 1024) (ltb c 12288 || ltb d 3072) (q .1) in
-    let s = or-none (ltb c 12288) (ltb d 3072) (r .1) in
+    let p = not-raised (ltb a 1024 || (ltb b 1024 || (ltb c 12288 || ltb d 3072))) 9 0 h .0 in
+    let q = or-false (ltb a 1024) (ltb b 1024 || (ltb c 12288 || ltb d 3072)) p in
+    let r = or-false (ltb b 1024) (ltb c 12288 || ltb d 3072) (q .1) in
+    let s = or-false (ltb c 12288) (ltb d 3072) (r .1) in
     record { states = ltb-false a 1024 (q .0); weights = ltb-false b 1024 (r .0); fields = ltb-false c 12288 (s .0); arc-weights = ltb-false d 3072 (s .1) }
 
 too-few-none : (f m a b c d : ℕ) → too-few f m a b c d ≡ false → Enough f m a b c d
 unfolding too-few
 too-few-none f m a b c d h =
-    let q = or-none (ltb a f) (ltb b f || (ltb c (4 * m) || ltb d m)) h in
-    let r = or-none (ltb b f) (ltb c (4 * m) || ltb d m) (q .1) in
-    let s = or-none (ltb c (4 * m)) (ltb d m) (r .1) in
+    let q = or-false (ltb a f) (ltb b f || (ltb c (4 * m) || ltb d m)) h in
+    let r = or-false (ltb b f) (ltb c (4 * m) || ltb d m) (q .1) in
+    let s = or-false (ltb c (4 * m)) (ltb d m) (r .1) in
     record { states = ltb-false a f (q .0); weights = ltb-false b f (r .0); fields = ltb-false c (4 * m) (s .0); arc-weights = ltb-false d m (s .1) }
 
 -- Read, then written
@@ -302,7 +295,7 @@ given-well n m f start a b c d room h =
     let t = given n m f start a b c d in
     let content = or-else (content-refusal t) (cond (ltb room max-bytes) 10 0) in
     let p = passed (head-good n m f start) 2 (cond (too-few f m (length a) (length b) (length c) (length d)) 4 content) h in
-    let q = cond-none (too-few f m (length a) (length b) (length c) (length d)) 3 content (p .1) in
+    let q = not-raised (too-few f m (length a) (length b) (length c) (length d)) 3 content (p .1) in
     let r = or-else-none (content-refusal t) (cond (ltb room max-bytes) 10 0) (q .1) in
     record {
       good = record { head = rw (length-places m 0 1 (arc-of c d), length-places f 0 1 (final-of a b)) (p .0); content = r .0 };
