@@ -2,7 +2,7 @@
 --     left-first, left-next, left-stop        a loop over records, of which what is left equals the whole
 --     finals-gathered, arcs-gathered          what the tests of finals, and of arcs, add to those before
 --     content-checked                         the tests of both, wherever they stand, are those of the transducer that they make
---     all-checked-content, given-content      the same in bytes, and in runs of fields
+--     all-checked-content                     the same in bytes
 -- Assumes nothing.
 use mathlib.Core.Path.{_≡_, refl, sym, _∙_}
 use mathlib.Core.Bool.{Bool, true, false, _&&_, and-assoc, and-true}
@@ -18,7 +18,6 @@ use Rattle.transducer.specs.declared.Final.{Final}
 use Rattle.transducer.specs.declared.Checks.{Checks}
 use Rattle.transducer.specs.Format.{Transducer, weight-good, labels-good, final-at, arc-at, finals-rise, sources-stay, states-good, order-good, all-labels-good, weights-good, first-of, content-refusal}
 use Rattle.transducer.specs.Check.{final-checked, arc-checked, finals-checked, arcs-checked, from-0, all-checked, none-failed, final-word, arc-word}
-use Rattle.transducer.specs.Entry.{final-of, arc-of, given}
 
 -- A loop over `count` records, the first at `at`, each `step` past the one before, when it has passed i of them.
 -- `fold 1` is one turn.
@@ -149,11 +148,3 @@ module _ (bs : List ℕ) (n m f : ℕ) where
       ≡ content-refusal t
   unfolding all-checked
   all-checked-content = content-checked n f 12 10 m (12 + 10 * f) 16 (four bs) (four bs) (final-at bs) (arc-at bs)
-
--- In runs of fields.
-pub given-content : (n m f start : ℕ) (a b c d : List ℕ) →
-    let all = arcs-checked m 0 1 n (λ _. arc-word) (arc-of c d) (from-0 (finals-checked f 0 1 n (λ _. final-word) (final-of a b) none-failed)) in
-    first-of (all .states) (all .order) (all .labels) (all .weights) ≡ content-refusal (given n m f start a b c d)
-unfolding given
-given-content n m f start a b c d =
-    content-checked n f 0 1 m 0 1 (λ _. final-word) (λ _. arc-word) (final-of a b) (arc-of c d) (given n m f start a b c d) refl refl refl
