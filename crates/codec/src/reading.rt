@@ -85,7 +85,8 @@ pub fn read(
     arc_weights: &mut [u32],
 ) -> Header
     ensures { λ r. ⌜ Read-says (now (bytes .entry))
-        (read-refusal (now (bytes .entry)) (length (now («final_states» .entry))) (length (now («final_weights» .entry))) (length (now (fields .entry))) (length (now («arc_weights» .entry))))
+        (read-refusal (now (bytes .entry)) (length (now («final_states» .entry))) (length (now («final_weights» .entry)))
+        (length (now (fields .entry))) (length (now («arc_weights» .entry))))
         r (now («final_states» .entry)) (now («final_states» .exit)) (now («final_weights» .entry)) (now («final_weights» .exit))
         (now (fields .entry)) (now (fields .exit)) (now («arc_weights» .entry)) (now («arc_weights» .exit)) ⌝ }
 {

@@ -16,7 +16,8 @@ use transducer::Written;
 // Writes `count` final records from two runs behind the head.
 fn put_finals(states: &[u16], weights: &[u32], count: usize, out: &mut [u8])
     requires { ⌜ (count ≤ length (now states)) × (count ≤ length (now weights)) × (arcs-at count ≤ length (now out)) ⌝ }
-    ensures { λ _. ⌜ now (out .exit) ≡ sets (now (out .entry)) head-bytes (final-records (places count 0 1 (final-of (now (states .entry)) (now (weights .entry))))) ⌝ }
+    ensures { λ _. ⌜ now (out .exit) ≡ sets (now (out .entry)) head-bytes
+        (final-records (places count 0 1 (final-of (now (states .entry)) (now (weights .entry))))) ⌝ }
 {
     let mut at = transducer::HEAD_BYTES;
     let mut i = 0;
@@ -107,7 +108,8 @@ fn content_number(
     arc_weights: &[u32],
 ) -> u32
     requires { ⌜ (f ≤ length (now «final_states»)) × (f ≤ length (now «final_weights»)) × (4 * m ≤ length (now fields)) × (m ≤ length (now «arc_weights»)) ⌝ }
-    ensures { λ r. ⌜ ((start : ℕ) → r ≡ content-refusal (given n m f start (now («final_states» .entry)) (now («final_weights» .entry)) (now (fields .entry)) (now («arc_weights» .entry)))) ⌝ }
+    ensures { λ r. ⌜ ((start : ℕ) → r ≡ content-refusal (given n m f start (now («final_states» .entry)) (now («final_weights» .entry))
+        (now (fields .entry)) (now («arc_weights» .entry)))) ⌝ }
 {
     let none = Checks {
         heads: true,
@@ -135,7 +137,8 @@ pub fn write(
 ) -> Written
     ensures { λ r. ⌜ Write-says
         (given n m f start (now («final_states» .entry)) (now («final_weights» .entry)) (now (fields .entry)) (now («arc_weights» .entry)))
-        (write-refusal n m f start (now («final_states» .entry)) (now («final_weights» .entry)) (now (fields .entry)) (now («arc_weights» .entry)) (length (now (out .entry))))
+        (write-refusal n m f start (now («final_states» .entry)) (now («final_weights» .entry)) (now (fields .entry)) (now («arc_weights» .entry))
+        (length (now (out .entry))))
         r (now (out .entry)) (now (out .exit)) ⌝ }
 {
     if !transducer::head_ok(n, m, f, start) {

@@ -49,7 +49,8 @@ fn mark_each(
     to: usize,
     index: &mut [u16; bounds::INDEX_LEN],
 )
-    requires { ⌜ Opened (now bytes) first × (from ≤ to) × (to ≤ length (decode (now bytes) .arcs)) × Marked (take from (decode (now bytes) .arcs)) (now index) ⌝ }
+    requires { ⌜ Opened (now bytes) first × (from ≤ to) × (to ≤ length (decode (now bytes) .arcs))
+        × Marked (take from (decode (now bytes) .arcs)) (now index) ⌝ }
     ensures { λ _. ⌜ Marked (take to (decode (now (bytes .entry)) .arcs)) (now (index .exit)) ⌝ }
 {
     let mut i = from;
