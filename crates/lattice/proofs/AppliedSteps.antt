@@ -20,7 +20,8 @@ use Rattle.transducer.proofs.Each.{FromArc, in-each-arc, each-arc-has, each-arc
 use Rattle.transducer.proofs.Fits.{fits-reads, reads-fits, passed-output}
 use Rattle.transducer.proofs.Labels.{Unbarred, arc-unbarred}
 use Rattle.explore.specs.Explore.{Step}
-use Rattle.lattice.specs.Apply.{State, string-good, step, arc-steps, steps}
+use Rattle.lattice.specs.declared.State.{State}
+use Rattle.lattice.specs.Apply.{string-good, step, arc-steps, steps}
 
 -- The step by an arc that reads nothing, and by one that reads the symbol at the position.
 unfoldable pub empty-step : State → (i : ℕ) → Arc → Step State ℕ

@@ -18,7 +18,8 @@ use Rattle.transducer.proofs.Paths.{Runs, runs-cons, cons-runs, empty-passed, s
 use Rattle.explore.specs.Explore.{Step}
 use Rattle.explore.proofs.Member.{mem-in, in-mem}
 use Rattle.explore.proofs.Trails.{Trail, inputs, outputs, weights}
-use Rattle.lattice.specs.Apply.{State, step, steps, final-state}
+use Rattle.lattice.specs.declared.State.{State}
+use Rattle.lattice.specs.Apply.{step, steps, final-state, first-state}
 use Rattle.lattice.proofs.AppliedSteps.{empty-step, symbol-step, OfArc, of-empty, of-symbol, Move, step-move, move-step, same-origin}
 
 -- The arcs that the steps come from, in order.
@@ -178,19 +179,16 @@ never-two cs t x (s ∷ ss) (s' ∷ ss') y y' h h' e =
 
 -- Trails from the first state to a final one stand for the accepting paths that read the whole string
 
-abbrev pub first : Transducer → State
-first t = record { position = 0; state = t .start }
-
 pub record Accepted (cs : List ℕ) (t : Transducer) (ss : List (Step State ℕ)) (y : State) : Type 0 where
   pub accepting : accepts t (numbers ss) ≡ true
   pub whole : read-by t (numbers ss) ≡ cs
   pub cost : plus (weights ss) (final-weight (t .finals) (y .state)) ≡ path-cost t (numbers ss)
 
-pub trail-accepted : (cs : List ℕ) (t : Transducer) (ss : List (Step State ℕ)) (y : State) → Trail (steps cs t) (first t) ss y
+pub trail-accepted : (cs : List ℕ) (t : Transducer) (ss : List (Step State ℕ)) (y : State) → Trail (steps cs t) (first-state t) ss y
     → final-state cs t y ≡ true → Accepted cs t ss y
 unfolding final-state accepts path-cost
 trail-accepted cs t ss y h f =
-    let l : Leads cs t (first t) ss y = trail-leads cs t (first t) ss y h in
+    let l : Leads cs t (first-state t) ss y = trail-leads cs t (first-state t) ss y h in
     let p : (eqb (y .position) (length cs) ≡ true) × (is-final (t .finals) (y .state) ≡ true) =
     and-true (eqb (y .position) (length cs)) (is-final (t .finals) (y .state)) f in
     let at-end : y .position ≡ length cs = eqb-true (y .position) (length cs) (p .0) in
@@ -203,12 +201,12 @@ trail-accepted cs t ss y h f =
     }
 
 pub accepting-followed : (cs : List ℕ) (t : Transducer) (p : List ℕ) → accepts t p ≡ true → read-by t p ≡ cs
-    → (r : Followed cs t (first t) p) × (final-state cs t (r .last) ≡ true)
+    → (r : Followed cs t (first-state t) p) × (final-state cs t (r .last) ≡ true)
 unfolding final-state accepts
 accepting-followed cs t p a e =
     let b : (runs t (t .start) p ≡ true) × (is-final (t .finals) (ends t (t .start) p) ≡ true) =
     and-true (runs t (t .start) p) (is-final (t .finals) (ends t (t .start) p)) a in
-    let r : Followed cs t (first t) p = path-followed cs t p (first t) (omega arith) (b .0) e in
+    let r : Followed cs t (first-state t) p = path-followed cs t p (first-state t) (omega arith) (b .0) e in
     let f : is-final (t .finals) (r .last .state) ≡ true = rw (r .in-state) (b .1) in (
       r,
       true-and (eqb (r .last .position) (length cs)) (is-final (t .finals) (r .last .state)) (eq-eqb (r .last .position) (length cs) (r .at-end)) f,

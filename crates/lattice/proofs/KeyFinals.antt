@@ -3,7 +3,7 @@
 use mathlib.Core.Path.{_≡_, refl, sym, ap, _∙_}
 use mathlib.Core.Bool.{Bool, true, false, _&&_, not, cond}
 use mathlib.Core.List.{List, [], _∷_, _++_, append-nil}
-use Prim.Native.Nat.{ℕ, _+_, _*_, _-_, _/_, _%_, _≤_, _<_}
+use Prim.Native.Nat.{ℕ, _+_, _*_, _-_, _≤_, _<_}
 use native.Mathlib.Numerals.{add-one}
 use native.Mathlib.Omega.{arith}
 use lib.Dec.{eqb}
@@ -19,19 +19,23 @@ use Rattle.transducer.specs.Path.{is-final, final-weight}
 use Rattle.explore.specs.Explore.{finals-from}
 use Rattle.explore.proofs.Finals.{finals-from-append}
 use Rattle.explore.proofs.PutFinals.{Finishing, finishing-first, finishing-none, finishing-more, finishing-stop}
-use Rattle.lattice.specs.Apply.{State, final-state}
-use Rattle.lattice.specs.Applying.{pack, unpacked, key-code, key-finals}
-use Rattle.lattice.proofs.KeyParts.{unpacked-pack, State-in, state-small}
+use Rattle.lattice.specs.declared.State.{State}
+use Rattle.lattice.specs.Apply.{final-state}
+use Rattle.lattice.specs.Applying.{key-code, key-finals, State-in}
+use Rattle.lattice.specs.Pack.{pack, unpacked}
+use Rattle.lattice.proofs.KeyParts.{state-small}
+use Rattle.lattice.proofs.Pack.{unpacked-pack}
 
 -- The code of a key
 
-pub code-at-last : (codes : List ℕ) (last k : ℕ) → k / 1024 ≡ last → key-code codes last k ≡ getD codes (k % 1024) 0
-unfolding key-code
-code-at-last codes last k e = rw (eq-eqb (k / 1024) last e)
+module _ (codes : List ℕ) (last k : ℕ) (x : State) (is : x ≡ unpacked k) where
+  pub code-at-last : x .position ≡ last → key-code codes last k ≡ getD codes (x .state) 0
+  unfolding key-code
+  code-at-last e = rw (← is, eq-eqb (x .position) last e)
 
-pub code-elsewhere : (codes : List ℕ) (last k : ℕ) → (k / 1024 ≡ last → ⊥) → key-code codes last k ≡ 0
-unfolding key-code
-code-elsewhere codes last k h = rw (ne-eqb (k / 1024) last h)
+  pub code-elsewhere : (x .position ≡ last → ⊥) → key-code codes last k ≡ 0
+  unfolding key-code
+  code-elsewhere h = rw (← is, ne-eqb (x .position) last h)
 
 -- Whether the state of a key is final, and its weight, by its code.
 abbrev pub key-final : (codes : List ℕ) → (last k : ℕ) → Bool
@@ -150,11 +154,11 @@ module _ (codes : List ℕ) (last : ℕ) (states : List ℕ) where
 module _ (cs : List ℕ) (t : Transducer) (good : Good t) (codes : List ℕ) (by-state : Finals-by-state t codes) where
   code-pack : (x : State) → State-in cs t x
       → key-code codes (length cs) (pack x) ≡ cond (eqb (x .position) (length cs)) (final-code (t .finals) (x .state)) 0
-  unfolding key-code unpacked
+  unfolding key-code
   code-pack x w =
       let small : x .state < 1024 = state-small cs t good x w in
       let e : unpacked (pack x) ≡ x = unpacked-pack x small in
-      rw (ap (λ (y : State). y .position) e, ap (λ (y : State). y .state) e, by-state .at-state (x .state) small)
+      rw (e, by-state .at-state (x .state) small)
 
   pub pack-final : (x : State) → State-in cs t x → key-final codes (length cs) (pack x) ≡ final-state cs t x
   unfolding final-state final-code

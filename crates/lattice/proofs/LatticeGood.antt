@@ -21,10 +21,10 @@ use Rattle.explore.specs.Explore.{Step, built, built-refusal, finals-from}
 use Rattle.explore.proofs.Cases.{by-test}
 use Rattle.explore.proofs.Member.{Mem, mem-in}
 use Rattle.explore.proofs.Built.{Labelled, every-arc, good-built}
-use Rattle.lattice.specs.Apply.{State, string-good, same-state, step, steps, final-state, applied}
+use Rattle.lattice.specs.declared.State.{State}
+use Rattle.lattice.specs.Apply.{string-good, same-state, step, steps, final-state, applied, first-state}
 use Rattle.lattice.specs.Lattice.{lattice}
 use Rattle.lattice.proofs.AppliedSteps.{empty-step, symbol-step, OfArc, of-empty, of-symbol, Move, step-move, step-unbarred}
-use Rattle.lattice.proofs.AppliedTrails.{first}
 use Rattle.lattice.proofs.SameState.{same-state-decides}
 use Rattle.trim.proofs.TrimmedGood.{trimmed-good}
 
@@ -97,7 +97,7 @@ module _ (cs : List ℕ) (t : Transducer) (good : Good t) (string : string-good 
 
   pub good-applied : Good (applied cs t .result) ↔ (built-refusal (applied cs t .result) ≡ 0)
   unfolding applied
-  good-applied = good-built same-state (steps cs t) (final-state cs t) (state-weight t) (first t) same-state-decides steps-labelled
+  good-applied = good-built same-state (steps cs t) (final-state cs t) (state-weight t) (first-state t) same-state-decides steps-labelled
 
   module _ (fine : built-refusal (applied cs t .result) ≡ 0) where
     pub lattice-good : Good (lattice cs t)

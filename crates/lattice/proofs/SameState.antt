@@ -5,7 +5,8 @@ use lib.Dec.{eqb}
 use borrow.Author.Tests.{eqb-true, eq-eqb}
 use Rattle.wire.proofs.Places.{and-true}
 use Rattle.explore.specs.Explore.{Decides}
-use Rattle.lattice.specs.Apply.{State, same-state}
+use Rattle.lattice.specs.declared.State.{State}
+use Rattle.lattice.specs.Apply.{same-state}
 
 same-state-sound : (x y : State) → same-state x y ≡ true → x ≡ y
 unfolding same-state

@@ -8,14 +8,20 @@ use native.Mathlib.Omega.{arith}
 use lib.Dec.{ltb, leb}
 use lib.ListN.{length, getD, take}
 use lib.Seq.{take-suc, take-all}
-use borrow.Author.Tests.{le-leb, lt-leb}
+use borrow.Author.Tests.{leb-true, le-leb, lt-leb}
 use Rattle.wire.specs.Bytes.{every}
-use Rattle.wire.proofs.Places.{and-assoc, every-append}
+use Rattle.wire.proofs.Places.{and-true, and-assoc, every-append}
 use Rattle.transducer.specs.Format.{barred}
 use Rattle.lattice.specs.Apply.{string-good}
 
 abbrev symbol-good : ℕ → Bool
 symbol-good c = leb 1 c && ltb c barred
+
+pub string-short : (cs : List ℕ) → string-good cs ≡ true → length cs ≤ 64
+unfolding string-good
+string-short cs good = leb-true (length cs) 64 (and-true (leb (length cs) 64) (every symbol-good cs) good .0)
+
+-- The loop
 
 -- The first i symbols are good.
 pub record Testing (cs : List ℕ) (good : Bool) (i : ℕ) : Type 0 where

@@ -7,7 +7,7 @@ use lib.ListN.{length, replicate, length-replicate}
 use Rattle.wire.specs.Bytes.{Bytes}
 use Rattle.transducer.proofs.Accept.{bounds}
 use Rattle.lattice.proofs.AppliedWritten.{says-11, says-12, ends-inside, bytes-accepted, bytes-accessible, len-small, out-long, traceable, says-lattice}
-use Rattle.lattice.proofs.KeyParts.{string-short}
+use Rattle.lattice.proofs.Symbols.{string-short}
 use Rattle.trim.proofs.TrimSays.{Opening, opening}
 use Rattle.lattice.proofs.applying.apply_into.Statement.{statement}
 use Rattle.lattice.proofs.applying.apply_into.Tie as tie
