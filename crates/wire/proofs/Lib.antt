@@ -1,3 +1,4 @@
+pub mod Bool
 pub mod Store
 pub mod Places
 pub mod Low

@@ -1,6 +1,7 @@
 -- Laws of `places`, `every`, `sets` and `filled`. Assumes nothing.
 use mathlib.Core.Path.{_≡_, refl, sym, ap, _∙_}
-use mathlib.Core.Bool.{Bool, true, false, _&&_}
+use mathlib.Core.Bool.{Bool, true, _&&_}
+pub use mathlib.Core.Bool.{and-assoc}
 use mathlib.Core.List.{List, [], _∷_, _++_, map, append-assoc, append-nil}
 use Prim.Native.Nat.{ℕ, zero, suc, _+_, _*_, _-_, _≤_, _<_}
 use native.Mathlib.Nat.{not-suc-le-zero, le-of-suc-le-suc, zero-add, add-zero, mul-suc, mul-zero, add-assoc, add-comm, add-suc, suc-add}
@@ -9,6 +10,7 @@ use native.Mathlib.Omega.{arith}
 use lib.ListN.{length, getD, set, take, drop, replicate, length-append, length-replicate, length-drop}
 use lib.Seq.{sets, take-at, take-append-seam, length-sets}
 use Rattle.wire.specs.Bytes.{places, every, filled, cleared}
+pub use Rattle.wire.proofs.Bool.{and-true, true-and}
 
 -- places
 
@@ -56,17 +58,6 @@ places-same (suc k) at s f g h =
     rw (first, places-same k (at + s) s f g more)
 
 -- every
-
-pub and-true : (a b : Bool) → a && b ≡ true → (a ≡ true) × (b ≡ true)
-and-true true b h = (refl, h)
-and-true false b h = let z : _≡_ {A = ℕ} 0 1 = cc in absurd (omega arith)
-
-pub true-and : (a b : Bool) → a ≡ true → b ≡ true → a && b ≡ true
-true-and a b p q = rw (p, q)
-
-pub and-assoc : (a b c : Bool) → (a && b) && c ≡ a && (b && c)
-and-assoc true b c = refl
-and-assoc false b c = refl
 
 pub every-append : {A : Type 0} (t : A → Bool) (xs ys : List A) → every t (xs ++ ys) ≡ every t xs && every t ys
 unfolding every
