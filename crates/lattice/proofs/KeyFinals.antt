@@ -10,7 +10,7 @@ use lib.Dec.{eqb}
 use lib.ListN.{length, getD, take, drop, length-append, take-append-drop}
 use lib.Seq.{sets, take-suc, length-take-le, take-take}
 use borrow.Author.Tests.{eq-eqb, ne-eqb}
-use Rattle.wire.proofs.Places.{and-true}
+use Rattle.wire.proofs.Bool.{and-true}
 use Rattle.transducer.specs.declared.Final.{Final}
 use Rattle.transducer.specs.Format.{Transducer, Good, weight-good}
 use Rattle.transducer.specs.Encode.{final-record, final-records}
@@ -51,7 +51,7 @@ is-key-final : (codes : List ℕ) (last k code : ℕ) → code ≡ key-code code
 is-key-final codes last k code is z = rw (ne-eqb (key-code codes last k) 0 (λ e. z (is ∙ e)))
 
 -- The finals of the first s keys are counted.
-pub record Counting (codes : List ℕ) (last : ℕ) (states : List ℕ) (count finals s : ℕ) : Type 0 where
+pub record Finals-counted (codes : List ℕ) (last : ℕ) (states : List ℕ) (count finals s : ℕ) : Type 0 where
   pub within : s ≤ count
   pub few : finals ≤ s
   pub count-is : finals ≡ length (key-finals codes last (take s states))
@@ -97,11 +97,11 @@ module _ (codes : List ℕ) (last : ℕ) (states : List ℕ) where
       ap fs (sym (take-append-drop n ks)) ∙ finals-from-append (key-final codes last) (key-weight codes last) 0 (take n ks) (drop n ks) in
       omega (arith, ap length whole, length-append (fs (take n ks)) rest, ap length front)
 
-  pub counting-first : (count : ℕ) → Counting codes last states count 0 0
+  pub counting-first : (count : ℕ) → Finals-counted codes last states count 0 0
   unfolding key-finals finals-from
   counting-first count = record { within = omega arith; few = omega arith; count-is = refl }
 
-  pub counting-stop : (count finals s : ℕ) → count ≤ s → Counting codes last states count finals s
+  pub counting-stop : (count finals s : ℕ) → count ≤ s → Finals-counted codes last states count finals s
       → (finals ≡ length (key-finals codes last (take count states))) × (finals ≤ count)
   counting-stop count finals s stop inv =
       let all : s ≡ count = omega (arith, inv .within) in (rw all at (inv .count-is), omega (arith, inv .few))
@@ -116,7 +116,7 @@ module _ (codes : List ℕ) (last : ℕ) (states : List ℕ) where
       finishing-stop (key-final codes last) (key-weight codes last) states (inv .1) stop .stored
 
   module _ (count finals s code : ℕ) (less : s < count) (room : count ≤ length states) (is : code ≡ key-code codes last (getD states s 0)) where
-    pub counting-none : Counting codes last states count finals s → code ≡ 0 → Counting codes last states count finals (s + 1)
+    pub counting-none : Finals-counted codes last states count finals s → code ≡ 0 → Finals-counted codes last states count finals (s + 1)
     unfolding finals-from
     counting-none inv z =
         let same : key-finals codes last (take (s + 1) states) ≡ key-finals codes last (take s states) =
@@ -124,7 +124,7 @@ module _ (codes : List ℕ) (last : ℕ) (states : List ℕ) where
         ∙ (rw (not-final codes last (getD states s 0) code is z) (append-nil (key-finals codes last (take s states)))) in
         record { within = omega arith; few = omega (arith, inv .few); count-is = rw same (inv .count-is) }
 
-    pub counting-more : Counting codes last states count finals s → (code ≡ 0 → ⊥) → Counting codes last states count (finals + 1) (s + 1)
+    pub counting-more : Finals-counted codes last states count finals s → (code ≡ 0 → ⊥) → Finals-counted codes last states count (finals + 1) (s + 1)
     counting-more inv z =
         record { within = omega arith; few = omega (arith, inv .few); count-is = omega (arith, inv .count-is, longer s code (omega arith) is z) }
 

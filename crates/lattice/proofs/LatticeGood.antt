@@ -9,7 +9,8 @@ use native.Mathlib.Omega.{arith}
 use lib.Dec.{ltb, eqb}
 use lib.ListN.{length}
 use Rattle.wire.specs.Bytes.{every}
-use Rattle.wire.proofs.Places.{and-true, true-and, every-getD}
+use Rattle.wire.proofs.Bool.{by-test, and-true, true-and}
+use Rattle.wire.proofs.Places.{every-getD}
 use Rattle.transducer.specs.declared.Final.{Final}
 use Rattle.transducer.specs.Format.{Transducer, Good, weight-good, weights-good, refusal, decode}
 use Rattle.transducer.specs.Encode.{encode}
@@ -18,7 +19,6 @@ use Rattle.transducer.proofs.GoodParts.{good-parts}
 use Rattle.transducer.proofs.Labels.{Unbarred}
 use Rattle.transducer.proofs.RoundTrip.{refusal-encode, decode-encode}
 use Rattle.explore.specs.Explore.{Step, built, built-refusal, finals-from}
-use Rattle.explore.proofs.Cases.{by-test}
 use Rattle.explore.proofs.Member.{Mem, mem-in}
 use Rattle.explore.proofs.Built.{Labelled, every-arc, good-built}
 use Rattle.lattice.specs.declared.State.{State}

@@ -22,14 +22,14 @@ use Rattle.explore.proofs.Accepting.{Accepting, accepts-read, accepts-written, 
 use Rattle.explore.proofs.Built.{unrefused-few}
 use Rattle.lattice.specs.declared.State.{State}
 use Rattle.lattice.specs.Apply.{string-good, same-state, steps, final-state, applied, first-state}
-use Rattle.trim.specs.Trim.{useful, trimmed, origins-kept, through}
+use Rattle.trim.specs.Trim.{trimmed, origins-kept, through}
 use Rattle.lattice.specs.Lattice.{lattice, lattice-origins, Reads-as, Reads-one-to-one}
 use Rattle.lattice.proofs.AppliedSteps.{steps-distinct}
-use Rattle.lattice.proofs.AppliedTrails.{numbers, Leads, trail-leads, Accepted, trail-accepted, accepting-followed, never-two}
-use Rattle.trim.proofs.Kept.{length-kept}
+use Rattle.lattice.proofs.AppliedTrails.{numbers, Trail-path, trail-leads, Accepted, trail-accepted, accepting-followed, never-two}
 use Rattle.lattice.proofs.LatticeGood.{state-weight, good-applied}
 use Rattle.lattice.proofs.SameState.{same-state-decides}
-use Rattle.trim.proofs.Trimmed.{kept, lone, trimmed-kept, trimmed-lone, origins-some, origins-none, Led, trimmed-led, led-injective, LedBy, led-onto}
+use Rattle.trim.proofs.Trimmed.{Led, trimmed-led, led-injective, LedBy, led-onto}
+use Rattle.trim.proofs.TrimmedKeeps.{length-origins}
 
 -- The step that is read where there is none; its origin is 0, as what is read behind a list's end is.
 abbrev no-step : Step State ℕ
@@ -83,7 +83,7 @@ module _ (cs : List ℕ) (t : Transducer) (fine : built-refusal (applied cs t .r
   applied-leads : (p : List ℕ) → accepts (applied cs t .result) p ≡ true → Reads-as cs t (applied cs t .result) p (through arc-origins p)
   applied-leads p h =
       let r : Steps-of p = steps-of p h in
-      let l : Leads cs t (first-state t) (taken p) (r .last) = trail-leads cs t (first-state t) (taken p) (r .last) (r .accepting .trail) in
+      let l : Trail-path cs t (first-state t) (taken p) (r .last) = trail-leads cs t (first-state t) (taken p) (r .last) (r .accepting .trail) in
       let a : Accepted cs t (taken p) (r .last) = trail-accepted cs t (taken p) (r .last) (r .accepting .trail) (r .accepting .final-end) in
       rw (through-numbers p)
       (record {
@@ -141,19 +141,10 @@ unfolding through
 through-filled room os [] = refl
 through-filled room os (i ∷ p) = ap₂ _∷_ (getD-filled room os i) (through-filled room os p)
 
--- An origin for each arc that is kept.
-pub length-origins-kept : (z : Transducer) → length (origins-kept z) ≡ length (trimmed z .arcs)
-unfolding kept lone
-length-origins-kept z = on (useful z (z .start)) refl
-  where
-    on : (b : Bool) → useful z (z .start) ≡ b → length (origins-kept z) ≡ length (trimmed z .arcs)
-    on true u = rw (origins-some z u, trimmed-kept z u) (length-kept z 0 (z .arcs))
-    on false u = rw (origins-none z u, trimmed-lone z u)
-
 module _ (cs : List ℕ) (t z : Transducer) (os : List ℕ) (within : Within z) (one : Reads-one-to-one cs t z os) where
   through-kept : (p : List ℕ) → accepts (trimmed z) p ≡ true → through (through os (origins-kept z)) p ≡ through os (through (origins-kept z) p)
   through-kept p h =
-      through-twice (trimmed z) os (origins-kept z) (trimmed z .start) p (omega (arith, length-origins-kept z)) (accepts-accepting (trimmed z) p h .goes)
+      through-twice (trimmed z) os (origins-kept z) (trimmed z .start) p (omega (arith, length-origins z)) (accepts-accepting (trimmed z) p h .goes)
 
   trimmed-leads : (p : List ℕ) → accepts (trimmed z) p ≡ true → Reads-as cs t (trimmed z) p (through (through os (origins-kept z)) p)
   trimmed-leads p h =

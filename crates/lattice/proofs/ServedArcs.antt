@@ -19,7 +19,7 @@ use Rattle.transducer.proofs.Ranges.{from-to, map-from-to, each-arc-range, arcs
 use Rattle.explore.specs.declared.Walk.{Walk}
 use Rattle.explore.specs.Explore.{place}
 use Rattle.explore.specs.Walk.{Keyed, keyed, Sofar, taken, all-taken, state-served, traced-by, Walked, Went}
-use Rattle.explore.proofs.Cases.{by-test, is-false}
+use Rattle.wire.proofs.Bool.{by-test, is-false}
 use Rattle.explore.proofs.Walking.{Taking, taking-state, taking-over, taking-part, taking-full, taking-stop}
 use Rattle.lattice.specs.declared.State.{State}
 use Rattle.lattice.specs.Apply.{step, arc-steps, steps}

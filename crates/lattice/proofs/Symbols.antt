@@ -1,6 +1,7 @@
 -- The test of a string, one symbol after the other. Assumes nothing.
 use mathlib.Core.Path.{_≡_, refl, sym, ap, _∙_}
-use mathlib.Core.Bool.{Bool, true, false, _&&_}
+use mathlib.Core.Bool.{Bool, true, false, _&&_, and-assoc}
+use mathlib.Core.Bool.{and-true as and-true-right}
 use mathlib.Core.List.{List, [], _∷_}
 use Prim.Native.Nat.{ℕ, _+_, _≤_, _<_}
 use native.Mathlib.Numerals.{add-one}
@@ -10,7 +11,8 @@ use lib.ListN.{length, getD, take}
 use lib.Seq.{take-suc, take-all}
 use borrow.Author.Tests.{leb-true, le-leb, lt-leb}
 use Rattle.wire.specs.Bytes.{every}
-use Rattle.wire.proofs.Places.{and-true, and-assoc, every-append}
+use Rattle.wire.proofs.Bool.{and-true}
+use Rattle.wire.proofs.Places.{every-append}
 use Rattle.transducer.specs.Format.{barred}
 use Rattle.lattice.specs.Apply.{string-good}
 
@@ -31,10 +33,6 @@ pub record Testing (cs : List ℕ) (good : Bool) (i : ℕ) : Type 0 where
 pub testing-first : (cs : List ℕ) → Testing cs true 0
 unfolding every
 testing-first cs = record { within = omega arith; good-is = refl }
-
-and-true-right : (a : Bool) → a && true ≡ a
-and-true-right true = refl
-and-true-right false = refl
 
 pub testing-next : (cs : List ℕ) (good : Bool) (i : ℕ) → i < length cs → Testing cs good i
     → Testing cs ((good && leb 1 (getD cs i 0)) && ltb (getD cs i 0) 65535) (i + 1)

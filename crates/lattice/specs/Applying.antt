@@ -65,7 +65,7 @@ pub record Closes (t : Transducer) (from : ℕ) (table table' : List ℕ) : Type
   pub stands : take (length (encode t)) (drop from table') ≡ encode t
 
 -- A good string, an accepted transducer, and buffers that are long enough.
-pub record Ready (cs bs : List ℕ) (lattice origins pairs : ℕ) : Type 0 where
+pub record Apply-asks (cs bs : List ℕ) (lattice origins pairs : ℕ) : Type 0 where
   pub good : string-good cs ≡ true
   pub accepted : refusal bs ≡ 0
   pub lattice-long : 59404 ≤ lattice

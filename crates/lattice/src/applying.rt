@@ -13,7 +13,7 @@ ghost use Rattle.explore.specs.Walk.{Sofar, taken, state-served, Walked, Went, 
 ghost use Rattle.lattice.specs.Apply.{string-good, applied};
 ghost use Rattle.lattice.specs.ApplyEntry.{Apply-says, apply-refusal};
 ghost use Rattle.lattice.specs.Pack.{unpacked};
-ghost use Rattle.lattice.specs.Applying.{next, arc-keyed, found, Applicable, State-in, key-code, key-finals, closed, Closes, Ready, Refused-with};
+ghost use Rattle.lattice.specs.Applying.{next, arc-keyed, found, Applicable, State-in, key-code, key-finals, closed, Closes, Apply-asks, Refused-with};
 use crate::packing;
 use explore::Walk;
 use transducer::Arc;
@@ -298,7 +298,7 @@ fn apply_into(
     origins: &mut [u16],
     pairs: &mut [u32],
 ) -> Written
-    requires { ⌜ Ready (now string) (now bytes) (length (now lattice)) (length (now origins)) (length (now pairs)) ⌝ }
+    requires { ⌜ Apply-asks (now string) (now bytes) (length (now lattice)) (length (now origins)) (length (now pairs)) ⌝ }
     ensures { λ r. ⌜ Apply-says (now (string .entry)) (now (bytes .entry)) (built-refusal (applied (now (string .entry)) (decode (now (bytes .entry))) .result))
         r (now (lattice .entry)) (now (lattice .exit)) (now (origins .entry)) (now (origins .exit)) (now (pairs .entry)) (now (pairs .exit)) ⌝ }
 {

@@ -8,7 +8,7 @@ use lib.ListN.{length, getD}
 use Rattle.transducer.specs.Format.{Transducer, decode, Good, max-states}
 use Rattle.transducer.proofs.RoundTrip.{accepted-good, good-range}
 use Rattle.explore.specs.Explore.{there}
-use Rattle.explore.proofs.Cases.{clash}
+use Rattle.wire.proofs.Bool.{clash}
 use Rattle.explore.proofs.Chain.{chained-zeros}
 use Rattle.explore.proofs.ExploredKeys.{Keying}
 use Rattle.explore.proofs.Walking.{Walking, walking-first, walking-small, walking-state, walking-next, walking-full, walking-stop}
