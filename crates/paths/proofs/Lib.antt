@@ -12,10 +12,11 @@ pub mod Ready
 pub mod StoredCounts
 pub mod TopSorted
 pub mod Counting
+pub mod PartCounts
+pub mod Releasing
+pub mod Rested
 pub mod CountsInPlace
 pub mod MarksInPlace
-pub mod EndlessMarks
-pub mod DeadMarks
 pub mod CountSays
 pub mod Steps
 pub mod Telling

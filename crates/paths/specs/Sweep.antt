@@ -8,7 +8,8 @@ use Rattle.transducer.specs.Format.{Transducer, decode}
 use Rattle.transducer.specs.Leaf.{Opened, Indexed}
 use Rattle.paths.specs.declared.Count.{Count}
 use Rattle.paths.specs.declared.Totals.{Totals}
-use Rattle.paths.specs.Count.{paths-from, some-arc, can-accept, goes-on, endless, most-counted}
+use Rattle.reach.specs.Reach.{some-arc}
+use Rattle.paths.specs.Count.{paths-from, goes-on, endless, most-counted}
 use Rattle.paths.specs.Tally.{tally}
 
 -- Accepted bytes: where their arcs begin, the number of states, and the first-arc index.
@@ -26,11 +27,6 @@ total (suc n) c = total n c + c n
 
 unfoldable pub marked : List Bool → (s : ℕ) → Bool
 marked ms s = getD ms s false
-
--- The states from which nothing accepts are marked, and no others.
-pub record Dead (t : Transducer) (ms : List Bool) : Type 0 where
-  pub long : length ms ≡ 1024
-  pub dead : (s : ℕ) → s < t .states → marked ms s ≡ not (can-accept (t .states) t s)
 
 -- Marks on their way: a marked state has no accepting path of so many arcs.
 pub record Stopping (t : Transducer) (g : ℕ → Bool) : Type 0 where
