@@ -193,7 +193,16 @@ fn counts_with_cycles(
     let mut stack = [0u16; 1024];
     count_open(table, first, arcs, marks, &mut left);
     let waiting = push_shut(states, marks, &left, &mut stack);
-    let counts = count_all(table, heads, next, waiting, parts, marks, &mut left, &mut stack);
+    let counts = count_all(
+        table,
+        heads,
+        next,
+        waiting,
+        parts,
+        marks,
+        &mut left,
+        &mut stack,
+    );
     let counted = marks[start];
     Totals {
         counts,
@@ -222,12 +231,31 @@ pub fn counts_of(
     let mut stack = [0u16; 1024];
     link_arcs(table, first, arcs, &mut heads, &mut next, &mut left);
     let waiting = push_shut(states, &marks, &left, &mut stack);
-    let counts = count_all(table, &heads, &next, waiting, empty, &mut marks, &mut left, &mut stack);
+    let counts = count_all(
+        table,
+        &heads,
+        &next,
+        waiting,
+        empty,
+        &mut marks,
+        &mut left,
+        &mut stack,
+    );
     if marks::all_marked(states, &marks) {
         return Totals {
             counts,
             endless: false,
         };
     }
-    counts_with_cycles(table, first, states, arcs, start, &heads, &next, counts, &mut marks)
+    counts_with_cycles(
+        table,
+        first,
+        states,
+        arcs,
+        start,
+        &heads,
+        &next,
+        counts,
+        &mut marks,
+    )
 }
