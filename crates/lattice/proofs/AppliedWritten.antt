@@ -25,18 +25,17 @@ use Rattle.explore.proofs.EncodeStored.{filled-front}
 use Rattle.explore.proofs.LeftBehind.{built-12, built-0}
 use Rattle.explore.proofs.Parts.{built-start, built-states}
 use Rattle.explore.proofs.WalkTold.{told-key-finals}
-use Rattle.lattice.specs.Apply.{string-good, same-state, steps, final-state, applied}
+use Rattle.lattice.specs.Apply.{string-good, same-state, steps, final-state, applied, first-state}
 use Rattle.lattice.specs.ApplyEntry.{Apply-says}
-use Rattle.lattice.specs.Applying.{pack, next, found, key-finals, closed, Closes, Refused-with}
+use Rattle.lattice.specs.Applying.{found, key-finals, closed, Closes, Refused-with}
 use Rattle.lattice.specs.Lattice.{lattice, lattice-origins}
 use Rattle.reach.specs.Reach.{All-accessible}
 use Rattle.trim.specs.Parts.{Trims}
 use Rattle.trim.specs.Trim.{trimmed, origins-kept}
-use Rattle.lattice.proofs.AppliedTrails.{first}
 use Rattle.lattice.proofs.ApplySays.{says-zeroed, says-written}
 use Rattle.lattice.proofs.BuiltAccessible.{built-accessible}
 use Rattle.lattice.proofs.Closing.{told-finals}
-use Rattle.lattice.proofs.FoundBuilt.{found-explored, found-length, found-arcs, found-origins}
+use Rattle.lattice.proofs.FoundBuilt.{found-length, found-arcs, found-origins}
 use Rattle.lattice.proofs.KeyFinals.{key-final, key-weight, pack-final, pack-weight}
 use Rattle.lattice.proofs.KeyParts.{keying}
 use Rattle.lattice.proofs.LatticeGood.{state-weight, applied-light, good-applied}
@@ -65,11 +64,11 @@ module _ (cs bs : List ℕ) (bytes : Bytes bs) (ok : refusal bs ≡ 0) (string :
 
   z-states : z .states ≡ length (applied cs t .states)
   unfolding applied
-  z-states = built-states same-state (steps cs t) (final-state cs t) (state-weight t) (first t)
+  z-states = built-states same-state (steps cs t) (final-state cs t) (state-weight t) (first-state t)
 
   z-start : z .start ≡ 0
   unfolding applied
-  z-start = built-start same-state (steps cs t) (final-state cs t) (state-weight t) (first t)
+  z-start = built-start same-state (steps cs t) (final-state cs t) (state-weight t) (first-state t)
 
   pub says-11 : {r : Written} {a a' b b' c c₀ c' : List ℕ} → 1024 < length (found cs t .keys) → length c ≡ length c₀
       → Refused-with 11 r a a' b b' c c' → Says r a a' b b' c₀ c'
@@ -106,7 +105,7 @@ module _ (cs bs : List ℕ) (bytes : Bytes bs) (ok : refusal bs ≡ 0) (string :
       z-accessible : All-accessible z
       unfolding applied
       z-accessible =
-          built-accessible same-state (steps cs t) (final-state cs t) (state-weight t) (first t) same-state-decides few (good-within z z-good)
+          built-accessible same-state (steps cs t) (final-state cs t) (state-weight t) (first-state t) same-state-decides few (good-within z z-good)
 
       -- The lattice before trimming, as bytes
 
@@ -114,9 +113,8 @@ module _ (cs bs : List ℕ) (bytes : Bytes bs) (ok : refusal bs ≡ 0) (string :
         finals-are : key-finals codes (length cs) (found cs t .keys) ≡ z .finals
         unfolding key-finals applied
         finals-are =
-            let told' : Told 1 (explored (next cs t) (pack (first t))) w table arcs states = rw (found-explored cs t) at told in
             sym (told-finals codes (length cs) told)
-            ∙ told-key-finals (keying cs t good) (final-state cs t) (state-weight t) told' (key-final codes (length cs)) (key-weight codes (length cs))
+            ∙ told-key-finals (keying cs t good) (final-state cs t) (state-weight t) told (key-final codes (length cs)) (key-weight codes (length cs))
             (pack-final cs t good codes by-state) (pack-weight cs t good codes by-state)
 
         closed-is : closed codes (length cs) (found cs t) ≡ z

@@ -19,7 +19,7 @@ use Rattle.explore.specs.Explore.{built-refusal}
 use Rattle.explore.proofs.LeftBehind.{behind-early, behind-zeroed, behind-written}
 use Rattle.lattice.specs.Apply.{string-good, applied}
 use Rattle.lattice.specs.ApplyEntry.{apply-room, apply-refusal, Apply-says}
-use Rattle.lattice.specs.Applying.{Ready, Refused-with}
+use Rattle.lattice.specs.Applying.{Apply-asks, Refused-with}
 use Rattle.lattice.specs.Lattice.{lattice, lattice-origins}
 
 -- Apply-says, by how the buffers are left
@@ -111,7 +111,7 @@ module _ (cs bs a b c : List ℕ) where
       says-pairs p q h = short (rw (le-ltb (length a) 59404 p, le-ltb (length b) 3072 q, lt-ltb (length c) 1024 h))
 
       module _ (p : 59404 ≤ length a) (q : 3072 ≤ length b) (s : 1024 ≤ length c) where
-        pub ready : Ready cs bs (length a) (length b) (length c)
+        pub ready : Apply-asks cs bs (length a) (length b) (length c)
         ready = record { good = sym string; accepted = accepted; lattice-long = p; origins-long = q; pairs-long = s }
 
         into : number ≡ built-refusal (applied cs (decode bs) .result)

@@ -10,6 +10,7 @@ pub mod KeyFinals
 pub mod KeyParts
 pub mod LatticeGood
 pub mod LatticeLaw
+pub mod Pack
 pub mod SameState
 pub mod ServedArcs
 pub mod Symbols

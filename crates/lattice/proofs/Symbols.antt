@@ -1,6 +1,7 @@
 -- The test of a string, one symbol after the other. Assumes nothing.
 use mathlib.Core.Path.{_≡_, refl, sym, ap, _∙_}
-use mathlib.Core.Bool.{Bool, true, false, _&&_}
+use mathlib.Core.Bool.{Bool, true, false, _&&_, and-assoc}
+use mathlib.Core.Bool.{and-true as and-true-right}
 use mathlib.Core.List.{List, [], _∷_}
 use Prim.Native.Nat.{ℕ, _+_, _≤_, _<_}
 use native.Mathlib.Numerals.{add-one}
@@ -8,14 +9,21 @@ use native.Mathlib.Omega.{arith}
 use lib.Dec.{ltb, leb}
 use lib.ListN.{length, getD, take}
 use lib.Seq.{take-suc, take-all}
-use borrow.Author.Tests.{le-leb, lt-leb}
+use borrow.Author.Tests.{leb-true, le-leb, lt-leb}
 use Rattle.wire.specs.Bytes.{every}
-use Rattle.wire.proofs.Places.{and-assoc, every-append}
+use Rattle.wire.proofs.Bool.{and-true}
+use Rattle.wire.proofs.Places.{every-append}
 use Rattle.transducer.specs.Format.{barred}
 use Rattle.lattice.specs.Apply.{string-good}
 
 abbrev symbol-good : ℕ → Bool
 symbol-good c = leb 1 c && ltb c barred
+
+pub string-short : (cs : List ℕ) → string-good cs ≡ true → length cs ≤ 64
+unfolding string-good
+string-short cs good = leb-true (length cs) 64 (and-true (leb (length cs) 64) (every symbol-good cs) good .0)
+
+-- The loop
 
 -- The first i symbols are good.
 pub record Testing (cs : List ℕ) (good : Bool) (i : ℕ) : Type 0 where
@@ -25,10 +33,6 @@ pub record Testing (cs : List ℕ) (good : Bool) (i : ℕ) : Type 0 where
 pub testing-first : (cs : List ℕ) → Testing cs true 0
 unfolding every
 testing-first cs = record { within = omega arith; good-is = refl }
-
-and-true-right : (a : Bool) → a && true ≡ a
-and-true-right true = refl
-and-true-right false = refl
 
 pub testing-next : (cs : List ℕ) (good : Bool) (i : ℕ) → i < length cs → Testing cs good i
     → Testing cs ((good && leb 1 (getD cs i 0)) && ltb (getD cs i 0) 65535) (i + 1)

@@ -12,7 +12,9 @@ ghost use Rattle.explore.specs.Explore.{built-refusal};
 ghost use Rattle.explore.specs.Walk.{Sofar, taken, state-served, Walked, Went, Walk-says, Told};
 ghost use Rattle.lattice.specs.Apply.{string-good, applied};
 ghost use Rattle.lattice.specs.ApplyEntry.{Apply-says, apply-refusal};
-ghost use Rattle.lattice.specs.Applying.{next, arc-keyed, found, Applicable, Key-in, key-code, key-finals, closed, Closes, Ready, Refused-with};
+ghost use Rattle.lattice.specs.Pack.{unpacked};
+ghost use Rattle.lattice.specs.Applying.{next, arc-keyed, found, Applicable, State-in, key-code, key-finals, closed, Closes, Apply-asks, Refused-with};
+use crate::packing;
 use explore::Walk;
 use transducer::Arc;
 use transducer::Final;
@@ -106,15 +108,16 @@ fn serve(
     heads: &mut [u16; 1024],
     links: &mut [u16; 1024],
 ) -> Walk
-    requires { ⌜ Applicable (now string) (now bytes) first (now index) × (source < w .states) × Key-in (now string) (decode (now bytes)) (getD (now states) source 0) ⌝ }
+    requires { ⌜ Applicable (now string) (now bytes) first (now index) × (source < w .states) × State-in (now string) (decode (now bytes)) (unpacked (getD (now states) source 0)) ⌝ }
     requires { ⌜ ((b : Sofar) × Walked 1 b w (now table) (now origins) (now states) (now heads) (now links)) ⌝ }
     ensures { λ z. ⌜ ((b : Sofar) → Walked 1 b w (now (table .entry)) (now (origins .entry)) (now (states .entry)) (now (heads .entry)) (now (links .entry)) →
         Went 1 (state-served (next (now (string .entry)) (decode (now (bytes .entry)))) source b) z
         (now (table .exit)) (now (origins .exit)) (now (states .exit)) (now (heads .exit)) (now (links .exit))) ⌝ }
 {
     let key = states[source];
-    let q = (key % 1024) as usize;
-    let position = key / 1024;
+    let x = packing::unpack(key);
+    let q = x.state as usize;
+    let position = x.position;
     let symbol = symbol_at(string, position as usize);
     let end = index[q + 1] as usize;
     let mut i = index[q] as usize;
@@ -138,7 +141,7 @@ fn serve(
             target: a.target,
             weight: a.weight,
         };
-        let to = (position + moved) * 1024 + (a.target as u32);
+        let to = packing::pack(position + moved, a.target as u32);
         walk = take_step(step, at, to, walk, table, origins, states, heads, links);
         if walk.full {
             return walk;
@@ -165,7 +168,8 @@ fn walk_all(
 {
     let mut heads = [0u16; 1024];
     let mut links = [0u16; 1024];
-    explore::insert(states, &mut heads, &mut links, 0, start);
+    let first_key = packing::pack(0, start);
+    explore::insert(states, &mut heads, &mut links, 0, first_key);
     let mut walk = Walk {
         states: 1,
         arcs: 0,
@@ -199,8 +203,9 @@ fn walk_all(
 fn code_of(codes: &[u32; 1024], last: u32, key: u32) -> u32
     ensures { λ r. ⌜ r ≡ key-code (now (codes .entry)) last key ⌝ }
 {
-    if key / 1024 == last {
-        let q = (key % 1024) as usize;
+    let x = packing::unpack(key);
+    if x.position == last {
+        let q = x.state as usize;
         return codes[q];
     }
     0
@@ -293,7 +298,7 @@ fn apply_into(
     origins: &mut [u16],
     pairs: &mut [u32],
 ) -> Written
-    requires { ⌜ Ready (now string) (now bytes) (length (now lattice)) (length (now origins)) (length (now pairs)) ⌝ }
+    requires { ⌜ Apply-asks (now string) (now bytes) (length (now lattice)) (length (now origins)) (length (now pairs)) ⌝ }
     ensures { λ r. ⌜ Apply-says (now (string .entry)) (now (bytes .entry)) (built-refusal (applied (now (string .entry)) (decode (now (bytes .entry))) .result))
         r (now (lattice .entry)) (now (lattice .exit)) (now (origins .entry)) (now (origins .exit)) (now (pairs .entry)) (now (pairs .exit)) ⌝ }
 {

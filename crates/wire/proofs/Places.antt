@@ -1,6 +1,7 @@
 -- Laws of `places`, `every`, `sets` and `filled`. Assumes nothing.
 use mathlib.Core.Path.{_≡_, refl, sym, ap, _∙_}
-use mathlib.Core.Bool.{Bool, true, false, _&&_}
+use mathlib.Core.Bool.{Bool, true, false, _&&_, _||_, not}
+pub use mathlib.Core.Bool.{and-assoc}
 use mathlib.Core.List.{List, [], _∷_, _++_, map, append-assoc, append-nil}
 use Prim.Native.Nat.{ℕ, zero, suc, _+_, _*_, _-_, _≤_, _<_}
 use native.Mathlib.Nat.{not-suc-le-zero, le-of-suc-le-suc, zero-add, add-zero, mul-suc, mul-zero, add-assoc, add-comm, add-suc, suc-add}
@@ -9,6 +10,7 @@ use native.Mathlib.Omega.{arith}
 use lib.ListN.{length, getD, set, take, drop, replicate, length-append, length-replicate, length-drop}
 use lib.Seq.{sets, take-at, take-append-seam, length-sets}
 use Rattle.wire.specs.Bytes.{places, every, filled, cleared}
+pub use Rattle.wire.proofs.Bool.{and-true, true-and}
 
 -- places
 
@@ -57,21 +59,20 @@ places-same (suc k) at s f g h =
 
 -- every
 
-pub and-true : (a b : Bool) → a && b ≡ true → (a ≡ true) × (b ≡ true)
-and-true true b h = (refl, h)
-and-true false b h = let z : _≡_ {A = ℕ} 0 1 = cc in absurd (omega arith)
-
-pub true-and : (a b : Bool) → a ≡ true → b ≡ true → a && b ≡ true
-true-and a b p q = rw (p, q)
-
-pub and-assoc : (a b c : Bool) → (a && b) && c ≡ a && (b && c)
-and-assoc true b c = refl
-and-assoc false b c = refl
-
 pub every-append : {A : Type 0} (t : A → Bool) (xs ys : List A) → every t (xs ++ ys) ≡ every t xs && every t ys
 unfolding every
 every-append t [] ys = refl
 every-append t (x ∷ xs) ys = rw (every-append t xs ys, and-assoc)
+
+not-and : (a b : Bool) → not a || not b ≡ not (a && (b && true))
+not-and true true = refl
+not-and true false = refl
+not-and false b = refl
+
+-- A test fails somewhere in a list with one more element where it fails in the list or of that element.
+pub not-every-snoc : {A : Type 0} (t : A → Bool) (xs : List A) (x : A) → not (every t xs) || not (t x) ≡ not (every t (xs ++ (x ∷ [])))
+unfolding every
+not-every-snoc t xs x = not-and (every t xs) (t x) ∙ ap not (sym (every-append t xs (x ∷ [])))
 
 -- A test that holds of each element holds at each place.
 pub every-getD : {A : Type 0} (t : A → Bool) (xs : List A) (i : ℕ) (d : A) → every t xs ≡ true → i < length xs → t (getD xs i d) ≡ true

@@ -7,8 +7,8 @@ use lib.ListN.{length, replicate, length-replicate}
 use Rattle.wire.specs.Bytes.{Bytes}
 use Rattle.transducer.proofs.Accept.{bounds}
 use Rattle.lattice.proofs.AppliedWritten.{says-11, says-12, ends-inside, bytes-accepted, bytes-accessible, len-small, out-long, traceable, says-lattice}
-use Rattle.lattice.proofs.KeyParts.{string-short}
-use Rattle.trim.proofs.TrimSays.{Opening, opening}
+use Rattle.lattice.proofs.Symbols.{string-short}
+use Rattle.trim.proofs.TrimSays.{Head-numbers, head-numbers}
 use Rattle.lattice.proofs.applying.apply_into.Statement.{statement}
 use Rattle.lattice.proofs.applying.apply_into.Tie as tie
 
@@ -44,10 +44,10 @@ table-long = omega (arith, length-replicate {A = ℕ} 59404 0)
 is-bytes : (c : tie.After-shared-slice-known2) → Bytes (entry c .args .bytes .now)
 is-bytes c = λ i. omega (arith, c .shared-slice-known2 .given i)
 
-head-is : (c : tie.After-header) → Opening (entry (lent c) .args .bytes .now) (c .header .result)
+head-is : (c : tie.After-header) → Head-numbers (entry (lent c) .args .bytes .now) (c .header .result)
 head-is c =
     let k = lent c in
-    opening (entry k .args .bytes .now) (is-bytes k) (entry k .pre .accepted) (c .header .result) (c .header .ensures)
+    head-numbers (entry k .args .bytes .now) (is-bytes k) (entry k .pre .accepted) (c .header .result) (c .header .ensures)
 
 header-requires : tie.Need-header-requires
 header-requires c κs = let k = c .before .before .before in omega (arith, bounds (is-bytes k) (entry k .pre .accepted) .long)

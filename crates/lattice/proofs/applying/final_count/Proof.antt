@@ -1,13 +1,13 @@
--- A loop that counts. The invariant, `Counting`: of the first `s` keys the final ones are counted.
+-- A loop that counts. The invariant, `Finals-counted`: of the first `s` keys the final ones are counted.
 use borrow.Author.Needs.{needs}
 use Prim.Native.Nat.{_-_}
 use native.Mathlib.Omega.{arith}
-use Rattle.lattice.proofs.KeyFinals.{Counting, counting-first, counting-none, counting-more, counting-stop}
+use Rattle.lattice.proofs.KeyFinals.{Finals-counted, counting-first, counting-none, counting-more, counting-stop}
 use Rattle.lattice.proofs.applying.final_count.Statement.{statement}
 use Rattle.lattice.proofs.applying.final_count.Tie as tie
 
 abbrev Inv-loop : tie.InvT-loop
-Inv-loop codes last states count finals₀ s₀ finals s = Counting codes last states count finals s
+Inv-loop codes last states count finals₀ s₀ finals s = Finals-counted codes last states count finals s
 
 abbrev μ-loop : tie.MeasureT-loop
 μ-loop codes last states count finals₀ s₀ finals s = count - s
