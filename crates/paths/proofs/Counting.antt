@@ -12,7 +12,7 @@ use lib.Dec.{ltb, eqb}
 use lib.ListN.{length, getD, set, replicate, length-set, length-replicate, getD-replicate}
 use lib.Seq.{getD-set-same, getD-set-other}
 use borrow.Author.Tests.{eqb-true, eq-eqb, ne-eqb, lt-ltb, le-ltb, not-true}
-use Rattle.wire.proofs.Places.{and-true, true-and}
+use Rattle.wire.proofs.Bool.{clash, is-false, and-true, true-and}
 use Rattle.transducer.specs.Format.{Transducer}
 use Rattle.transducer.specs.Path.{arc}
 use Rattle.reach.specs.Counted.{count}
@@ -22,7 +22,7 @@ use Rattle.reach.proofs.Reach.{SomeAt, some-arc-at, at-some-arc}
 use Rattle.paths.specs.Sweep.{marked, leads-on}
 use Rattle.paths.specs.Counting.{open-at, by-marks, Opened-arcs, is-open, Not-on, Stacked, Counting}
 use Rattle.paths.proofs.Ready.{Sized}
-use Rattle.paths.proofs.MarksInPlace.{clash, not-so, shut-marked, marked-set-same, marked-set-other}
+use Rattle.paths.proofs.MarksInPlace.{shut-marked, marked-set-same, marked-set-other}
 
 -- Counts of numbers with a property
 
@@ -47,7 +47,7 @@ count-less (suc n) i f g b p q h = on (λ l. count-less n i f g l p q (λ k m. h
         rw (h n (omega arith) m) (omega arith)
 
 count-zero : (n : ℕ) (f : ℕ → Bool) → count n f ≡ 0 → (k : ℕ) → k < n → f k ≡ false
-count-zero n f e k h = not-so (f k) (λ q. omega (arith, count-before f k n h q))
+count-zero n f e k h = is-false (f k) (λ q. omega (arith, count-before f k n h q))
 
 -- Open arcs, while they are counted
 
@@ -188,12 +188,12 @@ counting-first t z ms left stack top long closed o k = record { marks-long = lon
   where
     led : (u : ℕ) → u < t .states → marked ms u ≡ true → (i : ℕ) → i < length (t .arcs) → eqb (arc t i .source) u && not (marked ms (arc t i .target)) ≡ false
     led u b m i l =
-        not-so (eqb (arc t i .source) u && not (marked ms (arc t i .target)))
+        is-false (eqb (arc t i .source) u && not (marked ms (arc t i .target)))
         (λ q. on (and-true (eqb (arc t i .source) u) (not (marked ms (arc t i .target))) q))
       where
         on : (eqb (arc t i .source) u ≡ true) × (not (marked ms (arc t i .target)) ≡ true) → ⊥
         on (leaves, free) =
-            clash (marked ms (arc t i .target)) (shut-marked t ms u (closed u b m) i l (eqb-true (arc t i .source) u leaves))
+            clash (shut-marked t ms u (closed u b m) i l (eqb-true (arc t i .source) u leaves))
             (not-true (marked ms (arc t i .target)) free)
 
     shut : (u : ℕ) → u < t .states → marked ms u ≡ true → getD left u 0 ≡ 0
@@ -216,13 +216,12 @@ counting-rest t z ms left stack w s b m = on (ℕ-discrete (getD left s 0) 0)
 pub none-open : (t : Transducer) → Sized t → (ms : List Bool) (left : List ℕ) (s : ℕ) → Opened-arcs t (by-marks t ms) (length (t .arcs)) left
     → s < t .states → getD left s 0 ≡ 0 → leads-on t ms s ≡ false
 unfolding leads-on open-at by-marks arc
-none-open t z ms left s o b e = not-so (some-arc (t .arcs) s (λ v. not (marked ms v))) (λ q. none (some-arc-at (t .arcs) s (λ v. not (marked ms v)) q))
+none-open t z ms left s o b e = is-false (some-arc (t .arcs) s (λ v. not (marked ms v))) (λ q. none (some-arc-at (t .arcs) s (λ v. not (marked ms v)) q))
   where
     none : SomeAt (t .arcs) s (λ v. not (marked ms v)) → ⊥
     none a =
         let zero' : count (length (t .arcs)) (open-at t (by-marks t ms) s) ≡ 0 = sym (o .lefts s (omega (arith, b, z .states))) ∙ e in
-        clash (open-at t (by-marks t ms) s (a .place))
-        (true-and (eqb (arc t (a .place) .source) s) (not (marked ms (arc t (a .place) .target))) (eq-eqb (arc t (a .place) .source) s (a .leaves))
+        clash (true-and (eqb (arc t (a .place) .source) s) (not (marked ms (arc t (a .place) .target))) (eq-eqb (arc t (a .place) .source) s (a .leaves))
         (a .for))
         (count-zero (length (t .arcs)) (open-at t (by-marks t ms) s) zero' (a .place) (a .below))
 
@@ -259,7 +258,7 @@ module _ (t : Transducer) (z : Sized t) (ms : List Bool) (left stack : List ℕ)
       shut u b m (no n) = w .shut u b (sym (marked-set-other ms s true u n) ∙ m)
 
       all : (u : ℕ) → u < t .states → marked (set ms s true) u ≡ false → getD left u 0 ≡ 0 → Dec (u ≡ s) → Not-on stack top u → ⊥
-      all u b m e (yes y) off = clash (marked (set ms s true) s) (marked-set-same ms s true (omega (arith, top-state .0, w .marks-long, z .states))) (rw y at m)
+      all u b m e (yes y) off = clash (marked-set-same ms s true (omega (arith, top-state .0, w .marks-long, z .states))) (rw y at m)
       all u b m e (no n) off = w .stacked .all u b (sym (marked-set-other ms s true u n) ∙ m) e (λ j h q. last j h q (ℕ-discrete j top))
         where
           last : (j : ℕ) → j < top + 1 → getD stack j 0 ≡ u → Dec (j ≡ top) → ⊥
@@ -311,13 +310,13 @@ module _ (t : Transducer) (z : Sized t) (d e : ℕ → Bool) (ms : List Bool) (l
 
   -- A state with an open arc is not marked, and not on the stack.
   pub off-unmarked : marked ms u ≡ false
-  off-unmarked = not-so (marked ms u) (λ q. omega (arith, w .shut u is-state q, off-some))
+  off-unmarked = is-false (marked ms u) (λ q. omega (arith, w .shut u is-state q, off-some))
 
   not-held : (a : ℕ) → a < top → getD stack a 0 ≡ u → ⊥
   not-held a l q = omega (arith, off-some, ap (λ (v : ℕ). getD left v 0) q, w .stacked .held a l .2)
 
   off-shut : (v : ℕ) → v < t .states → marked ms v ≡ true → getD (set left u (getD left u 0 - 1)) v 0 ≡ 0
-  off-shut v b m = off-other v (λ q. clash (marked ms v) m (ap (marked ms) q ∙ off-unmarked)) ∙ w .shut v b m
+  off-shut v b m = off-other v (λ q. clash m (ap (marked ms) q ∙ off-unmarked)) ∙ w .shut v b m
 
   off-held : (a : ℕ) → a < top
       → (getD stack a 0 < t .states) × (marked ms (getD stack a 0) ≡ false) × (getD (set left u (getD left u 0 - 1)) (getD stack a 0) 0 ≡ 0)

@@ -7,26 +7,27 @@ use Prim.Native.Nat.{ℕ, zero, suc, _+_, _≤_, _<_, min}
 use native.Mathlib.Omega.{arith}
 use native.Mathlib.Decide.{ℕ-discrete}
 use lib.ListN.{length, set, length-set}
+use Rattle.wire.proofs.Bool.{clash}
 use Rattle.transducer.specs.Format.{Transducer}
 use Rattle.transducer.specs.Path.{arc}
 use Rattle.reach.specs.Reach.{coaccessible}
 use Rattle.paths.specs.declared.Count.{Count}
 use Rattle.paths.specs.Count.{paths-from, goes-on, most-counted}
 use Rattle.paths.specs.Tally.{add-all, tally}
-use Rattle.paths.specs.Sweep.{at-state, marked, leads-on, Tallied, Settled, Totals-say}
+use Rattle.paths.specs.Sweep.{at-state, marked, leads-on, Tallied, Path-counts, Totals-say}
 use Rattle.paths.specs.Counting.{Rested}
 use Rattle.paths.proofs.GoesOn.{dead-none}
 use Rattle.paths.proofs.Tally.{add-all-same}
 use Rattle.paths.proofs.Sweep.{finite-tally, dead-tally}
 use Rattle.paths.proofs.Ready.{Sized}
 use Rattle.paths.proofs.StoredCounts.{at-set-other}
-use Rattle.paths.proofs.MarksInPlace.{clash, marked-set-other}
+use Rattle.paths.proofs.MarksInPlace.{marked-set-other}
 use Rattle.paths.proofs.Stops.{unmarked-goes-on, unmarked-endless}
 
 -- On the way
 
 pub tallied-none : (t : Transducer) (ms : List Bool) (cs : List Count) → length cs ≡ 1024 → ((s : ℕ) → marked ms s ≡ false) → Tallied t ms cs
-tallied-none t ms cs long h = record { long = long; rounds = 0; tallied = λ s b m. clash (marked ms s) m (h s) }
+tallied-none t ms cs long h = record { long = long; rounds = 0; tallied = λ s b m. clash m (h s) }
 
 -- A state whose arcs all lead to marked ones, and whose count is complete.
 pub tallied-more : (t : Transducer) → Sized t → (ms : List Bool) (cs : List Count) (s : ℕ) → Tallied t ms cs
@@ -52,7 +53,7 @@ tallied-kept t ms cs u x w free =
     record {
       long = length-set cs u x ∙ w .long;
       rounds = w .rounds;
-      tallied = λ s b m k h. at-set-other cs u x s (λ q. clash (marked ms s) m (ap (marked ms) q ∙ free)) ∙ w .tallied s b m k h;
+      tallied = λ s b m k h. at-set-other cs u x s (λ q. clash m (ap (marked ms) q ∙ free)) ∙ w .tallied s b m k h;
     }
 
 -- Dead states of count 0.
@@ -84,4 +85,4 @@ totals-say t z ms start cs r alive e =
     on s b f true q =
         let k : ℕ = r .tallied .rounds + t .states in
         r .tallied .tallied s b q k (omega arith) ∙ finite-tally t (z .within) s (record { below = b; stops = f }) k (omega arith)
-    on s b f false q = clash (goes-on (t .states) t s) (unmarked-goes-on t (z .within) (marked ms) (r .rest) alive (t .states) s b q) f
+    on s b f false q = clash (unmarked-goes-on t (z .within) (marked ms) (r .rest) alive (t .states) s b q) f

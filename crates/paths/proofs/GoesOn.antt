@@ -7,17 +7,17 @@ use Prim.Native.Nat.{ℕ, zero, suc, _≤_, _<_}
 use native.Mathlib.Nat.{not-suc-le-zero, le-of-suc-le-suc}
 use native.Mathlib.Omega.{arith}
 use lib.ListN.{length}
+use Rattle.wire.proofs.Bool.{clash}
 use Rattle.transducer.specs.Format.{Transducer}
 use Rattle.transducer.specs.Path.{arc}
 use Rattle.transducer.proofs.Runs.{Accepting, AcceptingBy, accepting-cons, cons-accepting, Within}
 use Rattle.reach.specs.Reach.{coaccessible}
 use Rattle.reach.proofs.Reach.{some-arc-at, at-some-arc, coaccessible-path, path-coaccessible}
 use Rattle.paths.specs.Count.{goes-on}
-use Rattle.paths.proofs.MarksInPlace.{clash}
 
 -- Nothing accepts from a dead state.
 pub dead-none : (t : Transducer) → Within t → (s : ℕ) → coaccessible (t .states) t s ≡ false → (p : List ℕ) → Accepting t s p → ⊥
-dead-none t w s h p a = clash (coaccessible (t .states) t s) (path-coaccessible t w s p a) h
+dead-none t w s h p a = clash (path-coaccessible t w s p a) h
 
 -- goes-on
 

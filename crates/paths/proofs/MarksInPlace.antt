@@ -7,18 +7,12 @@ use native.Mathlib.Omega.{arith}
 use native.Mathlib.Decide.{ℕ-discrete}
 use lib.ListN.{length, set}
 use lib.Seq.{getD-set-same, getD-set-other}
+use Rattle.wire.proofs.Bool.{clash}
 use Rattle.transducer.specs.Format.{Transducer}
 use Rattle.transducer.specs.Path.{arc}
 use Rattle.reach.specs.Reach.{some-arc}
 use Rattle.reach.proofs.Reach.{at-some-arc}
 use Rattle.paths.specs.Sweep.{marked, leads-on}
-
-pub clash : {A : Type 0} (b : Bool) → b ≡ true → b ≡ false → A
-clash b p q = let z : _≡_ {A = ℕ} 0 1 = cc in absurd (omega arith)
-
-pub not-so : (b : Bool) → (b ≡ true → ⊥) → b ≡ false
-not-so true h = absurd (h refl)
-not-so false h = refl
 
 -- Each arc of a state without an arc to an unmarked one leads to a marked one.
 pub shut-marked : (t : Transducer) (ms : List Bool) (s : ℕ) → leads-on t ms s ≡ false → (i : ℕ) → i < length (t .arcs) → arc t i .source ≡ s
@@ -29,7 +23,7 @@ shut-marked t ms s h i b e = on (marked ms (arc t i .target)) refl
     on : (c : Bool) → marked ms (arc t i .target) ≡ c → marked ms (arc t i .target) ≡ true
     on true q = q
     on false q =
-        clash (some-arc (t .arcs) s (λ v. not (marked ms v))) (at-some-arc (t .arcs) s (λ v. not (marked ms v)) i b e (ap not q)) h
+        clash (at-some-arc (t .arcs) s (λ v. not (marked ms v)) i b e (ap not q)) h
 
 -- One changed
 

@@ -9,6 +9,7 @@ use native.Mathlib.Decide.{ℕ-discrete}
 use lib.Dec.{leb, eqb}
 use lib.ListN.{length, getD, set}
 use borrow.Author.Tests.{eqb-true, eqb-false, eq-eqb, leb-true, leb-false, le-leb, lt-leb}
+use Rattle.wire.proofs.Bool.{clash, is-false}
 use Rattle.transducer.specs.Format.{Transducer}
 use Rattle.transducer.specs.Path.{arc}
 use Rattle.reach.specs.Stack.{last, Chained}
@@ -16,14 +17,14 @@ use Rattle.reach.proofs.Chains.{last-most, none-behind, none-between, On-chain,
 use Rattle.paths.specs.declared.Count.{Count}
 use Rattle.paths.specs.Tally.{add}
 use Rattle.paths.specs.Sweep.{marked, at-state, Stopping, Tallied}
-use Rattle.paths.specs.Counting.{by-marks, Counting, Closed-arc, Part-counts, Underway}
+use Rattle.paths.specs.Counting.{by-marks, Counting, Closed-arc, Partial-sums, Underway}
 use Rattle.paths.proofs.Ready.{Sized}
-use Rattle.paths.proofs.MarksInPlace.{clash, not-so, shut-marked, marked-set-same, marked-set-other}
+use Rattle.paths.proofs.MarksInPlace.{shut-marked, marked-set-same, marked-set-other}
 use Rattle.paths.proofs.StoredCounts.{at-set-other}
 use Rattle.paths.proofs.Stops.{stopping-next}
 use Rattle.paths.proofs.CountsInPlace.{tallied-more, tallied-kept}
 use Rattle.paths.proofs.Counting.{counting-same, counting-pop, top-state, top-shut, off-some, off-kept, off-room, off-pushed, off-unmarked}
-use Rattle.paths.proofs.PartCounts.{parts-same, parts-whole, parts-next}
+use Rattle.paths.proofs.PartialSums.{parts-same, parts-whole, parts-next}
 
 -- The arcs that lead to marked states are done, and of those to the state itself the ones from number `link` on.
 unfoldable pub done-from : Transducer → List Bool → (s link : ℕ) → (k : ℕ) → Bool
@@ -38,7 +39,7 @@ from-first t ms s free k b = on (eqb (arc t k .target) s) refl
         → marked ms (arc t k .target) ≡ cond c (leb (last t true s (length (t .arcs))) k) (marked (set ms s true) (arc t k .target))
     on true q =
         let e : arc t k .target ≡ s = eqb-true (arc t k .target) s q in
-        ap (marked ms) e ∙ (free ∙ sym (not-so (leb (last t true s (length (t .arcs))) k)
+        ap (marked ms) e ∙ (free ∙ sym (is-false (leb (last t true s (length (t .arcs))) k)
         (λ h. none-behind t true s (length (t .arcs)) k (leb-true (last t true s (length (t .arcs))) k h) b e)))
     on false q = sym (marked-set-other ms s true (arc t k .target) (eqb-false (arc t k .target) s q))
 
@@ -88,7 +89,7 @@ pub record Releasing (t : Transducer) (ms : List Bool) (s whole : ℕ) (left sta
   pub counting : Counting t (done-from t ms s link) ms left stack top
   pub stopping : Stopping t (marked ms)
   pub tallied : Tallied t ms cs
-  pub parts : Part-counts t (done-from t ms s link) cs
+  pub parts : Partial-sums t (done-from t ms s link) cs
   pub here : marked ms s ≡ true
   pub whole-is : whole ≡ at-state cs s
 
@@ -176,10 +177,10 @@ module _ (t : Transducer) (z : Sized t) (ms : List Bool) (s whole : ℕ) (left s
           parts =
               parts-next t d e cs (here-arc .number) (c / 4096) x (w .parts) (here-arc .below) (here-arc .to) (omega (arith, releasing-source, z .states)) new done
               others
-              (λ k l q m. clash (marked ms (arc t k .target)) (from-marked t ms s (last t true s (here-arc .number)) k (w .here) q) (ap (marked ms) m ∙ unmarked))
+              (λ k l q m. clash (from-marked t ms s (last t true s (here-arc .number)) k (w .here) q) (ap (marked ms) m ∙ unmarked))
               (is ∙ ap (add (at-state cs (c / 4096))) (w .whole-is ∙ ap (at-state cs) (sym (here-arc .from))));
           here = w .here;
-          whole-is = w .whole-is ∙ sym (at-set-other cs (c / 4096) x s (λ q. clash (marked ms s) (w .here) (ap (marked ms) q ∙ unmarked)));
+          whole-is = w .whole-is ∙ sym (at-set-other cs (c / 4096) x s (λ q. clash (w .here) (ap (marked ms) q ∙ unmarked)));
         }
 
   pub releasing-stop : c ≡ 0 → Underway t ms left stack top cs

@@ -10,26 +10,27 @@ use native.Mathlib.Omega.{arith}
 use native.Mathlib.Decide.{ℕ-discrete}
 use lib.ListN.{length, getD, set, replicate, length-set, length-replicate}
 use borrow.Author.Tests.{not-true}
+use Rattle.wire.proofs.Bool.{clash, is-false}
 use Rattle.transducer.specs.Format.{Transducer}
 use Rattle.transducer.specs.Path.{arc}
 use Rattle.transducer.proofs.Runs.{cons-accepting, nil-accepting}
 use Rattle.reach.specs.Reach.{some-arc, coaccessible}
 use Rattle.reach.specs.Marks.{Marked}
 use Rattle.reach.proofs.Reach.{SomeAt, some-arc-at, coaccessible-path}
-use Rattle.reach.proofs.Settled.{getD-none}
+use Rattle.reach.proofs.Closure.{getD-none}
 use Rattle.paths.specs.declared.Count.{Count}
 use Rattle.paths.specs.Tally.{own, tally}
 use Rattle.paths.specs.Sweep.{marked, leads-on, at-state, Totals-say}
 use Rattle.paths.specs.TopSorted.{Empty-paths}
 use Rattle.paths.specs.Counting.{by-marks, Opened-arcs, Stacked, sum-done, Underway, Rested, Grown, With-dead}
 use Rattle.paths.proofs.Ready.{Sized}
-use Rattle.paths.proofs.MarksInPlace.{clash, not-so, shut-marked, marked-set-same, marked-set-other}
+use Rattle.paths.proofs.MarksInPlace.{shut-marked, marked-set-same, marked-set-other}
 use Rattle.paths.proofs.GoesOn.{dead-none}
 use Rattle.paths.proofs.Stops.{stopping-none, stopping-dead}
 use Rattle.paths.proofs.Sweep.{dead-tally}
 use Rattle.paths.proofs.CountsInPlace.{tallied-none, tallied-dead, totals-say}
 use Rattle.paths.proofs.Counting.{counting-first, counting-rest, none-open}
-use Rattle.paths.proofs.PartCounts.{sum-done-same, sum-done-zero, parts-first}
+use Rattle.paths.proofs.PartialSums.{sum-done-same, sum-done-zero, parts-first}
 
 -- At first
 
@@ -47,7 +48,7 @@ pub underway-first : (t : Transducer) → Sized t → (left stack : List ℕ) (t
 underway-first t z left stack top cs empty o k =
     record {
       counting = counting-first t z (replicate 1024 false) left stack top (length-replicate {A = Bool} 1024 false)
-          (λ u b m. clash (marked (replicate 1024 false) u) m (none-marked u)) o k;
+          (λ u b m. clash m (none-marked u)) o k;
       stopping = stopping-none t (marked (replicate 1024 false)) none-marked;
       tallied = tallied-none t (replicate 1024 false) cs (empty .long) none-marked;
       parts = parts-first t (by-marks t (replicate 1024 false)) cs (none-done t) empty;
@@ -70,7 +71,7 @@ underway-rested t z ms left stack top cs e w =
 pub rested-all : (t : Transducer) → Sized t → (ms : List Bool) (cs : List Count) → Rested t ms cs → ((s : ℕ) → s < t .states → marked ms s ≡ true)
     → Totals-say t (record { counts = cs; endless = false })
 rested-all t z ms cs r all =
-    let found = totals-say t z ms (t .start) cs r (λ s b q. clash (marked ms s) (all s b) q) refl in
+    let found = totals-say t z ms (t .start) cs r (λ s b q. clash (all s b) q) refl in
     rw (all (t .start) (z .within .starts)) at found
 
 -- No unmarked state is dead.
@@ -82,7 +83,7 @@ rested-live t z live ms start cs l r none e = totals-say t z ms start cs r (λ s
   where
     on : (s : ℕ) → s < t .states → marked ms s ≡ false → (c : Bool) → marked live s ≡ c → coaccessible (t .states) t s ≡ true
     on s b q true h = sym (l .at-state s) ∙ h
-    on s b q false h = clash (marked ms s) (none s b h) q
+    on s b q false h = clash (none s b h) q
 
 -- Marking the dead states
 
@@ -126,7 +127,7 @@ module _ (t : Transducer) (z : Sized t) (live ms ms' : List Bool) (cs : List Cou
       on : (a : Bool) → marked ms s ≡ a → (c : Bool) → marked live s ≡ c → a || not c ≡ true → (marked ms s ≡ true) ⊎ (coaccessible (t .states) t s ≡ false)
       on true p c q h = inl p
       on false p false q h = inr (sym (l .at-state s) ∙ q)
-      on false p true q h = clash false h refl
+      on false p true q h = clash h refl
 
   grows : (s : ℕ) → s < t .states → marked ms s ≡ true → marked ms' s ≡ true
   grows s b m = dead .at-state s b ∙ ap (λ (c : Bool). c || not (marked live s)) m
@@ -143,7 +144,7 @@ module _ (t : Transducer) (z : Sized t) (live ms ms' : List Bool) (cs : List Cou
   dead-arc : (s : ℕ) → coaccessible (t .states) t s ≡ false → (i : ℕ) → i < length (t .arcs) → arc t i .source ≡ s
       → coaccessible (t .states) t (arc t i .target) ≡ false
   dead-arc s d i b e =
-      not-so (coaccessible (t .states) t (arc t i .target)) (λ q.
+      is-false (coaccessible (t .states) t (arc t i .target)) (λ q.
       let p = coaccessible-path (t .states) t (arc t i .target) q in
       dead-none t (z .within) s d (i ∷ p .0) (cons-accepting t s i (p .0) (record { below = b; leaves = e; rest = p .1 })))
 
@@ -167,16 +168,14 @@ module _ (t : Transducer) (z : Sized t) (live ms ms' : List Bool) (cs : List Cou
 
   shut : (s : ℕ) → s < t .states → marked ms' s ≡ true → leads-on t ms' s ≡ false
   unfolding leads-on arc
-  shut s b m = not-so (some-arc (t .arcs) s (λ v. not (marked ms' v))) (λ q. none (some-arc-at (t .arcs) s (λ v. not (marked ms' v)) q) (from s b m))
+  shut s b m = is-false (some-arc (t .arcs) s (λ v. not (marked ms' v))) (λ q. none (some-arc-at (t .arcs) s (λ v. not (marked ms' v)) q) (from s b m))
     where
       none : SomeAt (t .arcs) s (λ v. not (marked ms' v)) → (marked ms s ≡ true) ⊎ (coaccessible (t .states) t s ≡ false) → ⊥
       none a (inl p) =
-          clash (marked ms' (arc t (a .place) .target))
-          (grows (arc t (a .place) .target) (z .within .arrives (a .place) (a .below)) (shut-marked t ms s (r .shut s b p) (a .place) (a .below) (a .leaves)))
+          clash (grows (arc t (a .place) .target) (z .within .arrives (a .place) (a .below)) (shut-marked t ms s (r .shut s b p) (a .place) (a .below) (a .leaves)))
           (not-true (marked ms' (arc t (a .place) .target)) (a .for))
       none a (inr d) =
-          clash (marked ms' (arc t (a .place) .target))
-          (to (arc t (a .place) .target) (z .within .arrives (a .place) (a .below)) (dead-arc s d (a .place) (a .below) (a .leaves)))
+          clash (to (arc t (a .place) .target) (z .within .arrives (a .place) (a .below)) (dead-arc s d (a .place) (a .below) (a .leaves)))
           (not-true (marked ms' (arc t (a .place) .target)) (a .for))
 
   pub underway-dead : (left stack : List ℕ) (top : ℕ) → Opened-arcs t (by-marks t ms') (length (t .arcs)) left → Stacked (t .states) ms' left stack top
@@ -203,12 +202,12 @@ module _ (t : Transducer) (z : Sized t) (live ms ms' : List Bool) (cs : List Cou
       -- What is done anew adds 0.
       same : (v : ℕ) → v < t .states → (a : Bool) → marked ms v ≡ a → (c : Bool) → marked ms' v ≡ c → cond a (at-state cs v) 0 ≡ cond c (at-state cs v) 0
       same v b true p true q = refl
-      same v b true p false q = clash (marked ms' v) (grows v b p) q
+      same v b true p false q = clash (grows v b p) q
       same v b false p false q = refl
       same v b false p true q = zero' (from v b q)
         where
           zero' : (marked ms v ≡ true) ⊎ (coaccessible (t .states) t v ≡ false) → 0 ≡ at-state cs v
-          zero' (inl m) = clash (marked ms v) m p
+          zero' (inl m) = clash m p
           zero' (inr d) = sym (dead-zero v b d)
 
   -- In the end each unmarked state is live.
@@ -218,4 +217,4 @@ module _ (t : Transducer) (z : Sized t) (live ms ms' : List Bool) (cs : List Cou
     where
       on : (s : ℕ) → s < t .states → marked ms'' s ≡ false → (c : Bool) → coaccessible (t .states) t s ≡ c → coaccessible (t .states) t s ≡ true
       on s b q true h = h
-      on s b q false h = clash (marked ms'' s) (more s (to s b h)) q
+      on s b q false h = clash (more s (to s b h)) q

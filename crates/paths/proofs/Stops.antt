@@ -8,6 +8,7 @@ use native.Mathlib.Omega.{arith}
 use native.Mathlib.Decide.{ℕ-discrete}
 use lib.ListN.{length}
 use borrow.Author.Tests.{not-true}
+use Rattle.wire.proofs.Bool.{clash, is-false}
 use Rattle.transducer.specs.Format.{Transducer}
 use Rattle.transducer.specs.Path.{arc}
 use Rattle.transducer.proofs.Runs.{Within, accepts-accepting}
@@ -15,19 +16,18 @@ use Rattle.reach.specs.Reach.{some-arc, coaccessible}
 use Rattle.reach.proofs.Reach.{SomeAt, some-arc-at, at-some-arc}
 use Rattle.paths.specs.Count.{goes-on, endless}
 use Rattle.paths.specs.Sweep.{Stopping}
-use Rattle.paths.proofs.MarksInPlace.{clash, not-so}
 use Rattle.paths.proofs.GoesOn.{dead-none, goes-on-path, path-goes-on}
 use Rattle.paths.proofs.Endless.{endless-longer}
 
 goes-on-less : (k : ℕ) (t : Transducer) → Within t → (s : ℕ) → s < t .states → goes-on k t s ≡ false → goes-on (suc k) t s ≡ false
 goes-on-less k t w s b h =
-    not-so (goes-on (suc k) t s) (λ e.
+    is-false (goes-on (suc k) t s) (λ e.
     let p = goes-on-path (suc k) t s e in
     let long : suc k ≤ length (p .0) = p .2 in
-    clash (goes-on k t s) (path-goes-on k t w s (p .0) b (p .1) (omega arith)) h)
+    clash (path-goes-on k t w s (p .0) b (p .1) (omega arith)) h)
 
 pub stopping-none : (t : Transducer) (g : ℕ → Bool) → ((s : ℕ) → g s ≡ false) → Stopping t g
-stopping-none t g h = record { rounds = 0; stops = λ s b q. clash (g s) q (h s) }
+stopping-none t g h = record { rounds = 0; stops = λ s b q. clash q (h s) }
 
 -- A state whose arcs all lead to marked ones may be marked.
 pub stopping-next : (t : Transducer) → Within t → (g : ℕ → Bool) (i : ℕ) (h : ℕ → Bool) → Stopping t g
@@ -36,12 +36,12 @@ unfolding goes-on arc
 stopping-next t w g i h r shut others = record { rounds = suc (r .rounds); stops = λ s b e. on s b e (ℕ-discrete s i) }
   where
     closed : some-arc (t .arcs) i (goes-on (r .rounds) t) ≡ false
-    closed = not-so (some-arc (t .arcs) i (goes-on (r .rounds) t)) (λ e. none (some-arc-at (t .arcs) i (goes-on (r .rounds) t) e))
+    closed = is-false (some-arc (t .arcs) i (goes-on (r .rounds) t)) (λ e. none (some-arc-at (t .arcs) i (goes-on (r .rounds) t) e))
       where
         none : SomeAt (t .arcs) i (goes-on (r .rounds) t) → ⊥
         none a =
             let u : ℕ = arc t (a .place) .target in
-            clash (goes-on (r .rounds) t u) (a .for) (r .stops u (w .arrives (a .place) (a .below)) (shut (a .place) (a .below) (a .leaves)))
+            clash (a .for) (r .stops u (w .arrives (a .place) (a .below)) (shut (a .place) (a .below) (a .leaves)))
 
     on : (s : ℕ) → s < t .states → h s ≡ true → Dec (s ≡ i) → goes-on (suc (r .rounds)) t s ≡ false
     on s b e (yes y) = rw y closed
@@ -54,7 +54,7 @@ stopping-dead t w g h r from = record { rounds = r .rounds; stops = λ s b e. on
   where
     on : (s : ℕ) → s < t .states → (g s ≡ true) ⊎ (coaccessible (t .states) t s ≡ false) → goes-on (r .rounds) t s ≡ false
     on s b (inl q) = r .stops s b q
-    on s b (inr d) = not-so (goes-on (r .rounds) t s) (λ e. let p = goes-on-path (r .rounds) t s e in dead-none t w s d (p .0) (p .1))
+    on s b (inr d) = is-false (goes-on (r .rounds) t s) (λ e. let p = goes-on-path (r .rounds) t s e in dead-none t w s d (p .0) (p .1))
 
 -- Nothing is left to mark
 
@@ -76,7 +76,6 @@ module _ (t : Transducer) (w : Within t) (g : ℕ → Bool)
     where
       on : (b : Bool) → g (t .start) ≡ b → not b ≡ goes-on (t .states) t (t .start)
       on false e = sym (unmarked-goes-on (t .states) (t .start) (w .starts) e)
-      on true e = sym (not-so (goes-on (t .states) t (t .start)) (λ h.
+      on true e = sym (is-false (goes-on (t .states) t (t .start)) (λ h.
           let p = endless-longer t w h (r .rounds) in
-          clash (goes-on (r .rounds) t (t .start))
-          (path-goes-on (r .rounds) t w (t .start) (p .0) (w .starts) (accepts-accepting t (p .0) (p .1)) (p .2)) (r .stops (t .start) (w .starts) e)))
+          clash (path-goes-on (r .rounds) t w (t .start) (p .0) (w .starts) (accepts-accepting t (p .0) (p .1)) (p .2)) (r .stops (t .start) (w .starts) e)))

@@ -62,7 +62,7 @@ sum-done zero t done u c = 0
 sum-done (suc n) t done u c = sum-done n t done u c + cond (eqb (arc t n .source) u && done n) (c (arc t n .target)) 0
 
 -- A count has that of the empty path and those where the done arcs lead.
-pub record Part-counts (t : Transducer) (done : ℕ → Bool) (cs : List Count) : Type 0 where
+pub record Partial-sums (t : Transducer) (done : ℕ → Bool) (cs : List Count) : Type 0 where
   pub long : length cs ≡ 1024
   pub sums : (u : ℕ) → u < t .states → at-state cs u ≡ min most-counted (own t u + sum-done (length (t .arcs)) t done u (at-state cs))
 
@@ -71,7 +71,7 @@ pub record Underway (t : Transducer) (ms : List Bool) (left stack : List ℕ) (t
   pub counting : Counting t (by-marks t ms) ms left stack top
   pub stopping : Stopping t (marked ms)
   pub tallied : Tallied t ms cs
-  pub parts : Part-counts t (by-marks t ms) cs
+  pub parts : Partial-sums t (by-marks t ms) cs
 
 -- None waits any more: an arc leads from each unmarked state to an unmarked one, and from no marked one.
 pub record Rested (t : Transducer) (ms : List Bool) (cs : List Count) : Type 0 where
@@ -80,7 +80,7 @@ pub record Rested (t : Transducer) (ms : List Bool) (cs : List Count) : Type 0 w
   pub rest : (s : ℕ) → s < t .states → marked ms s ≡ false → leads-on t ms s ≡ true
   pub stopping : Stopping t (marked ms)
   pub tallied : Tallied t ms cs
-  pub parts : Part-counts t (by-marks t ms) cs
+  pub parts : Partial-sums t (by-marks t ms) cs
 
 -- Marked states stay marked.
 abbrev pub Grown : (ms ms' : List Bool) → Type 0

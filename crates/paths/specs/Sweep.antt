@@ -50,10 +50,10 @@ pub record Tallied (t : Transducer) (ms : List Bool) (cs : List Count) : Type 0 
   pub tallied : (s : ℕ) → s < t .states → marked ms s ≡ true → (k : ℕ) → rounds ≤ k → at-state cs s ≡ tally k t s
 
 -- In the end: the count of each state from which only finitely many accepting paths go.
-pub record Settled (t : Transducer) (cs : List Count) : Type 0 where
+pub record Path-counts (t : Transducer) (cs : List Count) : Type 0 where
   pub long : length cs ≡ 1024
   pub counts : (s : ℕ) → s < t .states → goes-on (t .states) t s ≡ false → at-state cs s ≡ min most-counted (length (paths-from (t .states) t s))
 
 pub record Totals-say (t : Transducer) (r : Totals) : Type 0 where
   pub endless-is : r .endless ≡ endless t
-  pub settled : Settled t (r .counts)
+  pub settled : Path-counts t (r .counts)

@@ -9,13 +9,14 @@ use native.Mathlib.Decide.{ℕ-discrete}
 use native.Mathlib.Omega.{arith}
 use lib.ListN.{length, getD, set, length-set}
 use lib.Seq.{getD-set-same, getD-set-other}
+use Rattle.wire.proofs.Bool.{clash}
 use Rattle.transducer.specs.Format.{Transducer}
 use Rattle.transducer.specs.Path.{arc}
 use Rattle.reach.specs.Counted.{count}
 use Rattle.reach.specs.Marks.{from-end, to-end, Passes, Widened, number}
 use Rattle.reach.specs.Stack.{last, cell, Chained, Off, Waiting, Served, Pushed}
 use Rattle.reach.proofs.Counted.{count-most, count-rises, count-next}
-use Rattle.reach.proofs.Spreading.{never, number-most, number-set, number-below, set-kept, spread-set, widened-none, widened-twice, widened-one}
+use Rattle.reach.proofs.Spreading.{number-most, number-set, number-below, set-kept, spread-set, widened-none, widened-twice, widened-one}
 use Rattle.reach.proofs.Sized.{Sized}
 use Rattle.reach.proofs.Chains.{none-behind, none-between, On-chain, ArcHere, chain-first, chain-arc, chain-next, chain-link, chain-less, chain-end}
 
@@ -71,7 +72,7 @@ pushing-over {s} {top} {ms} {stack} e p =
     }
   where
     on : (r : ℕ) → r < s + 1 → getD ms r false ≡ true → Off stack top r → Dec (r ≡ s) → ⊥
-    on r l m o (yes q) = never (getD ms s false) e (rw q at m)
+    on r l m o (yes q) = clash (rw q at m) e
     on r l m o (no n) = p .all r (omega arith) m o
 
 pub pushing-next : {s top : ℕ} {ms : List Bool} {stack : List ℕ} → s < 1024 → getD ms s false ≡ true → Pushing s ms stack top

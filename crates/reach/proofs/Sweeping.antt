@@ -1,6 +1,6 @@
 -- A sweep, arc by arc: what it has covered, and that no mark is left to spread where no arc waits, since arcs stand by their sources. Assumes
 -- nothing.
-use mathlib.Core.Path.{_≡_, refl, subst, _∙_}
+use mathlib.Core.Path.{_≡_, refl, sym, subst}
 use mathlib.Core.Bool.{Bool, true, false, _&&_, not, cond}
 use mathlib.Core.Logic.{_⊎_, inl, inr}
 use mathlib.Core.List.{List}
@@ -10,12 +10,12 @@ use native.Mathlib.Omega.{arith}
 use lib.Dec.{ltb}
 use lib.ListN.{length, getD}
 use borrow.Author.Tests.{ltb-false}
-use Rattle.wire.proofs.Places.{and-true}
+use Rattle.wire.proofs.Bool.{never}
 use Rattle.transducer.specs.declared.Arc.{Arc}
 use Rattle.transducer.specs.Format.{Transducer}
 use Rattle.transducer.specs.Path.{arc}
 use Rattle.reach.specs.Marks.{Spread, from-end, to-end, Passes, Widened, waits, Swept}
-use Rattle.reach.proofs.Spreading.{never, widened-none, widened-twice, widened-one}
+use Rattle.reach.proofs.Spreading.{widened-none, widened-twice, widened-one}
 
 -- Sources never fall.
 abbrev pub Sourced : Transducer → Type 0
@@ -42,8 +42,8 @@ not-waits ms back from to h = on back (cond back (ltb from to) (ltb to from)) re
   where
     all : (x y : Bool) → not (x && y) ≡ false → (x ≡ true) × (y ≡ true)
     all true true e = (refl, refl)
-    all true false e = never true e refl
-    all false y e = never true e refl
+    all true false e = never (sym e)
+    all false y e = never (sym e)
 
     on : (d b : Bool) → cond d (ltb from to) (ltb to from) ≡ b → b && not (getD ms from false && getD ms to false) ≡ false
         → Ordered d from to ⊎ ((getD ms from false ≡ true) × (getD ms to false ≡ true))
@@ -169,4 +169,4 @@ module _ {t : Transducer} {ms end : List Bool} where
 
 -- Where more may come only the marks are told.
 pub swept-more : {t : Transducer} {back : Bool} {ms ms' : List Bool} → Widened t back ms ms' → Swept t back ms ms' true
-swept-more w = record { wider = w; closed = λ e. never true e refl }
+swept-more w = record { wider = w; closed = λ e. never (sym e) }

@@ -6,7 +6,7 @@ ghost use Rattle.transducer.specs.Format.{refusal, decode, head-finals};
 ghost use Rattle.transducer.specs.Path.{is-final};
 ghost use Rattle.transducer.specs.Leaf.{Opened};
 ghost use Rattle.reach.specs.Reach.{accessible, coaccessible};
-ghost use Rattle.reach.specs.Marks.{Settled, Marked};
+ghost use Rattle.reach.specs.Marks.{Closure, Marked};
 ghost use Rattle.reach.specs.Stack.{Chained};
 use crate::stack;
 use crate::sweep;
@@ -22,7 +22,7 @@ fn settle(
 )
     requires { ⌜ Opened (now table) first × (states ≡ decode (now table) .states) × (arcs ≡ length (decode (now table) .arcs))
         × (length (now marks) ≡ 1024) ⌝ }
-    ensures { λ _. ⌜ Settled (decode (now (table .entry))) back (now (marks .entry)) (now (marks .exit)) ⌝ }
+    ensures { λ _. ⌜ Closure (decode (now (table .entry))) back (now (marks .entry)) (now (marks .exit)) ⌝ }
 {
     let again = sweep::sweep(table, first, arcs, back, marks);
     if !again {
@@ -96,7 +96,7 @@ fn settle_chained(
 )
     requires { ⌜ Opened (now table) first × (states ≡ decode (now table) .states) × (arcs ≡ length (decode (now table) .arcs))
         × Chained (decode (now table)) true (now heads) (now next) × (length (now marks) ≡ 1024) ⌝ }
-    ensures { λ _. ⌜ Settled (decode (now (table .entry))) true (now (marks .entry)) (now (marks .exit)) ⌝ }
+    ensures { λ _. ⌜ Closure (decode (now (table .entry))) true (now (marks .entry)) (now (marks .exit)) ⌝ }
 {
     let again = sweep::sweep(table, first, arcs, true, marks);
     if !again {

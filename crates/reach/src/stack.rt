@@ -6,7 +6,7 @@ ghost use lib.ListN.{length, replicate};
 ghost use Rattle.wire.specs.Bytes.{Bytes};
 ghost use Rattle.transducer.specs.Format.{refusal, decode};
 ghost use Rattle.transducer.specs.Leaf.{Opened};
-ghost use Rattle.reach.specs.Marks.{Settled};
+ghost use Rattle.reach.specs.Marks.{Closure};
 ghost use Rattle.reach.specs.Stack.{Chained, Waiting, Served, Pushed};
 use crate::arcs;
 
@@ -97,7 +97,7 @@ fn empty(
 )
     requires { ⌜ (refusal (now table) ≡ 0) × Chained (decode (now table)) back (now heads) (now next)
         × Waiting (decode (now table)) back (now marks) (now stack) count ⌝ }
-    ensures { λ _. ⌜ Settled (decode (now (table .entry))) back (now (marks .entry)) (now (marks .exit)) ⌝ }
+    ensures { λ _. ⌜ Closure (decode (now (table .entry))) back (now (marks .entry)) (now (marks .exit)) ⌝ }
 {
     let mut top = count;
     while 0 < top {
@@ -116,7 +116,7 @@ pub fn spread_chained(
 )
     requires { ⌜ (refusal (now table) ≡ 0) × (states ≡ decode (now table) .states) × Chained (decode (now table)) back (now heads) (now next)
         × (length (now marks) ≡ 1024) ⌝ }
-    ensures { λ _. ⌜ Settled (decode (now (table .entry))) back (now (marks .entry)) (now (marks .exit)) ⌝ }
+    ensures { λ _. ⌜ Closure (decode (now (table .entry))) back (now (marks .entry)) (now (marks .exit)) ⌝ }
 {
     let mut stack = [0u16; 1024];
     let count = push_marked(states, marks, &mut stack);
@@ -134,7 +134,7 @@ pub fn spread_all(
 )
     requires { ⌜ Opened (now table) first × (states ≡ decode (now table) .states) × (arcs ≡ length (decode (now table) .arcs))
         × (length (now marks) ≡ 1024) ⌝ }
-    ensures { λ _. ⌜ Settled (decode (now (table .entry))) back (now (marks .entry)) (now (marks .exit)) ⌝ }
+    ensures { λ _. ⌜ Closure (decode (now (table .entry))) back (now (marks .entry)) (now (marks .exit)) ⌝ }
 {
     let mut heads = [0u32; 1024];
     let mut next = [0u32; 3072];

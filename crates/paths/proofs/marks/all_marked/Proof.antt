@@ -4,8 +4,9 @@ use mathlib.Core.Bool.{true, false}
 use Prim.Native.Nat.{ℕ, _-_, _≤_, _<_}
 use native.Mathlib.Omega.{arith}
 use borrow.Author.Tests.{not-false}
+use Rattle.wire.proofs.Bool.{clash}
 use Rattle.paths.specs.Sweep.{marked}
-use Rattle.paths.proofs.MarksInPlace.{clash, below-next}
+use Rattle.paths.proofs.MarksInPlace.{below-next}
 use Rattle.paths.proofs.marks.all_marked.Statement.{statement}
 use Rattle.paths.proofs.marks.all_marked.Tie as tie
 
@@ -25,7 +26,7 @@ element-copy-out-if1 : tie.Need-element-copy-out-if1 Inv-loop μ-loop
 element-copy-out-if1 c = low c
 
 returns : tie.Need-returns Inv-loop μ-loop
-returns c = λ e. clash false e refl
+returns c = λ e. clash e refl
 
 add-s : tie.Need-add-s Inv-loop μ-loop
 add-s c = omega (arith, low (c .before .before))

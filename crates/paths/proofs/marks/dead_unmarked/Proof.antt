@@ -3,8 +3,9 @@ use mathlib.Core.Path.{_≡_, refl, sym, _∙_}
 use mathlib.Core.Bool.{Bool, true, false, _||_, not}
 use Prim.Native.Nat.{ℕ, _-_, _≤_, _<_}
 use native.Mathlib.Omega.{arith}
+use Rattle.wire.proofs.Bool.{clash}
 use Rattle.paths.specs.Sweep.{marked}
-use Rattle.paths.proofs.MarksInPlace.{clash, below-next}
+use Rattle.paths.proofs.MarksInPlace.{below-next}
 use Rattle.paths.proofs.marks.dead_unmarked.Statement.{statement}
 use Rattle.paths.proofs.marks.dead_unmarked.Tie as tie
 
@@ -18,9 +19,9 @@ low : (c : tie.In-loop Inv-loop μ-loop) → c .before .loop .s < 1024
 low c = omega (arith, c .loop-test .taken, c .before .before .pre)
 
 either : (a b : Bool) → not (a || b) ≡ false → a ≡ false → b ≡ true
-either true b h e = clash true refl e
+either true b h e = clash refl e
 either false true h e = refl
-either false false h e = clash true refl h
+either false false h e = clash refl h
 
 loop-holds : tie.Need-loop-holds Inv-loop μ-loop
 loop-holds c = λ u h. absurd (omega arith)
@@ -32,7 +33,7 @@ element-copy-out-if1-2 : tie.Need-element-copy-out-if1-2 Inv-loop μ-loop
 element-copy-out-if1-2 c = low (c .before)
 
 returns : tie.Need-returns Inv-loop μ-loop
-returns c = λ e. clash true refl e
+returns c = λ e. clash refl e
 
 add-s : tie.Need-add-s Inv-loop μ-loop
 add-s c = omega (arith, low (c .before .before .before))

@@ -3,7 +3,7 @@ use native.Mathlib.Omega.{arith}
 use Rattle.wire.specs.Bytes.{Bytes}
 use Rattle.transducer.specs.Format.{decode}
 use Rattle.reach.proofs.Sized.{Sized, sized}
-use Rattle.reach.proofs.Settled.{coaccessible-settled}
+use Rattle.reach.proofs.Closure.{coaccessible-closure}
 use Rattle.reach.proofs.marks.coaccessible_chained.Statement.{statement}
 use Rattle.reach.proofs.marks.coaccessible_chained.Tie as tie
 
@@ -27,7 +27,7 @@ settle-chained-requires c κs =
 returns : tie.Need-returns
 returns c =
     let marked = c .before .before in
-    coaccessible-settled (size marked .within) (marked .final-marks .ensures) (c .settle-chained .ensures)
+    coaccessible-closure (size marked .within) (marked .final-marks .ensures) (c .settle-chained .ensures)
 
 pub coaccessible-chained-spec : {M : Type 1} → statement M
 coaccessible-chained-spec = tie.close (tie.spec final-marks-requires settle-chained-requires returns)

@@ -17,7 +17,7 @@ use Rattle.paths.specs.declared.Count.{Count}
 use Rattle.paths.specs.Tally.{add, own, add-all}
 use Rattle.paths.specs.Sweep.{at-state}
 use Rattle.paths.specs.TopSorted.{Empty-paths}
-use Rattle.paths.specs.Counting.{sum-done, Part-counts}
+use Rattle.paths.specs.Counting.{sum-done, Partial-sums}
 use Rattle.paths.proofs.Tally.{sum-arcs, add-all-sum, own-small}
 use Rattle.paths.proofs.StoredCounts.{at-set-same, at-set-other}
 
@@ -89,8 +89,8 @@ sum-done-take (suc n) t d u c l h =
 
 -- Counts
 
-pub parts-same : (t : Transducer) (d e : ℕ → Bool) (cs : List Count) → ((k : ℕ) → k < length (t .arcs) → d k ≡ e k) → Part-counts t d cs
-    → Part-counts t e cs
+pub parts-same : (t : Transducer) (d e : ℕ → Bool) (cs : List Count) → ((k : ℕ) → k < length (t .arcs) → d k ≡ e k) → Partial-sums t d cs
+    → Partial-sums t e cs
 parts-same t d e cs h p =
     record {
       long = p .long;
@@ -99,7 +99,7 @@ parts-same t d e cs h p =
     }
 
 -- At first no arc is done.
-pub parts-first : (t : Transducer) (d : ℕ → Bool) (cs : List Count) → ((k : ℕ) → d k ≡ false) → Empty-paths t (t .states) cs → Part-counts t d cs
+pub parts-first : (t : Transducer) (d : ℕ → Bool) (cs : List Count) → ((k : ℕ) → d k ≡ false) → Empty-paths t (t .states) cs → Partial-sums t d cs
 parts-first t d cs h k =
     record {
       long = k .long;
@@ -109,7 +109,7 @@ parts-first t d cs h k =
     }
 
 -- With all arcs of a state done its count is complete.
-pub parts-whole : (t : Transducer) (d : ℕ → Bool) (cs : List Count) (s : ℕ) → Part-counts t d cs → s < t .states
+pub parts-whole : (t : Transducer) (d : ℕ → Bool) (cs : List Count) (s : ℕ) → Partial-sums t d cs → s < t .states
     → ((k : ℕ) → k < length (t .arcs) → arc t k .source ≡ s → d k ≡ true) → at-state cs s ≡ add-all t (at-state cs) s
 parts-whole t d cs s p b h =
     let all : sum-done (length (t .arcs)) t d s (at-state cs) ≡ sum-arcs (t .arcs) s (at-state cs) =
@@ -117,10 +117,10 @@ parts-whole t d cs s p b h =
     omega (arith, p .sums s b, all, add-all-sum t (at-state cs) s)
 
 -- One arc more is done: the count where it leads is added to that of its source, where no done arc leads.
-pub parts-next : (t : Transducer) (d e : ℕ → Bool) (cs : List Count) (i u : ℕ) (x : Count) → Part-counts t d cs → i < length (t .arcs) → u ≡ arc t i .source
+pub parts-next : (t : Transducer) (d e : ℕ → Bool) (cs : List Count) (i u : ℕ) (x : Count) → Partial-sums t d cs → i < length (t .arcs) → u ≡ arc t i .source
     → u < 1024 → d i ≡ false → e i ≡ true → ((k : ℕ) → k < length (t .arcs) → (k ≡ i → ⊥) → d k ≡ e k)
     → ((k : ℕ) → k < length (t .arcs) → e k ≡ true → arc t k .target ≡ u → ⊥)
-    → x .value ≡ add (at-state cs u) (at-state cs (arc t i .target)) → Part-counts t e (set cs u x)
+    → x .value ≡ add (at-state cs u) (at-state cs (arc t i .target)) → Partial-sums t e (set cs u x)
 unfolding add
 parts-next t d e cs i u x p below leaves room new done others apart is =
     record { long = length-set cs u x ∙ p .long; sums = λ v b. on v b (ℕ-discrete v u) }
