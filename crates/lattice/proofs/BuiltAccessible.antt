@@ -18,7 +18,7 @@ use Rattle.explore.proofs.OneArc.{By-step, step-arc, arc-lands}
 use Rattle.explore.proofs.Parts.{built-start, built-some, built-states}
 use Rattle.reach.specs.Reach.{accessible, All-accessible}
 use Rattle.reach.proofs.Reach.{accessible-start}
-use Rattle.reach.proofs.Settled.{accessible-passes}
+use Rattle.reach.proofs.Closure.{accessible-passes}
 
 module _ {A O : Type 0} (same : A → A → Bool) (steps : A → List (Step A O)) (final : A → Bool) (weight : A → ℕ) (first : A) (right : Decides same) where
   abbrev b : Built A O
