@@ -19,8 +19,8 @@ use Rattle.transducer.specs.Entry.{or-else, arc-fields, read-room, read-refusal
 use Rattle.transducer.proofs.RoundTrip.{refusal-encode, decode-encode}
 use Rattle.explore.specs.Explore.{there, place, met, served, numbered, targets, arcs-here, arcs-from, finals-from, steps-from, built, built-refusal}
 use Rattle.explore.specs.Walk.{all-origins}
-use Rattle.compose.specs.Compose.{same-state, left-alone, right-alone, both-step, left-steps, right-steps, steps, first-state, final-state, state-weight}
-use Rattle.compose.specs.Compose.{composed, left-origin, right-origin, origin-pair}
+use Rattle.steps.specs.Steps.{same-state, left-alone, right-alone, both-step, left-steps, right-steps, steps, first-state, left-origin, right-origin, origin-pair}
+use Rattle.compose.specs.Compose.{final-state, state-weight, composed}
 use Rattle.compose.specs.Entry.{origin-pairs, compose-room, compose-refusal}
 use Rattle.lattice.specs.Apply.{string-good, step, arc-steps, applied}
 use Rattle.lattice.specs.Apply.{same-state as same-position, steps as applied-steps, final-state as final-position}

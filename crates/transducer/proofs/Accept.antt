@@ -11,13 +11,13 @@ use borrow.Author.Tests.{eqb-true, eq-eqb}
 use lib.Dec.{eqb}
 use lib.ListN.{length, getD}
 use Rattle.wire.specs.Bytes.{Bytes}
-use Rattle.wire.proofs.Places.{and-true, true-and}
+use Rattle.wire.proofs.Bool.{and-true, true-and, passed, by-test}
 use Rattle.transducer.specs.declared.Final.{Final}
 use Rattle.transducer.specs.Format.{Transducer, framed, records, kinds-good, decode, head-states, head-arcs, head-finals, head-start}
 use Rattle.transducer.specs.Format.{head-good, finals-rise, sources-stay, content-refusal, refusal}
 use Rattle.transducer.specs.Path.{no-arc, arc}
 use Rattle.transducer.specs.Check.{walked}
-use Rattle.transducer.proofs.Good.{Head-range, head-range, passed, Content, content-good, finals-rise-good, sources-stay-good}
+use Rattle.transducer.proofs.Good.{Head-range, head-range, Content, content-good, finals-rise-good, sources-stay-good}
 use Rattle.transducer.proofs.Good.{final-state-below, arc-states-below, arc-labels-below, final-weight-most, arc-weight-most}
 use Rattle.transducer.proofs.Laid.{Laid, laid-framed, laid-kinds, laid-finals-count, laid-arcs-count, kinds-laid}
 
@@ -28,10 +28,6 @@ head-fits bs = head-good (head-states bs) (head-arcs bs) (head-finals bs) (head-
 
 abbrev counts-fit : List ℕ → Bool
 counts-fit bs = eqb (length (decode bs .finals)) (head-finals bs) && eqb (length (decode bs .arcs)) (head-arcs bs)
-
-by-test : {A : Type 0} (t : Bool) → (t ≡ true → A) → (t ≡ false → A) → A
-by-test true f g = f refl
-by-test false f g = g refl
 
 counted-laid : {bs : List ℕ} → Bytes bs → framed bs ≡ true → kinds-good (records bs) ≡ true → counts-fit bs ≡ true →
     Laid bs (head-finals bs) (head-arcs bs)

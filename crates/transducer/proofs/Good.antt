@@ -7,7 +7,8 @@ use borrow.Author.Tests.{ltb-true, leb-true}
 use lib.Dec.{ltb, leb}
 use lib.ListN.{length, getD}
 use Rattle.wire.specs.Bytes.{every}
-use Rattle.wire.proofs.Places.{and-true, every-getD}
+use Rattle.wire.proofs.Places.{every-getD}
+use Rattle.wire.proofs.Bool.{and-true, passed}
 use Rattle.transducer.specs.declared.Arc.{Arc}
 use Rattle.transducer.specs.declared.Final.{Final}
 use Rattle.transducer.specs.Format.{Transducer, head-good, states-good, order-good, all-labels-good, weights-good, weight-good, labels-good, first-of, content-refusal, finals-rise, sources-stay}
@@ -33,11 +34,6 @@ head-range n m f s h =
       finals = leb-true f n (e .0);
       start = ltb-true s n (e .1);
     }
-
--- A test of a chain that gives 0.
-pub passed : (b : Bool) (k r : ℕ) → cond (not b) (suc k) r ≡ 0 → (b ≡ true) × (r ≡ 0)
-passed true k r h = (refl, h)
-passed false k r h = absurd (omega arith)
 
 pub record Content (t : Transducer) : Type 0 where
   pub states : states-good t ≡ true

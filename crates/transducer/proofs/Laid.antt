@@ -11,8 +11,9 @@ use borrow.Author.Tests.{eqb-true}
 use lib.Dec.{eqb}
 use lib.ListN.{length, getD}
 use Rattle.wire.specs.Bytes.{Bytes, two, four, places, every}
-use Rattle.wire.proofs.Places.{length-places, getD-places, and-true}
+use Rattle.wire.proofs.Places.{length-places, getD-places}
 use Rattle.wire.proofs.Low.{four-halves}
+use Rattle.wire.proofs.Bool.{and-true}
 use Rattle.transducer.specs.declared.Arc.{Arc}
 use Rattle.transducer.specs.declared.Final.{Final}
 use Rattle.transducer.specs.Format.{Record, framed, records, kind-good, in-order, kinds-good, final-at, arc-at, finals-in, arcs-in, decode, head-states, head-start}

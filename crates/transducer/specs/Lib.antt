@@ -5,5 +5,4 @@ pub mod Each
 pub mod Check
 pub mod Leaf
 pub mod Entry
-pub mod RoundTrip
 pub mod Weight

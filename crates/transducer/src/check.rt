@@ -1,20 +1,14 @@
-// Refusals 5 to 8 gathered in one pass, over bytes and over runs of fields.
+// Refusals 5 to 8 gathered in one pass over the records.
 ghost use mathlib.Core.Path.{_≡_};
 ghost use mathlib.Core.Bool.{true};
 ghost use Prim.Native.Nat.{ℕ, _+_, _*_, _≤_, _<_};
 ghost use lib.ListN.{length};
 ghost use Rattle.wire.specs.Bytes.{four};
-ghost use Rattle.transducer.specs.Format.{weight-good, labels-good, head-good, final-at, arc-at, first-of};
+ghost use Rattle.transducer.specs.Format.{final-at, arc-at, first-of};
 ghost use Rattle.transducer.specs.Check.{final-checked, arc-checked, finals-checked, arcs-checked, from-0, final-word, arc-word, Good-up-to, Plain};
-ghost use Rattle.transducer.specs.Entry.{final-of, arc-of};
 use crate::Arc;
 use crate::Checks;
 use crate::Final;
-use crate::sizes;
-
-const MAX_WEIGHT: u32 = 1000000;
-
-const BARRED: u16 = 65535;
 
 // No source: a closer look is needed.
 const UNSURE: u32 = 4294967295;
@@ -22,20 +16,6 @@ const UNSURE: u32 = 4294967295;
 pub const FINAL_WORD: u32 = 131078;
 
 pub const ARC_WORD: u32 = 196620;
-
-// Whether a weight is in range.
-pub fn weight_ok(weight: u32) -> bool
-    ensures { λ r. ⌜ r ≡ weight-good weight ⌝ }
-{
-    weight <= MAX_WEIGHT
-}
-
-// Whether an arc may bear these two labels.
-pub fn labels_ok(input: u16, output: u16) -> bool
-    ensures { λ r. ⌜ r ≡ labels-good input output ⌝ }
-{
-    (input < BARRED) & (output < BARRED)
-}
 
 // The tests with those of one more final whose record begins with `word`.
 pub fn check_final(c: Checks, n: u32, word: u32, f: Final) -> Checks
@@ -47,7 +27,7 @@ pub fn check_final(c: Checks, n: u32, word: u32, f: Final) -> Checks
         states: c.states & (state < n),
         order: c.order & (c.floor <= state),
         labels: c.labels,
-        weights: c.weights & weight_ok(f.weight),
+        weights: c.weights & bounds::weight_ok(f.weight),
         floor: state + 1,
     }
 }
@@ -62,8 +42,8 @@ pub fn check_arc(c: Checks, n: u32, word: u32, a: Arc) -> Checks
         heads: c.heads & (word == ARC_WORD),
         states: c.states & ((source < n) & (target < n)),
         order: c.order & (c.floor <= source),
-        labels: c.labels & labels_ok(a.input, a.output),
-        weights: c.weights & weight_ok(a.weight),
+        labels: c.labels & bounds::labels_ok(a.input, a.output),
+        weights: c.weights & bounds::weight_ok(a.weight),
         floor: source,
     }
 }
@@ -72,19 +52,7 @@ pub fn check_arc(c: Checks, n: u32, word: u32, a: Arc) -> Checks
 pub fn number(c: Checks) -> u32
     ensures { λ r. ⌜ r ≡ first-of (c .states) (c .order) (c .labels) (c .weights) ⌝ }
 {
-    if !c.states {
-        return 5;
-    }
-    if !c.order {
-        return 6;
-    }
-    if !c.labels {
-        return 7;
-    }
-    if !c.weights {
-        return 8;
-    }
-    0
+    bounds::first_failed(c.states, c.order, c.labels, c.weights)
 }
 
 // Any state may come next again: between the finals and the arcs.
@@ -141,7 +109,7 @@ pub fn check_finals(bytes: &[u8], at: usize, count: usize, n: u32, c: Checks) ->
             wire::u32_at(bytes, place),
             load_final(bytes, place),
         );
-        place += sizes::FINAL_BYTES;
+        place += bounds::FINAL_BYTES;
         i += 1;
     }
     checks
@@ -191,7 +159,7 @@ fn plain_arcs(bytes: &[u8], at: usize, count: usize, n: u32, floor: u32) -> u32
         last = source;
         labels = labels | wire::u32_at(bytes, place + 6);
         weights = weights | wire::u32_at(bytes, place + 12);
-        place += sizes::ARC_BYTES;
+        place += bounds::ARC_BYTES;
         i += 1;
     }
     if n <= last {
@@ -207,13 +175,13 @@ fn plain_arcs(bytes: &[u8], at: usize, count: usize, n: u32, floor: u32) -> u32
 fn at_a_glance(labels: u32, weights: u32) -> bool
     ensures { λ r. ⌜ (r ≡ true → Good-up-to labels weights) ⌝ }
 {
-    if BARRED as u32 <= labels % 65536 {
+    if bounds::BARRED as u32 <= labels % 65536 {
         return false;
     }
-    if BARRED as u32 <= labels / 65536 {
+    if bounds::BARRED as u32 <= labels / 65536 {
         return false;
     }
-    weights <= MAX_WEIGHT
+    weights <= bounds::MAX_WEIGHT
 }
 
 // The tests of these arcs, one by one.
@@ -231,60 +199,8 @@ fn check_each_arc(bytes: &[u8], at: usize, count: usize, n: u32, c: Checks) -> C
             wire::u32_at(bytes, place),
             load_arc(bytes, place),
         );
-        place += sizes::ARC_BYTES;
+        place += bounds::ARC_BYTES;
         i += 1;
     }
     checks
-}
-
-// The tests of the first `count` finals in two runs.
-pub fn check_given_finals(
-    states: &[u16],
-    weights: &[u32],
-    count: usize,
-    n: u32,
-    c: Checks,
-) -> Checks
-    requires { ⌜ (count ≤ length (now states)) × (count ≤ length (now weights)) ⌝ }
-    ensures { λ r. ⌜ r ≡ finals-checked count 0 1 n (λ _. final-word) (final-of (now (states .entry)) (now (weights .entry))) c ⌝ }
-{
-    let mut checks = c;
-    let mut i = 0;
-    while i < count {
-        let f = Final {
-            state: states[i],
-            weight: weights[i],
-        };
-        checks = check_final(checks, n, FINAL_WORD, f);
-        i += 1;
-    }
-    checks
-}
-
-// The tests of the first `count` arcs in two runs, four fields to an arc in the first.
-pub fn check_given_arcs(fields: &[u16], weights: &[u32], count: usize, n: u32, c: Checks) -> Checks
-    requires { ⌜ (4 * count ≤ length (now fields)) × (count ≤ length (now weights)) ⌝ }
-    ensures { λ r. ⌜ r ≡ arcs-checked count 0 1 n (λ _. arc-word) (arc-of (now (fields .entry)) (now (weights .entry))) c ⌝ }
-{
-    let mut checks = c;
-    let mut i = 0;
-    while i < count {
-        checks = check_arc(checks, n, ARC_WORD, given_arc(fields, weights, i));
-        i += 1;
-    }
-    checks
-}
-
-// Arc `i` of two runs.
-pub fn given_arc(fields: &[u16], weights: &[u32], i: usize) -> Arc
-    requires { ⌜ (4 * i + 3 < length (now fields)) × (i < length (now weights)) ⌝ }
-    ensures { λ r. ⌜ r ≡ arc-of (now (fields .entry)) (now (weights .entry)) i ⌝ }
-{
-    Arc {
-        source: fields[4 * i],
-        input: fields[4 * i + 1],
-        output: fields[4 * i + 2],
-        target: fields[4 * i + 3],
-        weight: weights[i],
-    }
 }

@@ -8,7 +8,6 @@ ghost use Rattle.transducer.specs.Leaf.{header-of, Opened, Marked, Index
 use crate::Arc;
 use crate::Header;
 use crate::check;
-use crate::sizes;
 
 // The head's four numbers.
 pub fn header(bytes: &[u8]) -> Header
@@ -29,7 +28,7 @@ pub fn arc_of(bytes: &[u8], first: usize, i: usize) -> Arc
     requires { ⌜ Opened (now bytes) first × (i < length (decode (now bytes) .arcs)) ⌝ }
     ensures { λ r. ⌜ r ≡ arc (decode (now (bytes .entry))) i ⌝ }
 {
-    check::load_arc(bytes, first + sizes::ARC_BYTES * i)
+    check::load_arc(bytes, first + bounds::ARC_BYTES * i)
 }
 
 // The larger of two numbers.
@@ -48,12 +47,12 @@ fn mark_each(bytes: &[u8], first: usize, from: usize, to: usize, index: &mut [u1
     ensures { λ _. ⌜ Marked (take to (decode (now (bytes .entry)) .arcs)) (now (index .exit)) ⌝ }
 {
     let mut i = from;
-    let mut place = first + sizes::ARC_BYTES * from + 4;
+    let mut place = first + bounds::ARC_BYTES * from + 4;
     while i < to {
         let source = wire::u16_at(bytes, place) as usize;
         i += 1;
         index[source + 1] = i as u16;
-        place += sizes::ARC_BYTES;
+        place += bounds::ARC_BYTES;
     }
 }
 
@@ -62,7 +61,7 @@ fn mark_block(bytes: &[u8], first: usize, from: usize, index: &mut [u16; 1025])
     requires { ⌜ Opened (now bytes) first × (from + 128 ≤ length (decode (now bytes) .arcs)) × Marked (take from (decode (now bytes) .arcs)) (now index) ⌝ }
     ensures { λ _. ⌜ Marked (take (from + 128) (decode (now (bytes .entry)) .arcs)) (now (index .exit)) ⌝ }
 {
-    let place = first + sizes::ARC_BYTES * from + 4;
+    let place = first + bounds::ARC_BYTES * from + 4;
     let source = wire::u16_at(bytes, place) as usize;
     if source != wire::u16_at(bytes, place + 2032) as usize {
         mark_each(bytes, first, from, from + 128, index);
@@ -127,12 +126,12 @@ pub fn put_codes(bytes: &[u8], finals: usize, codes: &mut [u32; 1024])
     ensures { λ _. ⌜ Finals-by-state (decode (now (bytes .entry))) (now (codes .exit)) ⌝ }
 {
     let mut i = 0;
-    let mut place = sizes::HEAD_BYTES;
+    let mut place = bounds::HEAD_BYTES;
     while i < finals {
         let f = check::load_final(bytes, place);
         let state = f.state as usize;
         codes[state] = f.weight + 1;
-        place += sizes::FINAL_BYTES;
+        place += bounds::FINAL_BYTES;
         i += 1;
     }
 }
