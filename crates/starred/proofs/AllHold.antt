@@ -8,7 +8,8 @@ use Prim.Native.Nat.{ℕ}
 use lib.ListN.{take, drop, replicate}
 use Rattle.wire.specs.Bytes.{two, four, low, places, every}
 use Rattle.transducer.specs.Format.{Transducer, Good}
-use Rattle.transducer.specs.Format.{framed-from, framed, records-from, records, kind-good, in-order, kinds-good, weight-at, weight-good, labels-good, finals-in, arcs-in}
+use Rattle.transducer.specs.Format.{framed-from, framed, records-from, records, kind-good, in-order, kinds-good}
+use Rattle.transducer.specs.Format.{weight-at, weight-good, labels-good, finals-in, arcs-in}
 use Rattle.transducer.specs.Format.{head-states, head-arcs, head-finals, head-start, decode, head-good, states-good, finals-rise, sources-stay, order-good}
 use Rattle.transducer.specs.Format.{all-labels-good, weights-good, first-of, content-refusal, refusal}
 use Rattle.transducer.specs.Encode.{weight-bytes, head-record, final-record, arc-record, final-records, arc-records, encode}
