@@ -13,15 +13,15 @@ use borrow.Author.Tests.{leb-true, le-leb, lt-leb}
 use Rattle.wire.specs.Bytes.{every}
 use Rattle.wire.proofs.Bool.{and-true}
 use Rattle.wire.proofs.Places.{every-append}
-use Rattle.transducer.specs.Format.{barred}
-use Rattle.lattice.specs.Apply.{max-string, string-good}
+use Rattle.transducer.specs.Format.{barred, max-symbols}
+use Rattle.lattice.specs.Apply.{string-good}
 
 abbrev symbol-good : ℕ → Bool
 symbol-good c = leb 1 c && ltb c barred
 
-pub string-short : (cs : List ℕ) → string-good cs ≡ true → length cs ≤ max-string
+pub string-short : (cs : List ℕ) → string-good cs ≡ true → length cs ≤ max-symbols
 unfolding string-good
-string-short cs good = leb-true (length cs) max-string (and-true (leb (length cs) max-string) (every symbol-good cs) good .0)
+string-short cs good = leb-true (length cs) max-symbols (and-true (leb (length cs) max-symbols) (every symbol-good cs) good .0)
 
 -- The loop
 
@@ -53,11 +53,11 @@ testing-next cs good i l inv =
           ∙ sym more;
     }
 
-pub string-long : (cs : List ℕ) → max-string < length cs → false ≡ string-good cs
+pub string-long : (cs : List ℕ) → max-symbols < length cs → false ≡ string-good cs
 unfolding string-good
-string-long cs l = rw (lt-leb (length cs) max-string l)
+string-long cs l = rw (lt-leb (length cs) max-symbols l)
 
-pub testing-stop : (cs : List ℕ) (good : Bool) (i : ℕ) → length cs ≤ max-string → length cs ≤ i → Testing cs good i → good ≡ string-good cs
+pub testing-stop : (cs : List ℕ) (good : Bool) (i : ℕ) → length cs ≤ max-symbols → length cs ≤ i → Testing cs good i → good ≡ string-good cs
 unfolding string-good
 testing-stop cs good i few stop inv =
-    rw (le-leb (length cs) max-string few) (inv .good-is ∙ ap (λ (l : List ℕ). every symbol-good l) (take-all i cs stop))
+    rw (le-leb (length cs) max-symbols few) (inv .good-is ∙ ap (λ (l : List ℕ). every symbol-good l) (take-all i cs stop))

@@ -19,17 +19,13 @@ use crate::packing;
 use explore::Walk;
 use transducer::ARC_BYTES;
 use transducer::Arc;
+use transducer::BARRED;
 use transducer::Final;
 use transducer::MAX_ARCS;
 use transducer::MAX_BYTES;
 use transducer::MAX_STATES;
+use transducer::MAX_SYMBOLS;
 use transducer::Written;
-
-// The most symbols of a string.
-const MAX_STRING: usize = 64;
-
-// The label that no arc may bear.
-const BARRED: u16 = 65535;
 
 // Where the walk writes the arcs: behind room for the head and as many finals as there can be.
 const ARCS_FROM: usize = MAX_BYTES - ARC_BYTES * MAX_ARCS;
@@ -39,7 +35,7 @@ fn string_ok(string: &[u16]) -> bool
     ensures { λ r. ⌜ r ≡ string-good (now (string .entry)) ⌝ }
 {
     let n = string.len();
-    if MAX_STRING < n {
+    if MAX_SYMBOLS < n {
         return false;
     }
     let mut good = true;

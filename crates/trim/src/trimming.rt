@@ -117,10 +117,9 @@ pub fn trim_into(table: &[u8], all_accessible: bool, out: &mut [u8], origins: &m
     let index = renumber::renumber(table, first, n, m, f, start, all_accessible);
     if index[start] == index[start + 1] {
         transducer::put_head(out, 1, 0, 0, 0);
-        let end = transducer::arcs_at(0);
-        wire::clear8(out, end);
+        wire::clear8(out, transducer::HEAD_BYTES);
         wire::clear16(origins, 0);
-        return end;
+        return transducer::HEAD_BYTES;
     }
     let finals = put_finals(table, f, &index, out);
     let at = transducer::arcs_at(finals);

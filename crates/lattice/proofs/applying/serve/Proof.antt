@@ -7,7 +7,7 @@ use mathlib.Core.List.{_∷_, []}
 use Prim.Native.Nat.{ℕ, _+_, _-_, _≤_, _<_}
 use native.Mathlib.Omega.{arith}
 use lib.ListN.{length, getD}
-use Rattle.transducer.specs.Format.{Transducer, decode, Good, max-states, max-arcs}
+use Rattle.transducer.specs.Format.{Transducer, decode, Good, max-states, max-arcs, max-symbols}
 use Rattle.transducer.proofs.RoundTrip.{accepted-good, good-range, good-content}
 use Rattle.explore.specs.Walk.{Sofar, state-served, Walked}
 use Rattle.explore.proofs.Walking.{Taking}
@@ -86,7 +86,7 @@ parts-in c = subst (λ (x : State). State-in (start c .args .string .now) (table
 state-lt : (c : tie.After-unpack Inv-loop μ-loop) → c .unpack .result .state < max-states
 state-lt c = omega (arith, parts-in c .state-in, good-range (table-of (start c)) (good (lent c)) .states)
 
-position-le : (c : tie.After-unpack Inv-loop μ-loop) → c .unpack .result .position ≤ 64
+position-le : (c : tie.After-unpack Inv-loop μ-loop) → c .unpack .result .position ≤ max-symbols
 position-le c = omega (arith, parts-in c .position-in, string-short (start c .args .string .now) (start c .pre .0 .0 .good))
 
 -- The arcs of the state stand below the number of arcs.
@@ -187,7 +187,7 @@ cast-t37 : tie.Need-cast-t37 Inv-loop μ-loop
 cast-t37 c = omega (arith, source-lt (start (opened (at-turn (c .before)))))
 
 -- The position of this step's target is at most one on.
-target-le : (c : tie.Joined1 Inv-loop μ-loop) → opened (at-turn (c .before)) .unpack .result .position + c .if1 .moved ≤ 65
+target-le : (c : tie.Joined1 Inv-loop μ-loop) → opened (at-turn (c .before)) .unpack .result .position + c .if1 .moved ≤ max-symbols + 1
 target-le c =
     let l = position-le (opened (at-turn (c .before))) in
     ⊎-elim (λ w. omega (arith, l, w .2)) (λ w. omega (arith, l, w .1)) (c .if1 .came)

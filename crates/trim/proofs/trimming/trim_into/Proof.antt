@@ -1,6 +1,6 @@
 -- The head, the new numbers, and either the start alone or what is kept: each call says what it leaves, and the laws of `TrimSays` put it together.
 use borrow.Author.Needs.{needs}
-use mathlib.Core.Path.{_≡_, _∙_}
+use mathlib.Core.Path.{_≡_, refl, _∙_}
 use mathlib.Core.List.{List}
 use Prim.Native.Nat.{ℕ, _+_, _*_, _≤_, _<_}
 use native.Mathlib.Omega.{arith}
@@ -59,12 +59,9 @@ head-at c = head-of (finals-put c)
 abbrev arcs-of : tie.After-put-head2 → tie.After-put-arcs
 arcs-of c = arcs-put (arg-put (c .before))
 
--- Where nothing is useful: the head put, and where the bytes end.
+-- Where nothing is useful: the head put, the table cleared behind it.
 abbrev lone-head : tie.After-slice-known3 → tie.After-put-head
 lone-head c = c .before .before
-
-abbrev lone-end : tie.After-clear8 → tie.After-arcs-at2
-lone-end c = c .before .before
 
 abbrev lone-table : tie.After-clear16 → tie.After-clear8
 lone-table c = c .before .before .before .before
@@ -106,8 +103,8 @@ few-arcs c =
     let t = decode (bytes-of h) in
     omega (arith, c .put-arcs .ensures .count-is, length-kept-arcs t (t .arcs), head-is h .arcs-are, head-is h .few-arcs)
 
-fits : (c : tie.After-arcs-at3) → c .arcs-at3 .result + arc-bytes * max-arcs ≤ length (start (head-of (c .before .before .before)) .args .out .now)
-fits c = let put = c .before .before .before in omega (arith, c .arcs-at3 .ensures, few-finals put, start (head-of put) .pre .1)
+fits : (c : tie.After-arcs-at2) → c .arcs-at2 .result + arc-bytes * max-arcs ≤ length (start (head-of (c .before .before .before)) .args .out .now)
+fits c = let put = c .before .before .before in omega (arith, c .arcs-at2 .ensures, few-finals put, start (head-of put) .pre .1)
 
 header-requires : tie.Need-header-requires
 header-requires c κs =
@@ -153,13 +150,10 @@ array-read-if1-2 c = omega (arith, start-small (opened c))
 put-head-requires : tie.Need-put-head-requires
 put-head-requires c κs = omega (arith, start (opened (c .before .before)) .pre .1)
 
-arcs-at-requires-2 : tie.Need-arcs-at-requires-2
-arcs-at-requires-2 c κs = omega arith
-
 clear8-requires : tie.Need-clear8-requires
 clear8-requires c κs =
-    let head = lone-head (c .before .before) in
-    omega (arith, c .before .arcs-at2 .ensures, head .put-head .kept, start (opened (none-useful head .before)) .pre .1)
+    let head = lone-head (c .before) in
+    omega (arith, head .put-head .kept, start (opened (none-useful head .before)) .pre .1)
 
 clear16-requires : tie.Need-clear16-requires
 clear16-requires c κs = omega arith
@@ -174,13 +168,12 @@ returns : tie.Need-returns
 returns c =
     let zeroed = c .before .before in
     let table = lone-table zeroed in
-    let end = lone-end table in
-    let head = lone-head (end .before) in
+    let head = lone-head (table .before .before) in
     let none = none-useful head in
     let h = opened (none .before) in
     let t = decode (bytes-of h) in
     trims-lone t (start h .args .out .now) (start h .args .origins .now) (h .header .result .start) _ (head-is h .start-is)
-    (index-no (none .before .renumber .ensures) (h .header .result .start) (start-below h) (none .if1 .taken)) (end .arcs-at2 .ensures)
+    (index-no (none .before .renumber .ensures) (h .header .result .start) (start-below h) (none .if1 .taken)) refl
     (omega (arith, start h .pre .1)) (head .put-head .ensures) (table .clear8 .ensures) (zeroed .clear16 .ensures)
 
 put-finals-requires : tie.Need-put-finals-requires
@@ -189,8 +182,8 @@ put-finals-requires c κs =
     let h = opened (some .before) in
     (start h .pre .0, head-is h .head-finals-are, some .before .renumber .ensures, omega (arith, head-is h .few-finals, start h .pre .1))
 
-arcs-at-requires-3 : tie.Need-arcs-at-requires-3
-arcs-at-requires-3 c κs = omega (arith, few-finals (c .before .before))
+arcs-at-requires-2 : tie.Need-arcs-at-requires-2
+arcs-at-requires-2 c κs = omega (arith, few-finals (c .before .before))
 
 put-arcs-requires : tie.Need-put-arcs-requires
 put-arcs-requires c κs =
@@ -211,7 +204,7 @@ mul-end c = omega (arith, few-arcs (c .before .before .before .before))
 add-end : tie.Need-add-end
 add-end c =
     let put = c .before .before .before .before in
-    omega (arith, few-arcs put, few-finals (finals-put put), put .before .before .before .before .arcs-at3 .ensures)
+    omega (arith, few-arcs put, few-finals (finals-put put), put .before .before .before .before .arcs-at2 .ensures)
 
 mul-put-head : tie.Need-mul-put-head
 mul-put-head c = omega (arith, head-is (head-at (arcs-put c)) .few-states)
@@ -278,7 +271,7 @@ returns-2 c =
     (index-yes index (h .header .result .start) (start-below h) (some .if1 .left))
     (index-at index (h .header .result .states) (t .states) (k .states-are) (omega arith))
     (head .before .new-number .ensures ∙ index-at index (h .header .result .start) (t .start) (k .start-is) start-under)
-    (finals .put-finals .ensures .0) (at .arcs-at3 .ensures) (omega (arith, fits at, few-arcs arcs)) (omega (arith, few-arcs arcs, start h .pre .2))
+    (finals .put-finals .ensures .0) (at .arcs-at2 .ensures) (omega (arith, fits at, few-arcs arcs)) (omega (arith, few-arcs arcs, start h .pre .2))
     (finals .put-finals .ensures .1) (arcs .put-arcs .ensures) (head .put-head2 .ensures) (table .clear82 .ensures) (zeroed .clear162 .ensures)
 
 pub trim-into-spec : {M : Type 1} → statement M
@@ -298,14 +291,13 @@ trim-into-spec =
     mul-if1-2
     array-read-if1-2
     put-head-requires
-    arcs-at-requires-2
     clear8-requires
     clear16-requires
     same-length
     same-length-2
     returns
     put-finals-requires
-    arcs-at-requires-3
+    arcs-at-requires-2
     put-arcs-requires
     mul-end
     add-end
