@@ -1,6 +1,6 @@
 -- States that are counted once no arc of theirs is open. An arc taken off its source's number is done; where it was the last open one its source
 -- goes on the stack. Assumes nothing.
-use mathlib.Core.Path.{_≡_, refl, sym, ap, _∙_}
+use mathlib.Core.Path.{_≡_, sym, ap, _∙_}
 use mathlib.Core.Bool.{Bool, true, false, _&&_, not, cond}
 use mathlib.Core.List.{List}
 use Prim.Native.Nat.{ℕ, zero, suc, _+_, _-_, _≤_, _<_}
@@ -282,9 +282,6 @@ module _ (t : Transducer) (z : Sized t) (d e : ℕ → Bool) (ms : List Bool) (l
 
   pub off-some : 0 < getD left u 0
   off-some = omega (arith, w .opened .lefts u (omega (arith, is-state, z .states)), fewer)
-
-  off-left : List ℕ
-  off-left = set left u (getD left u 0 - 1)
 
   off-here : getD (set left u (getD left u 0 - 1)) u 0 ≡ getD left u 0 - 1
   off-here = getD-set-same left u (getD left u 0 - 1) 0 (omega (arith, w .opened .long, is-state, z .states))

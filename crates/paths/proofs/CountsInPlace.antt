@@ -14,7 +14,7 @@ use Rattle.reach.specs.Reach.{coaccessible}
 use Rattle.paths.specs.declared.Count.{Count}
 use Rattle.paths.specs.Count.{paths-from, goes-on, most-counted}
 use Rattle.paths.specs.Tally.{add-all, tally}
-use Rattle.paths.specs.Sweep.{at-state, marked, leads-on, Tallied, Path-counts, Totals-say}
+use Rattle.paths.specs.Sweep.{at-state, marked, leads-on, Tallied, Totals-say}
 use Rattle.paths.specs.Counting.{Rested}
 use Rattle.paths.proofs.GoesOn.{dead-none}
 use Rattle.paths.proofs.Tally.{add-all-same}

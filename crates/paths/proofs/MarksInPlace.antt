@@ -10,7 +10,6 @@ use lib.Seq.{getD-set-same, getD-set-other}
 use Rattle.wire.proofs.Bool.{clash}
 use Rattle.transducer.specs.Format.{Transducer}
 use Rattle.transducer.specs.Path.{arc}
-use Rattle.reach.specs.Reach.{some-arc}
 use Rattle.reach.proofs.Reach.{at-some-arc}
 use Rattle.paths.specs.Sweep.{marked, leads-on}
 

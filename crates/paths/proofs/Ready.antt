@@ -14,8 +14,7 @@ use Rattle.transducer.specs.Path.{arc, is-final, final-weight}
 use Rattle.transducer.specs.Leaf.{header-of, Opened, arcs-below, Indexed, final-code, Finals-by-state}
 use Rattle.transducer.proofs.Good.{Content}
 use Rattle.transducer.proofs.Index.{arcs-below-length, arcs-below-mono, arcs-of-state, state-of-arcs, arcs-below-states}
-use Rattle.transducer.proofs.Offsets.{length-accepted, accepted-within, accepted-good, decode-states, decode-start, length-arcs}
-use Rattle.transducer.proofs.Runs.{Within, states-good-within}
+use Rattle.transducer.proofs.Offsets.{length-accepted, accepted-within, decode-states, decode-start, length-arcs}
 pub use Rattle.reach.proofs.Sized.{Sized, sized}
 use Rattle.paths.specs.Tally.{own}
 

@@ -5,15 +5,14 @@ use mathlib.Core.Bool.{Bool, true, false, _||_, not, cond}
 use mathlib.Core.Logic.{_⊎_, inl, inr}
 use mathlib.Core.List.{List, _∷_}
 use Prim.Native.Nat.{ℕ, _+_, _≤_, _<_, min}
-use native.Mathlib.Numerals.{add-one}
 use native.Mathlib.Omega.{arith}
 use native.Mathlib.Decide.{ℕ-discrete}
-use lib.ListN.{length, getD, set, replicate, length-set, length-replicate}
+use lib.ListN.{length, set, replicate, length-set, length-replicate}
 use borrow.Author.Tests.{not-true}
 use Rattle.wire.proofs.Bool.{clash, is-false}
 use Rattle.transducer.specs.Format.{Transducer}
 use Rattle.transducer.specs.Path.{arc}
-use Rattle.transducer.proofs.Runs.{cons-accepting, nil-accepting}
+use Rattle.transducer.proofs.Runs.{cons-accepting}
 use Rattle.reach.specs.Reach.{some-arc, coaccessible}
 use Rattle.reach.specs.Marks.{Marked}
 use Rattle.reach.proofs.Reach.{SomeAt, some-arc-at, coaccessible-path}

@@ -1,6 +1,6 @@
 -- `endless` found by marks that are set state by state, in any order: a state may be marked once all its arcs lead to marked ones, and a dead state at
 -- any time. From the states that are left unmarked arcs lead on for ever. Assumes nothing.
-use mathlib.Core.Path.{_≡_, refl, sym, ap, _∙_}
+use mathlib.Core.Path.{_≡_, refl, sym, _∙_}
 use mathlib.Core.Bool.{Bool, true, false, not}
 use mathlib.Core.Logic.{_⊎_, inl, inr}
 use Prim.Native.Nat.{ℕ, zero, suc, _≤_, _<_}

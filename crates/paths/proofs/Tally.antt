@@ -2,12 +2,11 @@
 use mathlib.Core.Path.{_≡_, refl, sym, ap, _∙_}
 use mathlib.Core.Bool.{Bool, true, false, cond}
 use mathlib.Core.List.{List, [], _∷_, _++_, map}
-use Prim.Native.Nat.{ℕ, zero, suc, _+_, _-_, _≤_, _<_, min}
+use Prim.Native.Nat.{ℕ, zero, suc, _+_, _≤_, _<_, min}
 use native.Mathlib.Omega.{arith}
 use lib.Dec.{eqb}
-use lib.ListN.{length, getD, take, drop, length-append, length-map, length-drop, take-append-drop}
-use lib.Seq.{drop-cons, getD-take, getD-drop, length-take-le}
-use borrow.Author.Tests.{eqb-true, eq-eqb, ne-eqb}
+use lib.ListN.{length, getD, length-append, length-map}
+use borrow.Author.Tests.{eqb-true}
 use Rattle.transducer.specs.declared.Arc.{Arc}
 use Rattle.transducer.specs.Format.{Transducer}
 use Rattle.transducer.specs.Path.{arc, no-arc, is-final}
@@ -15,62 +14,6 @@ use Rattle.transducer.specs.Each.{by-number, each-arc}
 use Rattle.paths.specs.Count.{paths-from}
 use Rattle.paths.specs.Tally.{add, own, add-arcs, add-all, tally}
 use Rattle.paths.proofs.Listed.{empty-path, by-arcs}
-
--- add-arcs, one arc at a time
-
-pub add-arcs-append : (l m : List Arc) (s : ℕ) (c : ℕ → ℕ) (x : ℕ) → add-arcs (l ++ m) s c x ≡ add-arcs m s c (add-arcs l s c x)
-unfolding add-arcs
-add-arcs-append [] m s c x = refl
-add-arcs-append (a ∷ l) m s c x = add-arcs-append l m s c (cond (eqb (a .source) s) (add x (c (a .target))) x)
-
-pub add-arcs-drop : (l : List Arc) (i s : ℕ) (c : ℕ → ℕ) (x : ℕ) → i < length l
-    → add-arcs (drop i l) s c x
-    ≡ add-arcs (drop (suc i) l) s c (cond (eqb (getD l i no-arc .source) s) (add x (c (getD l i no-arc .target))) x)
-unfolding add-arcs
-add-arcs-drop l i s c x h = rw (drop-cons l i no-arc h)
-
--- Arcs of other states add nothing.
-pub add-arcs-other : (l : List Arc) (s : ℕ) (c : ℕ → ℕ) (x : ℕ) → ((i : ℕ) → i < length l → getD l i no-arc .source ≡ s → ⊥) → add-arcs l s c x ≡ x
-unfolding add-arcs
-add-arcs-other [] s c x h = refl
-add-arcs-other (a ∷ l) s c x h =
-    let other : eqb (a .source) s ≡ false = ne-eqb (a .source) s (h 0 (omega arith)) in
-    rw other (add-arcs-other l s c x (λ i b. h (suc i) (omega arith)))
-
--- The arcs of a state by their numbers: those before its first and behind its last add nothing, each of its own adds its target's count.
-
-pub add-all-first : (t : Transducer) (c : ℕ → ℕ) (s i : ℕ) → i ≤ length (t .arcs) → ((j : ℕ) → j < i → arc t j .source ≡ s → ⊥)
-    → add-all t c s ≡ add-arcs (drop i (t .arcs)) s c (own t s)
-unfolding add-all arc
-add-all-first t c s i b h =
-    ap (λ (l : List Arc). add-arcs l s c (own t s)) (sym (take-append-drop i (t .arcs)))
-    ∙ (add-arcs-append (take i (t .arcs)) (drop i (t .arcs)) s c (own t s)
-    ∙ ap (λ (x : ℕ). add-arcs (drop i (t .arcs)) s c x) (add-arcs-other (take i (t .arcs)) s c (own t s) inner))
-  where
-    inner : (j : ℕ) → j < length (take i (t .arcs)) → getD (take i (t .arcs)) j no-arc .source ≡ s → ⊥
-    inner j k e =
-        let n : length (take i (t .arcs)) ≡ i = length-take-le i (t .arcs) b in
-        let l : j < i = omega arith in
-        let g : getD (take i (t .arcs)) j no-arc ≡ getD (t .arcs) j no-arc = getD-take i (t .arcs) j no-arc l in
-        h j l (rw g at e)
-
-pub add-arcs-next : (t : Transducer) (c : ℕ → ℕ) (s i x : ℕ) → i < length (t .arcs) → arc t i .source ≡ s
-    → add-arcs (drop i (t .arcs)) s c x ≡ add-arcs (drop (suc i) (t .arcs)) s c (add x (c (arc t i .target)))
-unfolding arc
-add-arcs-next t c s i x b e =
-    let test : eqb (getD (t .arcs) i no-arc .source) s ≡ true = eq-eqb (getD (t .arcs) i no-arc .source) s e in
-    rw (add-arcs-drop (t .arcs) i s c x b, test)
-
-pub add-arcs-last : (t : Transducer) (c : ℕ → ℕ) (s i x : ℕ) → ((j : ℕ) → i ≤ j → j < length (t .arcs) → arc t j .source ≡ s → ⊥)
-    → add-arcs (drop i (t .arcs)) s c x ≡ x
-unfolding arc
-add-arcs-last t c s i x h = add-arcs-other (drop i (t .arcs)) s c x inner
-  where
-    inner : (j : ℕ) → j < length (drop i (t .arcs)) → getD (drop i (t .arcs)) j no-arc .source ≡ s → ⊥
-    inner j k e =
-        let n : length (drop i (t .arcs)) ≡ length (t .arcs) - i = length-drop i (t .arcs) in
-        let g : getD (drop i (t .arcs)) j no-arc ≡ getD (t .arcs) (i + j) no-arc = getD-drop i (t .arcs) j no-arc in
-        h (i + j) (omega arith) (omega arith) (rw g at e)
 
 -- The sum without a cap.
 
@@ -91,10 +34,6 @@ add-arcs-sum (a ∷ l) s c x h = on (λ y b. add-arcs-sum l s c y b) (eqb (a .so
     on below false =
         let r : add-arcs l s c x ≡ min 99 (x + sum-arcs l s c) = below x h in
         omega arith
-
--- A sum at its most stays there.
-pub add-arcs-most : (l : List Arc) (s : ℕ) (c : ℕ → ℕ) (x : ℕ) → x ≡ 99 → add-arcs l s c x ≡ x
-add-arcs-most l s c x e = omega (arith, add-arcs-sum l s c x (omega arith))
 
 pub own-small : (t : Transducer) (s : ℕ) → own t s ≤ 1
 unfolding own

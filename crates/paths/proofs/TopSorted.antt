@@ -27,7 +27,7 @@ use Rattle.reach.specs.Reach.{some-arc}
 use Rattle.reach.proofs.Reach.{SomeAt, some-arc-at}
 use Rattle.paths.specs.Count.{goes-on, endless}
 use Rattle.paths.specs.Tally.{add, own, add-all, tally}
-use Rattle.paths.specs.Sweep.{at-state, Path-counts, Totals-say}
+use Rattle.paths.specs.Sweep.{at-state, Totals-say}
 use Rattle.paths.specs.TopSorted.{Top-sorted, Empty-paths}
 use Rattle.paths.proofs.Tally.{sum-arcs, sum-arcs-monotone, add-all-sum, add-all-same, own-small}
 use Rattle.paths.proofs.Sweep.{finite-tally}
