@@ -19,18 +19,8 @@ use Rattle.explore.proofs.Finals.{not-final-weight}
 use Rattle.steps.specs.declared.State.{State}
 use Rattle.compose.specs.Compose.{final-state, state-weight}
 use Rattle.compose.specs.Finished.{key-final, key-weight}
-use Rattle.steps.specs.Packing.{pack, unpacked}
-use Rattle.steps.proofs.Packing.{Bounded, unpacked-pack}
-
--- The parts of a key are states.
-pub key-parts : (k : ℕ) (x : State) → x ≡ unpacked k → k < 2097152 → (x .left < 1024) × (x .right < 1024)
-unfolding unpacked
-key-parts k x e h = rw e (omega arith, omega arith)
-
--- There are two filter states.
-pub key-filter : (k : ℕ) (x : State) → x ≡ unpacked k → x .filter < 2
-unfolding unpacked
-key-filter k x e = rw e (omega arith)
+use Rattle.steps.specs.Packing.{pack, unpacked, Bounded}
+use Rattle.steps.proofs.Packing.{unpacked-pack}
 
 -- key-final, by the two codes
 

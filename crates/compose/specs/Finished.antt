@@ -13,7 +13,7 @@ use Rattle.transducer.specs.Weight.{plus}
 use Rattle.explore.specs.declared.Walk.{Walk}
 use Rattle.explore.specs.Explore.{finals-from}
 use Rattle.explore.specs.Walk.{Told}
-use Rattle.steps.specs.Packing.{unpacked}
+use Rattle.steps.specs.Packing.{unpacked, Bounded}
 use Rattle.compose.specs.Walk.{key-walk}
 
 -- Whether the state of a key is final, by the final codes of its parts, and with which weight.
@@ -31,7 +31,7 @@ pub record Finishable (lcodes rcodes states : List ℕ) (count : ℕ) (table : L
   pub few : count ≤ 1024
   pub stored : count ≤ length states
   pub room : 10252 ≤ length table
-  pub keys : (i : ℕ) → i < count → getD states i 0 < 2097152
+  pub keys : (i : ℕ) → i < count → Bounded (unpacked (getD states i 0))
   pub left : (s : ℕ) → s < 1024 → getD lcodes s 0 ≤ 1000001
   pub right : (s : ℕ) → s < 1024 → getD rcodes s 0 ≤ 1000001
 

@@ -1,26 +1,10 @@
 // What is left when the walk is done: the finals, or zeros.
-ghost use mathlib.Core.Path.{_≡_};
-ghost use Prim.Native.Nat.{_<_};
 ghost use lib.ListN.{take};
 ghost use Rattle.explore.specs.Walk.{Finals-stored};
 ghost use Rattle.compose.specs.Finished.{key-finals, Finishable, Refused-with};
 use explore::FinalsPut;
 use transducer::Final;
 use transducer::Written;
-
-// States are final by their parts in both filter states.
-const FINAL_FILTERS: u32 = 2;
-
-// A final code as it counts in a filter state.
-fn counted(code: u32, filter: u32) -> u32
-    requires { ⌜ filter < 2 ⌝ }
-    ensures { λ r. ⌜ r ≡ code ⌝ }
-{
-    if filter < FINAL_FILTERS {
-        return code;
-    }
-    0
-}
 
 // Writes the finals of `count` states, in order, from 12 on.
 pub fn put_finals(
@@ -43,7 +27,7 @@ pub fn put_finals(
         let p = x.left as usize;
         let q = x.right as usize;
         let a = lcodes[p];
-        let b = counted(rcodes[q], x.filter);
+        let b = rcodes[q];
         s += 1;
         if a != 0 {
             if b != 0 {

@@ -2,6 +2,7 @@ pub mod Moves
 pub mod Labels
 pub mod SameState
 pub mod Packing
+pub mod Within
 pub mod RunSteps
 pub mod Leaving
 pub mod Reading

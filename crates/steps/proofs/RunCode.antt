@@ -14,7 +14,6 @@ use Rattle.transducer.specs.Path.{arc}
 use Rattle.transducer.specs.Leaf.{Opened}
 use Rattle.transducer.proofs.Offsets.{arc-offset, length-accepted, length-arcs}
 use Rattle.transducer.proofs.Accept.{Bounds, bounds}
-use Rattle.steps.specs.declared.Run.{Run}
 use Rattle.steps.specs.Runs.{reading-from, begin-from}
 
 -- Accepted bytes
@@ -41,14 +40,13 @@ module _ (bs : List ℕ) (bytes : Bytes bs) (first : ℕ) (opened : Opened bs fi
   pub opened-few : length (decode bs .arcs) ≤ 3072
   opened-few = let b : Bounds bs = bounds bytes (opened .accepted) in omega (arith, b .arcs-long, b .arcs)
 
+  pub opened-target : (j : ℕ) → j < length (decode bs .arcs) → arc (decode bs) j .target < 1024
+  opened-target j h =
+      let b : Bounds bs = bounds bytes (opened .accepted) in
+      omega (arith, b .target j (omega (arith, b .arcs-long)), b .states)
+
   pub opened-weight : (j : ℕ) → j < length (decode bs .arcs) → arc (decode bs) j .weight ≤ 1000000
   opened-weight j h = let b : Bounds bs = bounds bytes (opened .accepted) in b .weight j (omega (arith, b .arcs-long))
-
--- Runs that differ in their target alone.
-pub to-target : {alone : Bool} {left label input target target' weight : ℕ} → target ≡ target'
-    → _≡_ {A = Run} (record { alone = alone; left = left; label = label; input = input; target = target; weight = weight })
-    (record { alone = alone; left = left; label = label; input = input; target = target'; weight = weight })
-to-target e = rw e
 
 -- begin-from
 

@@ -36,13 +36,14 @@ pub struct Step {
 }
 
 // Steps that differ in their right arc alone: of one left arc alone, of one left arc with each right arc that reads `label`, or of the
-// right arcs alone that read nothing (then `left` is 65,535).
+// right arcs alone that read nothing (then `left` is 65,535). The right part of `target` is where a left arc alone leads; a right arc leads
+// to its own target.
 pub struct Run {
     pub alone: bool,
     pub left: u16,
     pub label: u16,
     pub input: u16,
-    pub target: u32,
+    pub target: State,
     pub weight: u32,
 }
 

@@ -16,7 +16,7 @@ use Rattle.steps.specs.Steps.{same-state, steps, first-state, origin-pair}
 use Rattle.steps.specs.Packing.{pack}
 use Rattle.compose.specs.Walk.{key-steps}
 use Rattle.compose.proofs.Explored.{composed-keying, key-inside}
-use Rattle.steps.proofs.Packing.{Within}
+use Rattle.steps.proofs.Within.{Within}
 use Rattle.compose.proofs.walking.walk_all.Statement.{statement}
 use Rattle.compose.proofs.walking.walk_all.Tie as tie
 
