@@ -10,6 +10,10 @@ max-states = 1024
 abbrev pub max-arcs : ℕ
 max-arcs = 3072
 
+-- An index by state has one entry more than there are states.
+abbrev pub index-long : ℕ
+index-long = max-states + 1
+
 abbrev pub max-weight : ℕ
 max-weight = 1000000
 

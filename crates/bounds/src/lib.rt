@@ -7,6 +7,9 @@ pub const MAX_STATES: usize = 1024;
 
 pub const MAX_ARCS: usize = 3072;
 
+// An index by state has one entry more than there are states.
+pub const INDEX_LEN: usize = MAX_STATES + 1;
+
 pub const MAX_WEIGHT: u32 = 1000000;
 
 // The label that no arc may bear.

@@ -10,7 +10,7 @@ use Rattle.transducer.specs.declared.Arc.{Arc}
 use Rattle.transducer.specs.declared.Final.{Final}
 use Rattle.transducer.specs.declared.Header.{Header}
 use Rattle.transducer.specs.declared.Written.{Written}
-use Rattle.transducer.specs.Format.{Transducer, max-states, max-arcs, max-bytes, refusal, decode, head-good, content-refusal}
+use Rattle.transducer.specs.Format.{Transducer, max-states, max-arcs, max-fields, max-bytes, refusal, decode, head-good, content-refusal}
 use Rattle.transducer.specs.Encode.{encode}
 use Rattle.transducer.specs.Entry.{or-else, unless, left-in}
 
@@ -21,7 +21,7 @@ arc-fields (a ∷ as') = a .source ∷ a .input ∷ a .output ∷ a .target ∷ 
 
 -- Reading: 1 to 8, then 10 for a buffer that is too short.
 unfoldable pub read-room : (states weights fields arc-weights : ℕ) → ℕ
-read-room a b c d = cond (ltb a max-states || (ltb b max-states || (ltb c (4 * max-arcs) || ltb d max-arcs))) 10 0
+read-room a b c d = cond (ltb a max-states || (ltb b max-states || (ltb c max-fields || ltb d max-arcs))) 10 0
 
 unfoldable pub read-refusal : List ℕ → (states weights fields arc-weights : ℕ) → ℕ
 read-refusal bs a b c d = or-else (refusal bs) (read-room a b c d)

@@ -6,7 +6,7 @@ use lib.ListN.{length, take}
 use Rattle.wire.specs.Bytes.{Bytes, filled}
 use Rattle.transducer.specs.declared.Header.{Header}
 use Rattle.transducer.specs.declared.Written.{Written}
-use Rattle.transducer.specs.Format.{max-states, max-arcs, max-bytes}
+use Rattle.transducer.specs.Format.{max-states, max-arcs, max-fields, max-bytes}
 use Rattle.codec.specs.Entry.{Read-says, read-refusal, Write-says, write-refusal, given}
 
 -- The four buffers that reading is lent, and the four runs that writing is handed.
@@ -69,7 +69,7 @@ pub record Written-then-read : Type 0 where
   pub read : Answers-read (take (writing .len) out-left) reading lent left
   pub final-states-room : max-states ≤ length (lent .final-states)
   pub final-weights-room : max-states ≤ length (lent .final-weights)
-  pub fields-room : 4 * max-arcs ≤ length (lent .fields)
+  pub fields-room : max-fields ≤ length (lent .fields)
   pub arc-weights-room : max-arcs ≤ length (lent .arc-weights)
 
 -- Reading is not refused, and gives the four numbers and, of each run, what stands for the finals or the arcs, zeros behind it.

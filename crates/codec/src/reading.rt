@@ -3,9 +3,14 @@ ghost use mathlib.Core.Path.{_≡_};
 ghost use Prim.Native.Nat.{ℕ, _+_, _*_, _≤_, _<_};
 ghost use lib.ListN.{length};
 ghost use Rattle.wire.specs.Bytes.{two, four, places, filled};
-ghost use Rattle.transducer.specs.Format.{arc-at};
+ghost use Rattle.transducer.specs.Format.{arc-bytes, arc-at};
 ghost use Rattle.codec.specs.Entry.{Read-says, read-refusal, arc-fields};
 use transducer::Header;
+
+// Where the first final's state and weight stand.
+const STATE_AT: usize = transducer::HEAD_BYTES + 4;
+
+const WEIGHT_AT: usize = transducer::HEAD_BYTES + 6;
 
 // What reading answers where it refuses.
 fn unread(number: u32) -> Header
@@ -23,7 +28,7 @@ fn unread(number: u32) -> Header
 // Copies `count` numbers of two bytes, the first at `at`, each `step` past the one before, to the front of `out`;
 // behind them it puts zeros.
 fn copy16(bytes: &[u8], at: usize, step: usize, count: usize, out: &mut [u16])
-    requires { ⌜ (count ≤ length (now out)) × (at + step * count + 2 ≤ length (now bytes) + step) × (step ≤ 16) ⌝ }
+    requires { ⌜ (count ≤ length (now out)) × (at + step * count + 2 ≤ length (now bytes) + step) × (step ≤ arc-bytes) ⌝ }
     ensures { λ _. ⌜ now (out .exit) ≡ filled (length (now (out .entry))) (places count at step (two (now (bytes .entry)))) ⌝ }
 {
     let mut place = at;
@@ -39,7 +44,7 @@ fn copy16(bytes: &[u8], at: usize, step: usize, count: usize, out: &mut [u16])
 // Copies `count` numbers of four bytes, the first at `at`, each `step` past the one before, to the front of `out`;
 // behind them it puts zeros.
 fn copy32(bytes: &[u8], at: usize, step: usize, count: usize, out: &mut [u32])
-    requires { ⌜ (count ≤ length (now out)) × (at + step * count + 4 ≤ length (now bytes) + step) × (step ≤ 16) ⌝ }
+    requires { ⌜ (count ≤ length (now out)) × (at + step * count + 4 ≤ length (now bytes) + step) × (step ≤ arc-bytes) ⌝ }
     ensures { λ _. ⌜ now (out .exit) ≡ filled (length (now (out .entry))) (places count at step (four (now (bytes .entry)))) ⌝ }
 {
     let mut place = at;
@@ -54,8 +59,8 @@ fn copy32(bytes: &[u8], at: usize, step: usize, count: usize, out: &mut [u32])
 
 // Copies the four fields of `count` arcs whose records begin at `at` to the front of `out`; behind them it puts zeros.
 fn copy_fields(bytes: &[u8], at: usize, count: usize, out: &mut [u16])
-    requires { ⌜ (4 * count ≤ length (now out)) × (at + 16 * count ≤ length (now bytes)) ⌝ }
-    ensures { λ _. ⌜ now (out .exit) ≡ filled (length (now (out .entry))) (arc-fields (places count at 16 (arc-at (now (bytes .entry))))) ⌝ }
+    requires { ⌜ (4 * count ≤ length (now out)) × (at + arc-bytes * count ≤ length (now bytes)) ⌝ }
+    ensures { λ _. ⌜ now (out .exit) ≡ filled (length (now (out .entry))) (arc-fields (places count at arc-bytes (arc-at (now (bytes .entry))))) ⌝ }
 {
     let mut place = at;
     let mut i = 0;
@@ -80,7 +85,8 @@ pub fn read(
     arc_weights: &mut [u32],
 ) -> Header
     ensures { λ r. ⌜ Read-says (now (bytes .entry))
-        (read-refusal (now (bytes .entry)) (length (now («final_states» .entry))) (length (now («final_weights» .entry))) (length (now (fields .entry))) (length (now («arc_weights» .entry))))
+        (read-refusal (now (bytes .entry)) (length (now («final_states» .entry))) (length (now («final_weights» .entry)))
+        (length (now (fields .entry))) (length (now («arc_weights» .entry))))
         r (now («final_states» .entry)) (now («final_states» .exit)) (now («final_weights» .entry)) (now («final_weights» .exit))
         (now (fields .entry)) (now (fields .exit)) (now («arc_weights» .entry)) (now («arc_weights» .exit)) ⌝ }
 {
@@ -104,8 +110,8 @@ pub fn read(
     let f = head.finals as usize;
     let m = head.arcs as usize;
     let first = transducer::arcs_at(f);
-    copy16(bytes, 16, transducer::FINAL_BYTES, f, final_states);
-    copy32(bytes, 18, transducer::FINAL_BYTES, f, final_weights);
+    copy16(bytes, STATE_AT, transducer::FINAL_BYTES, f, final_states);
+    copy32(bytes, WEIGHT_AT, transducer::FINAL_BYTES, f, final_weights);
     copy_fields(bytes, first, m, fields);
     copy32(bytes, first + 12, transducer::ARC_BYTES, m, arc_weights);
     head

@@ -4,7 +4,7 @@ use mathlib.Core.Logic.{_↔_}
 use mathlib.Core.List.{List, _∷_}
 use Prim.Native.Nat.{ℕ, _≤_}
 use lib.ListN.{length}
-use Rattle.transducer.specs.Format.{Transducer}
+use Rattle.transducer.specs.Format.{max-states, Transducer}
 use Rattle.explore.specs.Explore.{targets, built-refusal}
 use Rattle.explore.proofs.Numbered as numbering
 use Rattle.explore.proofs.Numbered.{Numbered, More-reached, built-numbered}
@@ -14,7 +14,7 @@ use Rattle.lattice.proofs.LatticeGood.{state-weight}
 use Rattle.lattice.proofs.SameState.{same-state-decides}
 
 module _ (cs : List ℕ) (t : Transducer) where
-  pub applied-numbered : length (applied cs t .states) ≤ 1024
+  pub applied-numbered : length (applied cs t .states) ≤ max-states
       → Numbered same-state (steps cs t) (first-state t) (applied cs t .states) (first-state t ∷ targets (applied cs t .steps))
   unfolding applied
   applied-numbered = built-numbered same-state (steps cs t) (final-state cs t) (state-weight t) (first-state t) same-state-decides

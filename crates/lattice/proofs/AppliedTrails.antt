@@ -51,7 +51,8 @@ leads-none cs t x y e =
     }
 
 leads-empty : (cs : List ℕ) (t : Transducer) (x : State) (i : ℕ) (ss : List (Step State ℕ)) (y : State) → i < length (t .arcs)
-    → arc t i .source ≡ x .state → arc t i .input ≡ 0 → Trail-path cs t (empty-step x i (arc t i) .target) ss y → Trail-path cs t x (empty-step x i (arc t i) ∷ ss) y
+    → arc t i .source ≡ x .state → arc t i .input ≡ 0 → Trail-path cs t (empty-step x i (arc t i) .target) ss y
+    → Trail-path cs t x (empty-step x i (arc t i) ∷ ss) y
 unfolding empty-step step ends written-by read-by arcs-cost inputs outputs weights numbers
 leads-empty cs t x i ss y below leaves empty l =
     record {

@@ -5,7 +5,7 @@ use mathlib.Core.Logic.{_↔_}
 use mathlib.Core.List.{List, [], _∷_, map}
 use Prim.Native.Nat.{ℕ, _≤_, _<_}
 use lib.ListN.{length, getD}
-use Rattle.transducer.specs.Format.{Transducer, Good}
+use Rattle.transducer.specs.Format.{max-states, Transducer, Good}
 use Rattle.explore.specs.Explore.{Step}
 use Rattle.explore.specs.Walk.{all-origins}
 use Rattle.explore.proofs.ExploredKeys.{explored-keys, explored-length, explored-key, explored-over, explored-arcs, explored-origins}
@@ -31,7 +31,7 @@ module _ (cs : List ℕ) (t : Transducer) (good : Good t) where
   unfolding applied
   found-length = explored-length (keying cs t good) (final-state cs t) (state-weight t)
 
-  pub found-over : (1024 < length (found cs t .keys)) ↔ (1024 < length (applied cs t .states))
+  pub found-over : (max-states < length (found cs t .keys)) ↔ (max-states < length (applied cs t .states))
   unfolding applied
   found-over = explored-over (keying cs t good) (final-state cs t) (state-weight t)
 
@@ -41,7 +41,7 @@ module _ (cs : List ℕ) (t : Transducer) (good : Good t) where
   unfolding applied
   found-key i d l = explored-key (keying cs t good) (final-state cs t) (state-weight t) i d l
 
-  module _ (few : length (applied cs t .states) ≤ 1024) where
+  module _ (few : length (applied cs t .states) ≤ max-states) where
     pub found-arcs : found cs t .arcs ≡ applied cs t .result .arcs
     unfolding applied
     found-arcs = explored-arcs (keying cs t good) (final-state cs t) (state-weight t) few

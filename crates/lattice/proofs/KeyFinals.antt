@@ -12,7 +12,7 @@ use lib.Seq.{sets, take-suc, length-take-le, take-take}
 use borrow.Author.Tests.{eq-eqb, ne-eqb}
 use Rattle.wire.proofs.Bool.{and-true}
 use Rattle.transducer.specs.declared.Final.{Final}
-use Rattle.transducer.specs.Format.{Transducer, Good, weight-good}
+use Rattle.transducer.specs.Format.{max-states, head-bytes, final-bytes, arcs-at, Transducer, Good, weight-good}
 use Rattle.transducer.specs.Encode.{final-record, final-records}
 use Rattle.transducer.specs.Leaf.{Finals-by-state, final-code}
 use Rattle.transducer.specs.Path.{is-final, final-weight}
@@ -110,7 +110,7 @@ module _ (codes : List ℕ) (last : ℕ) (states : List ℕ) where
   putting-first count table = (false, finishing-first (key-final codes last) (key-weight codes last) states count table)
 
   pub putting-stop : (count finals s : ℕ) (table₀ table : List ℕ) → count ≤ s → Putting codes last states count table₀ table finals s
-      → table ≡ sets table₀ 12 (final-records (key-finals codes last (take count states)))
+      → table ≡ sets table₀ head-bytes (final-records (key-finals codes last (take count states)))
   unfolding key-finals
   putting-stop count finals s table₀ table stop inv =
       finishing-stop (key-final codes last) (key-weight codes last) states (inv .1) stop .stored
@@ -130,24 +130,25 @@ module _ (codes : List ℕ) (last : ℕ) (states : List ℕ) where
 
     module _ (table₀ table : List ℕ) (inv : Putting codes last states count table₀ table finals s) where
       -- There is room for the final of this key.
-      pub putting-room : (code ≡ 0 → ⊥) → 12 + 10 * length (key-finals codes last (take count states)) ≤ length table₀
-          → 12 + 10 * finals + 10 ≤ length table
+      pub putting-room : (code ≡ 0 → ⊥) → arcs-at (length (key-finals codes last (take count states))) ≤ length table₀
+          → {place : ℕ} → place ≡ arcs-at finals → place + final-bytes ≤ length table
       unfolding key-finals
-      putting-room z fits =
+      putting-room z fits there =
           omega (arith, inv .1 .count-is, inv .1 .kept, longer s code (omega arith) is z, front-finals (s + 1) count (omega arith))
 
       pub putting-none : code ≡ 0 → Putting codes last states count table₀ table finals (s + 1)
       putting-none z =
           (inv .0, finishing-none (key-final codes last) (key-weight codes last) states (inv .1) less room (not-final codes last (getD states s 0) code is z))
 
-      pub putting-more : (table' : List ℕ) → (code ≡ 0 → ⊥)
-          → table' ≡ sets table (12 + 10 * finals) (final-record (record { state = s; weight = code - 1 })) → length table' ≡ length table
+      pub putting-more : (table' : List ℕ) → (code ≡ 0 → ⊥) → {place : ℕ} → place ≡ arcs-at finals
+          → table' ≡ sets table place (final-record (record { state = s; weight = code - 1 })) → length table' ≡ length table
           → Putting codes last states count table₀ table' (finals + 1) (s + 1)
-      putting-more table' z put long = (
-        _,
-        finishing-more (key-final codes last) (key-weight codes last) states (inv .1) less room table' (code - 1) (weight-good (code - 1))
-            (is-key-final codes last (getD states s 0) code is z) (ap (λ (n : ℕ). n - 1) is) put long refl,
-      )
+      putting-more table' z there put-there long =
+          let put : table' ≡ sets table (arcs-at finals) (final-record (record { state = s; weight = code - 1 })) = rw there at put-there in (
+            _,
+            finishing-more (key-final codes last) (key-weight codes last) states (inv .1) less room table' (code - 1) (weight-good (code - 1))
+                (is-key-final codes last (getD states s 0) code is z) (ap (λ (n : ℕ). n - 1) is) put long refl,
+          )
 
 -- The finals of the states met
 
@@ -156,7 +157,7 @@ module _ (cs : List ℕ) (t : Transducer) (good : Good t) (codes : List ℕ) (by
       → key-code codes (length cs) (pack x) ≡ cond (eqb (x .position) (length cs)) (final-code (t .finals) (x .state)) 0
   unfolding key-code
   code-pack x w =
-      let small : x .state < 1024 = state-small cs t good x w in
+      let small : x .state < max-states = state-small cs t good x w in
       let e : unpacked (pack x) ≡ x = unpacked-pack x small in
       rw (e, by-state .at-state (x .state) small)
 

@@ -4,7 +4,7 @@ use mathlib.Core.List.{List}
 use Prim.Native.Nat.{ℕ, _≤_, _<_}
 use native.Mathlib.Omega.{arith}
 use lib.ListN.{length}
-use Rattle.transducer.specs.Format.{Transducer, Good}
+use Rattle.transducer.specs.Format.{max-states, Transducer, Good}
 use Rattle.transducer.specs.Path.{arc}
 use Rattle.transducer.proofs.RoundTrip.{good-range, good-content}
 use Rattle.explore.specs.Explore.{Step}
@@ -20,7 +20,7 @@ use Rattle.lattice.proofs.Pack.{unpacked-pack, pack-injective}
 use Rattle.lattice.proofs.SameState.{same-state-decides}
 
 module _ (cs : List ℕ) (t : Transducer) (good : Good t) where
-  pub state-small : (x : State) → State-in cs t x → x .state < 1024
+  pub state-small : (x : State) → State-in cs t x → x .state < max-states
   state-small x w = omega (arith, w .state-in, good-range t good .states)
 
   pub first-in : State-in cs t (first-state t)

@@ -12,7 +12,7 @@ use Rattle.wire.specs.Bytes.{every}
 use Rattle.wire.proofs.Bool.{by-test, and-true, true-and}
 use Rattle.wire.proofs.Places.{every-getD}
 use Rattle.transducer.specs.declared.Final.{Final}
-use Rattle.transducer.specs.Format.{Transducer, Good, weight-good, weights-good, refusal, decode}
+use Rattle.transducer.specs.Format.{max-states, max-arcs, Transducer, Good, weight-good, weights-good, refusal, decode}
 use Rattle.transducer.specs.Encode.{encode}
 use Rattle.transducer.specs.Path.{arc, no-arc, final-weight}
 use Rattle.transducer.proofs.GoodParts.{good-parts}
@@ -77,7 +77,7 @@ applied-light cs t g =
 -- 13 is never given: no weight of a lattice is a sum.
 pub never-13 : (cs : List ℕ) (t : Transducer) → Good t → built-refusal (applied cs t .result) ≡ 13 → ⊥
 unfolding built-refusal
-never-13 cs t g h = on (ltb 1024 (z .states)) (ltb 3072 (length (z .arcs))) (rw (applied-light cs t g) at h)
+never-13 cs t g h = on (ltb max-states (z .states)) (ltb max-arcs (length (z .arcs))) (rw (applied-light cs t g) at h)
   where
     z : Transducer
     z = applied cs t .result

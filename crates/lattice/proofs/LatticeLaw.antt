@@ -9,7 +9,7 @@ use native.Mathlib.Omega.{arith}
 use lib.ListN.{length, getD, List·getD-map}
 use Rattle.wire.specs.Bytes.{filled}
 use Rattle.wire.proofs.Places.{getD-filled}
-use Rattle.transducer.specs.Format.{Transducer, Good}
+use Rattle.transducer.specs.Format.{max-states, Transducer, Good}
 use Rattle.transducer.specs.Path.{arc, runs, accepts, read-by, written-by, path-cost}
 use Rattle.transducer.specs.Weight.{plus}
 use Rattle.transducer.proofs.Members.{distinct-places}
@@ -51,7 +51,7 @@ module _ (cs : List ℕ) (t : Transducer) (fine : built-refusal (applied cs t .r
   abbrev arc-origins : List ℕ
   arc-origins = map (λ s. s .origin) (applied cs t .steps)
 
-  few : length (applied cs t .states) ≤ 1024
+  few : length (applied cs t .states) ≤ max-states
   unfolding applied
   few = unrefused-few same-state (steps cs t) (final-state cs t) (state-weight t) (first-state t) same-state-decides fine
 

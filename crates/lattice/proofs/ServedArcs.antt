@@ -10,7 +10,7 @@ use lib.Dec.{ltb, eqb}
 use lib.ListN.{length, getD, set}
 use borrow.Author.Tests.{lt-ltb, le-ltb, eq-eqb, ne-eqb}
 use Rattle.transducer.specs.declared.Arc.{Arc}
-use Rattle.transducer.specs.Format.{Transducer, Good}
+use Rattle.transducer.specs.Format.{max-states, max-arcs, Transducer, Good}
 use Rattle.transducer.specs.Path.{arc}
 use Rattle.transducer.specs.Each.{fits}
 use Rattle.transducer.specs.Leaf.{arcs-below, Indexed}
@@ -29,20 +29,21 @@ use Rattle.transducer.proofs.RoundTrip.{good-content}
 
 -- The origin of a step is written where there is room for its arc.
 
-pub traced-one : (count i : ℕ) (origins origins' : List ℕ) → count < 3072 → origins' ≡ set origins count i
+pub traced-one : (count i : ℕ) (origins origins' : List ℕ) → count < max-arcs → origins' ≡ set origins count i
     → origins' ≡ traced-by 1 count (i ∷ []) origins
 unfolding traced-by
 traced-one count i origins origins' l e =
     let m : 1 * count ≡ count = omega arith in
-    e ∙ (rw (lt-ltb count 3072 l, m))
+    e ∙ (rw (lt-ltb count max-arcs l, m))
 
-pub traced-none : (count : ℕ) (vs origins origins' : List ℕ) → 3072 ≤ count → origins' ≡ origins → origins' ≡ traced-by 1 count vs origins
+pub traced-none : (count : ℕ) (vs origins origins' : List ℕ) → max-arcs ≤ count → origins' ≡ origins → origins' ≡ traced-by 1 count vs origins
 unfolding traced-by
-traced-none count vs origins origins' l e = e ∙ (rw (le-ltb count 3072 l))
+traced-none count vs origins origins' l e = e ∙ (rw (le-ltb count max-arcs l))
 
 -- A target that has the number 1,024 is one state too many.
 pub taken-over : (source number : ℕ) (s : Keyed) {b : Sofar} {w : Walk} {table origins states heads links : List ℕ}
-    → Walked 1 b w table origins states heads links → number ≡ place eqb (s .target) (b .keys) → number ≡ 1024 → 1024 < length (taken source s b .keys)
+    → Walked 1 b w table origins states heads links → number ≡ place eqb (s .target) (b .keys) → number ≡ max-states
+    → max-states < length (taken source s b .keys)
 unfolding all-taken
 taken-over source number s {b} {w} {table} {origins} {states} {heads} {links} k is full =
     let g : Taking 1 source (s ∷ []) (taken source s b) w table origins states heads links = record { sofar = b; walked = k; leads = refl } in

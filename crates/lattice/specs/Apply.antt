@@ -12,9 +12,13 @@ use Rattle.transducer.specs.Each.{each-arc, fits, passed}
 use Rattle.explore.specs.Explore.{Step, Built, built}
 use Rattle.lattice.specs.declared.State.{State}
 
+-- The most symbols of a string.
+abbrev pub max-string : ℕ
+max-string = 64
+
 -- 9: at most 64 symbols, none of them empty or barred
 unfoldable pub string-good : List ℕ → Bool
-string-good cs = leb (length cs) 64 && every (λ c. leb 1 c && ltb c barred) cs
+string-good cs = leb (length cs) max-string && every (λ c. leb 1 c && ltb c barred) cs
 
 unfoldable pub same-state : State → State → Bool
 same-state x y = eqb (x .position) (y .position) && eqb (x .state) (y .state)

@@ -3,14 +3,14 @@
 use mathlib.Core.Path.{_≡_}
 use mathlib.Core.Bool.{Bool, true, false, not, cond}
 use mathlib.Core.List.{List, [], _∷_, map}
-use Prim.Native.Nat.{ℕ, _+_, _*_, _-_, _≤_, _<_}
+use Prim.Native.Nat.{ℕ, _+_, _-_, _≤_, _<_}
 use lib.Dec.{eqb}
 use lib.ListN.{length, getD, take, drop}
 use Rattle.wire.specs.Bytes.{filled}
 use Rattle.transducer.specs.declared.Arc.{Arc}
 use Rattle.transducer.specs.declared.Final.{Final}
 use Rattle.transducer.specs.declared.Written.{Written}
-use Rattle.transducer.specs.Format.{Transducer, refusal, decode}
+use Rattle.transducer.specs.Format.{Transducer, max-states, max-arcs, max-bytes, arcs-at, refusal, decode}
 use Rattle.transducer.specs.Encode.{encode}
 use Rattle.transducer.specs.Leaf.{Opened, Indexed}
 use Rattle.explore.specs.Explore.{finals-from}
@@ -58,9 +58,13 @@ unfoldable pub closed : (codes : List ℕ) → (last : ℕ) → Sofar → Transd
 closed codes last b =
     record { states = length (b .keys); start = 0; finals = key-finals codes last (b .keys); arcs = b .arcs }
 
+-- Where the walk writes the arcs: behind room for the head and as many finals as there can be.
+abbrev pub arcs-from : ℕ
+arcs-from = arcs-at max-states
+
 -- Its bytes stand from a place on, where there are at most 3,072 arcs.
 pub record Closes (t : Transducer) (from : ℕ) (table table' : List ℕ) : Type 0 where
-  pub begins : from + 12 + 10 * length (t .finals) ≡ 10252
+  pub begins : from + arcs-at (length (t .finals)) ≡ arcs-from
   pub kept : length table' ≡ length table
   pub stands : take (length (encode t)) (drop from table') ≡ encode t
 
@@ -68,9 +72,9 @@ pub record Closes (t : Transducer) (from : ℕ) (table table' : List ℕ) : Type
 pub record Apply-asks (cs bs : List ℕ) (lattice origins pairs : ℕ) : Type 0 where
   pub good : string-good cs ≡ true
   pub accepted : refusal bs ≡ 0
-  pub lattice-long : 59404 ≤ lattice
-  pub origins-long : 3072 ≤ origins
-  pub pairs-long : 1024 ≤ pairs
+  pub lattice-long : max-bytes ≤ lattice
+  pub origins-long : max-arcs ≤ origins
+  pub pairs-long : max-states ≤ pairs
 
 -- A refusal once the buffers have been written to.
 pub record Refused-with (number : ℕ) (r : Written) (a a' b b' c c' : List ℕ) : Type 0 where

@@ -16,27 +16,8 @@ use Rattle.transducer.proofs.Good.{Content}
 use Rattle.transducer.proofs.Index.{arcs-below-length, arcs-below-mono, arcs-of-state, state-of-arcs, arcs-below-states}
 use Rattle.transducer.proofs.Offsets.{length-accepted, accepted-within, accepted-good, decode-states, decode-start, length-arcs}
 use Rattle.transducer.proofs.Runs.{Within, states-good-within}
+pub use Rattle.reach.proofs.Sized.{Sized, sized}
 use Rattle.paths.specs.Tally.{own}
-
--- The states and arcs of accepted bytes.
-pub record Sized (t : Transducer) : Type 0 where
-  pub content : Content t
-  pub within : Within t
-  pub states : t .states ≤ 1024
-  pub arcs : length (t .arcs) ≤ 3072
-
-pub sized : (bs : List ℕ) → Bytes bs → refusal bs ≡ 0 → Sized (decode bs)
-sized bs bytes ok =
-    let head = accepted-within bs bytes ok in
-    let n = decode-states bs bytes ok in
-    let s = decode-start bs bytes ok in
-    let content = accepted-good bs bytes ok in
-    record {
-      content = content;
-      within = states-good-within (decode bs) (content .states) (omega (arith, head .start, n, s));
-      states = omega (arith, head .states, n);
-      arcs = omega (arith, head .arcs, length-arcs bs bytes ok);
-    }
 
 -- The numbers of an accepted head.
 pub record Headed (bs : List ℕ) (head : Header) : Type 0 where

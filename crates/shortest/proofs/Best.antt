@@ -15,7 +15,7 @@ use Rattle.transducer.specs.Format.{Transducer}
 use Rattle.transducer.specs.Path.{path-cost}
 use Rattle.paths.specs.Count.{before}
 use Rattle.paths.proofs.Order.{Compared, earlier, same, after, before-total, before-irreflexive, before-transitive}
-use Rattle.paths.proofs.GoesOn.{or-true, true-or, or-true-right}
+use Rattle.wire.proofs.Bool.{or-true, or-left as true-or, or-right as or-true-right}
 use Rattle.shortest.specs.Shortest.{nearer, better, best-of, best}
 use Rattle.shortest.specs.Nearest.{No-worse, Nearer}
 

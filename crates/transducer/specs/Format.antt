@@ -6,7 +6,7 @@ use Prim.Native.Nat.{ℕ, zero, suc, _+_, _*_}
 use lib.Dec.{ltb, leb, eqb}
 use lib.ListN.{length}
 use Rattle.wire.specs.Bytes.{two, four, every}
-pub use Rattle.bounds.specs.Bounds.{max-states, max-arcs, max-weight, barred, max-symbols, max-path, max-count, max-fields, max-origins}
+pub use Rattle.bounds.specs.Bounds.{max-states, max-arcs, index-long, max-weight, barred, max-symbols, max-path, max-count, max-fields, max-origins}
 pub use Rattle.bounds.specs.Bounds.{head-bytes, final-bytes, arc-bytes, arcs-at, max-bytes}
 unfoldable pub use Rattle.bounds.specs.Bounds.{head-good, labels-good, weight-good, first-of}
 use Rattle.transducer.specs.declared.Arc.{Arc}

@@ -4,7 +4,7 @@ ghost use mathlib.Core.Bool.{true};
 ghost use Prim.Native.Nat.{ℕ, _+_, _*_, _≤_, _<_};
 ghost use lib.ListN.{length};
 ghost use Rattle.wire.specs.Bytes.{four};
-ghost use Rattle.transducer.specs.Format.{final-at, arc-at, first-of};
+ghost use Rattle.transducer.specs.Format.{final-bytes, arc-bytes, final-at, arc-at, first-of};
 ghost use Rattle.transducer.specs.Check.{final-checked, arc-checked, finals-checked, arcs-checked, from-0, final-word, arc-word, Good-up-to, Plain};
 use crate::Arc;
 use crate::Checks;
@@ -12,6 +12,9 @@ use crate::Final;
 
 // No source: a closer look is needed.
 const UNSURE: u32 = 4294967295;
+
+// Length and kind of a head's, a final's and an arc's record, as one number of four bytes.
+pub const HEAD_WORD: u32 = 65544;
 
 pub const FINAL_WORD: u32 = 131078;
 
@@ -71,7 +74,7 @@ pub fn restart(c: Checks) -> Checks
 
 // The final whose record begins at `at`.
 pub fn load_final(bytes: &[u8], at: usize) -> Final
-    requires { ⌜ at + 10 ≤ length (now bytes) ⌝ }
+    requires { ⌜ at + final-bytes ≤ length (now bytes) ⌝ }
     ensures { λ r. ⌜ r ≡ final-at (now (bytes .entry)) at ⌝ }
 {
     Final {
@@ -82,7 +85,7 @@ pub fn load_final(bytes: &[u8], at: usize) -> Final
 
 // The arc whose record begins at `at`.
 pub fn load_arc(bytes: &[u8], at: usize) -> Arc
-    requires { ⌜ at + 16 ≤ length (now bytes) ⌝ }
+    requires { ⌜ at + arc-bytes ≤ length (now bytes) ⌝ }
     ensures { λ r. ⌜ r ≡ arc-at (now (bytes .entry)) at ⌝ }
 {
     Arc {
@@ -96,8 +99,8 @@ pub fn load_arc(bytes: &[u8], at: usize) -> Arc
 
 // The tests of `count` finals whose records begin at `at`.
 pub fn check_finals(bytes: &[u8], at: usize, count: usize, n: u32, c: Checks) -> Checks
-    requires { ⌜ at + 10 * count ≤ length (now bytes) ⌝ }
-    ensures { λ r. ⌜ r ≡ finals-checked count at 10 n (four (now (bytes .entry))) (final-at (now (bytes .entry))) c ⌝ }
+    requires { ⌜ at + final-bytes * count ≤ length (now bytes) ⌝ }
+    ensures { λ r. ⌜ r ≡ finals-checked count at final-bytes n (four (now (bytes .entry))) (final-at (now (bytes .entry))) c ⌝ }
 {
     let mut checks = c;
     let mut place = at;
@@ -117,8 +120,8 @@ pub fn check_finals(bytes: &[u8], at: usize, count: usize, n: u32, c: Checks) ->
 
 // The tests of `count` arcs whose records begin at `at`.
 pub fn check_arcs(bytes: &[u8], at: usize, count: usize, n: u32, c: Checks) -> Checks
-    requires { ⌜ at + 16 * count ≤ length (now bytes) ⌝ }
-    ensures { λ r. ⌜ r ≡ arcs-checked count at 16 n (four (now (bytes .entry))) (arc-at (now (bytes .entry))) c ⌝ }
+    requires { ⌜ at + arc-bytes * count ≤ length (now bytes) ⌝ }
+    ensures { λ r. ⌜ r ≡ arcs-checked count at arc-bytes n (four (now (bytes .entry))) (arc-at (now (bytes .entry))) c ⌝ }
 {
     let last = plain_arcs(bytes, at, count, n, c.floor);
     if last == UNSURE {
@@ -137,7 +140,7 @@ pub fn check_arcs(bytes: &[u8], at: usize, count: usize, n: u32, c: Checks) -> C
 // The source of the last of these arcs, `floor` where there are none, if it is seen at a glance that each passes each test; else UNSURE.
 // Labels and weights are gathered by `|`, which is never below any of them.
 fn plain_arcs(bytes: &[u8], at: usize, count: usize, n: u32, floor: u32) -> u32
-    requires { ⌜ at + 16 * count ≤ length (now bytes) ⌝ }
+    requires { ⌜ at + arc-bytes * count ≤ length (now bytes) ⌝ }
     ensures { λ r. ⌜ Plain (now (bytes .entry)) at count n floor r ⌝ }
 {
     let mut last = floor;
@@ -186,8 +189,8 @@ fn at_a_glance(labels: u32, weights: u32) -> bool
 
 // The tests of these arcs, one by one.
 fn check_each_arc(bytes: &[u8], at: usize, count: usize, n: u32, c: Checks) -> Checks
-    requires { ⌜ at + 16 * count ≤ length (now bytes) ⌝ }
-    ensures { λ r. ⌜ r ≡ arcs-checked count at 16 n (four (now (bytes .entry))) (arc-at (now (bytes .entry))) c ⌝ }
+    requires { ⌜ at + arc-bytes * count ≤ length (now bytes) ⌝ }
+    ensures { λ r. ⌜ r ≡ arcs-checked count at arc-bytes n (four (now (bytes .entry))) (arc-at (now (bytes .entry))) c ⌝ }
 {
     let mut checks = c;
     let mut place = at;

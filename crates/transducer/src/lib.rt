@@ -10,6 +10,7 @@ pub use bounds::ARC_BYTES;
 pub use bounds::BARRED;
 pub use bounds::FINAL_BYTES;
 pub use bounds::HEAD_BYTES;
+pub use bounds::INDEX_LEN;
 pub use bounds::MAX_ARCS;
 pub use bounds::MAX_BYTES;
 pub use bounds::MAX_COUNT;

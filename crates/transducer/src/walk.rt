@@ -109,7 +109,7 @@ pub fn refusal(bytes: &[u8]) -> u32
     if bytes.len() < bounds::HEAD_BYTES {
         return walk(bytes);
     }
-    if wire::u32_at(bytes, 0) != 65544 {
+    if wire::u32_at(bytes, 0) != check::HEAD_WORD {
         return walk(bytes);
     }
     let n = wire::u16_at(bytes, 4) as u32;

@@ -28,7 +28,8 @@ Inv-loop string bytes first index source table₀ origins₀ states₀ heads₀ 
     × (length table ≡ length table₀) × (length origins ≡ length origins₀) × (length states ≡ length states₀)
 
 abbrev μ-loop : tie.MeasureT-loop
-μ-loop string bytes first index source table₀ origins₀ states₀ heads₀ links₀ key q position symbol end i₀ walk₀ table origins states heads links i walk = end - i
+μ-loop string bytes first index source table₀ origins₀ states₀ heads₀ links₀ key q position symbol end i₀ walk₀ table origins states heads links i walk =
+    end - i
 
 -- Places to look back to.
 abbrev entry : tie.After-shared-slice-known2 Inv-loop μ-loop → tie.Start Inv-loop μ-loop

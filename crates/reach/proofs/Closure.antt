@@ -10,19 +10,14 @@ use native.Mathlib.Omega.{arith}
 use lib.ListN.{length, getD, set, replicate, length-set, length-replicate}
 use lib.Seq.{getD-set-same, getD-set-other}
 use borrow.Author.Tests.{eqb-true}
+use Rattle.wire.proofs.Bool.{clash, same-truth}
 use Rattle.transducer.specs.Format.{Transducer}
 use Rattle.transducer.specs.Path.{arc, is-final}
 use Rattle.transducer.proofs.Runs.{cons-accepting, Within}
 use Rattle.reach.specs.Reach.{accessible, coaccessible}
-use Rattle.reach.specs.Marks.{Passes, Settled, Marked}
+use Rattle.reach.specs.Marks.{Passes, Closure, Marked}
 use Rattle.reach.proofs.Reach.{CameBy, came, accessible-start, accessible-path, path-snoc, path-accessible}
 use Rattle.reach.proofs.Reach.{GoesBy, goes, coaccessible-final, coaccessible-path, path-coaccessible}
-use Rattle.reach.proofs.Spreading.{never}
-
-same-bool : (a b : Bool) → (a ≡ true → b ≡ true) → (b ≡ true → a ≡ true) → a ≡ b
-same-bool true b f g = sym (f refl)
-same-bool false true f g = g refl
-same-bool false false f g = refl
 
 pub getD-none : (n s : ℕ) → getD (replicate n false) s false ≡ false
 getD-none zero s = refl
@@ -54,15 +49,15 @@ accessible-begun t start is below =
     on : (s : ℕ) → getD (set (replicate 1024 false) start true) s false ≡ true → Dec (s ≡ start) → accessible (t .states) t s ≡ true
     on s h (yes e) = rw (e, is) (accessible-start (t .states) t)
     on s h (no n) =
-        never (getD (set (replicate 1024 false) start true) s false) (getD-set-other (replicate 1024 false) start s true false n ∙ getD-none 1024 s) h
+        clash h (getD-set-other (replicate 1024 false) start s true false n ∙ getD-none 1024 s)
 
-pub accessible-settled : {t : Transducer} {ms ms' : List Bool} → Within t → Begun t ms → Settled t false ms ms' → Marked (accessible (t .states) t) ms'
+pub accessible-closure : {t : Transducer} {ms ms' : List Bool} → Within t → Begun t ms → Closure t false ms ms' → Marked (accessible (t .states) t) ms'
 unfolding accessible
-accessible-settled {t} {ms} {ms'} w c z =
+accessible-closure {t} {ms} {ms'} w c z =
     record {
       long = z .wider .long ∙ c .long;
       at-state = λ s.
-          same-bool (getD ms' s false) (accessible (t .states) t s) (z .wider .sound (accessible (t .states) t) (accessible-passes t w) (c .sound) s)
+          same-truth (getD ms' s false) (accessible (t .states) t s) (z .wider .sound (accessible (t .states) t) (accessible-passes t w) (c .sound) s)
           (complete (t .states) s);
     }
   where
@@ -86,14 +81,14 @@ coaccessible-passes t w i h e =
     let r = coaccessible-path (t .states) t (arc t i .target) e in
     path-coaccessible t w (arc t i .source) (i ∷ r .0) (cons-accepting t (arc t i .source) i (r .0) (record { below = h; leaves = refl; rest = r .1 }))
 
-pub coaccessible-settled : {t : Transducer} {ms ms' : List Bool} → Within t → Marked (is-final (t .finals)) ms → Settled t true ms ms'
+pub coaccessible-closure : {t : Transducer} {ms ms' : List Bool} → Within t → Marked (is-final (t .finals)) ms → Closure t true ms ms'
     → Marked (coaccessible (t .states) t) ms'
 unfolding coaccessible
-coaccessible-settled {t} {ms} {ms'} w m z =
+coaccessible-closure {t} {ms} {ms'} w m z =
     record {
       long = z .wider .long ∙ m .long;
       at-state = λ s.
-          same-bool (getD ms' s false) (coaccessible (t .states) t s) (z .wider .sound (coaccessible (t .states) t) (coaccessible-passes t w) sound s)
+          same-truth (getD ms' s false) (coaccessible (t .states) t s) (z .wider .sound (coaccessible (t .states) t) (coaccessible-passes t w) sound s)
           (complete (t .states) s);
     }
   where
