@@ -9,11 +9,12 @@ use lib.ListN.{length}
 use borrow.Author.Tests.{eq-eqb, ne-eqb, lt-ltb, le-ltb}
 use Rattle.wire.specs.Bytes.{Bytes, two}
 use Rattle.transducer.specs.declared.Arc.{Arc}
-use Rattle.transducer.specs.Format.{Transducer, decode, arc-at}
+use Rattle.transducer.specs.Format.{Transducer, Good, decode, arc-at}
 use Rattle.transducer.specs.Path.{arc}
 use Rattle.transducer.specs.Leaf.{Opened}
 use Rattle.transducer.proofs.Offsets.{arc-offset, length-accepted, length-arcs}
 use Rattle.transducer.proofs.Accept.{Bounds, bounds}
+use Rattle.transducer.proofs.RoundTrip.{accepted-good, good-range, good-content}
 use Rattle.steps.specs.Runs.{reading-from, begin-from}
 
 -- Accepted bytes
@@ -42,8 +43,8 @@ module _ (bs : List ℕ) (bytes : Bytes bs) (first : ℕ) (opened : Opened bs fi
 
   pub opened-target : (j : ℕ) → j < length (decode bs .arcs) → arc (decode bs) j .target < 1024
   opened-target j h =
-      let b : Bounds bs = bounds bytes (opened .accepted) in
-      omega (arith, b .target j (omega (arith, b .arcs-long)), b .states)
+      let good : Good (decode bs) = accepted-good bs bytes (opened .accepted) in
+      omega (arith, good-content (decode bs) good .target j h, good-range (decode bs) good .states)
 
   pub opened-weight : (j : ℕ) → j < length (decode bs .arcs) → arc (decode bs) j .weight ≤ 1000000
   opened-weight j h = let b : Bounds bs = bounds bytes (opened .accepted) in b .weight j (omega (arith, b .arcs-long))
