@@ -8,13 +8,12 @@ use lib.Dec.{leb, eqb}
 use lib.ListN.{getD}
 use borrow.Author.Tests.{eq-eqb, ne-eqb, leb-true}
 use Rattle.wire.specs.Bytes.{every}
-use Rattle.wire.proofs.Places.{and-true}
+use Rattle.wire.proofs.Bool.{by-test, and-true}
 use Rattle.transducer.specs.declared.Final.{Final}
 use Rattle.transducer.specs.Format.{Transducer, Good, weight-good}
 use Rattle.transducer.specs.Leaf.{Finals-by-state, final-code}
 use Rattle.transducer.specs.Path.{is-final, final-weight}
 use Rattle.transducer.proofs.RoundTrip.{good-passed}
-use Rattle.explore.proofs.Cases.{by-test}
 use Rattle.explore.proofs.Finals.{not-final-weight}
 use Rattle.steps.specs.declared.State.{State}
 use Rattle.compose.specs.Compose.{final-state, state-weight}

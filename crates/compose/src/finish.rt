@@ -3,13 +3,16 @@ ghost use lib.ListN.{take};
 ghost use Rattle.explore.specs.Walk.{Finals-stored};
 ghost use Rattle.compose.specs.Finished.{key-finals, Finishable, Refused-with};
 use explore::FinalsPut;
+use transducer::FINAL_BYTES;
 use transducer::Final;
+use transducer::HEAD_BYTES;
+use transducer::MAX_STATES;
 use transducer::Written;
 
-// Writes the finals of `count` states, in order, from 12 on.
+// Writes the finals of `count` states, in order, behind the head.
 pub fn put_finals(
-    lcodes: &[u32; 1024],
-    rcodes: &[u32; 1024],
+    lcodes: &[u32; MAX_STATES],
+    rcodes: &[u32; MAX_STATES],
     states: &[u32],
     count: usize,
     table: &mut [u8],
@@ -36,7 +39,7 @@ pub fn put_finals(
                     state: state,
                     weight: weight,
                 };
-                transducer::put_final(table, 12 + 10 * finals, f);
+                transducer::put_final(table, HEAD_BYTES + FINAL_BYTES * finals, f);
                 dear = dear | !transducer::weight_ok(weight);
                 finals += 1;
             }

@@ -13,14 +13,14 @@ use Rattle.transducer.specs.declared.Arc.{Arc}
 use Rattle.transducer.specs.Format.{Transducer, Good}
 use Rattle.transducer.specs.Path.{arc}
 use Rattle.transducer.specs.Leaf.{arcs-below}
-use Rattle.explore.proofs.Cases.{by-test, never}
+use Rattle.wire.proofs.Bool.{by-test, never}
 use Rattle.steps.specs.declared.Begin.{Begin}
 use Rattle.steps.specs.declared.Run.{Run}
 use Rattle.steps.specs.declared.State.{State}
 use Rattle.steps.specs.declared.Step.{Step}
 use Rattle.steps.specs.Lookup.{Rest}
 use Rattle.steps.specs.Packing.{Bounded}
-use Rattle.steps.specs.Runs.{run-step, run-steps, reading-from, begin-from, run-at, Ready, In-both}
+use Rattle.steps.specs.Runs.{run-step, run-steps, reading-from, begin-from, run-at, Takeable, In-both}
 use Rattle.transducer.proofs.RoundTrip.{good-range, good-content}
 use Rattle.steps.proofs.Leaving.{rest-at, state-leaving}
 use Rattle.steps.proofs.RunSteps.{
@@ -106,18 +106,18 @@ module _ (u : Transducer) (label : ℕ) where
 
 module _ (u : Transducer) (r : Run) where
   -- A run that is ready has a step.
-  pub first-step : (j to : ℕ) → Ready u r j to → j < to → run-steps u r (to - j) j ≡ run-step u r j ∷ run-steps u r (to - suc j) (suc j)
+  pub first-step : (j to : ℕ) → Takeable u r j to → j < to → run-steps u r (to - j) j ≡ run-step u r j ∷ run-steps u r (to - suc j) (suc j)
   unfolding run-steps
   first-step j to ready l = let e : to - j ≡ suc (to - suc j) = omega arith in rw (e, ready .fits-here l)
 
   -- The next step is with right arc k, and the run can be taken from there.
   pub record Next-step (j to k : ℕ) : Type 0 where
     pub past : j < k
-    pub ready : Ready u r k to
+    pub ready : Takeable u r k to
     pub are : run-steps u r (to - j) j ≡ run-step u r j ∷ run-steps u r (to - k) k
 
   -- A run alone is at its end after one step.
-  pub next-alone : (j to : ℕ) → Ready u r j to → j < to → r .alone ≡ true → Next-step j to to
+  pub next-alone : (j to : ℕ) → Takeable u r j to → j < to → r .alone ≡ true → Next-step j to to
   next-alone j to ready l e =
       let short : to ≤ j + 1 = ready .single e in
       let same : to ≡ suc j = omega arith in
@@ -136,7 +136,7 @@ module _ (u : Transducer) (r : Run) where
       }
 
   -- Any other goes on with the next right arc that reads its label.
-  pub next-together : (j to k : ℕ) → Ready u r j to → j < to → r .alone ≡ false → k ≡ reading-from u (r .label) (to - suc j) (suc j)
+  pub next-together : (j to k : ℕ) → Takeable u r j to → j < to → r .alone ≡ false → k ≡ reading-from u (r .label) (to - suc j) (suc j)
       → Next-step j to k
   next-together j to k ready l e is =
       let first : First-reading u (r .label) (suc j) to k = rw is (first-reading u (r .label) (suc j) to l) in
@@ -170,7 +170,7 @@ pub record Run-here (t u : Transducer) (x : State) (i last to : ℕ) (b : Begin)
   pub at-least : i ≤ b .i
   pub at-most : b .i ≤ last
   pub alone-before : b .alone ≡ true → b .i < last
-  pub ready : Ready u r (b .j) (cond (b .alone) 1 to)
+  pub ready : Takeable u r (b .j) (cond (b .alone) 1 to)
   pub are-more : b .i < last
       → runs-from t u x (last - i) i
       ≡ run-steps u r (cond (b .alone) 1 to - b .j) (b .j) ++ runs-from t u x (last - suc (b .i)) (suc (b .i))

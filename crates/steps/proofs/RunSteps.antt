@@ -15,7 +15,7 @@ use Rattle.transducer.specs.Path.{arc}
 use Rattle.transducer.specs.Each.{each-arc, fits, passed}
 use Rattle.transducer.specs.Leaf.{arcs-below}
 use Rattle.transducer.proofs.Ranges.{from-to, from-to-same, from-to-skip, map-from-to, arcs-below-length, arcs-below-rises, each-arc-range}
-use Rattle.explore.proofs.Cases.{by-test}
+use Rattle.wire.proofs.Bool.{by-test}
 use Rattle.explore.specs.Explore as explore
 use Rattle.steps.specs.declared.Origin.{Origin}
 use Rattle.steps.specs.declared.Run.{Run}

@@ -5,7 +5,7 @@ use mathlib.Core.List.{List, [], _∷_}
 use Prim.Native.Nat.{ℕ, zero, suc, _+_, _*_, _≤_, _<_}
 use lib.Dec.{ltb, eqb}
 use lib.ListN.{length}
-use Rattle.transducer.specs.Format.{Transducer, barred}
+use Rattle.transducer.specs.Format.{max-weight, barred, Transducer}
 use Rattle.transducer.specs.Path.{arc}
 use Rattle.transducer.specs.Weight.{plus}
 use Rattle.explore.specs.Explore as explore
@@ -83,9 +83,9 @@ run-at t last x b =
 
 -- A run can be taken from right arc j to below `to`: its numbers are in range, and unless j is at the end, arc j fits and the arcs of its state
 -- end at `to`.
-pub record Ready (u : Transducer) (r : Run) (j to : ℕ) : Type 0 where
+pub record Takeable (u : Transducer) (r : Run) (j to : ℕ) : Type 0 where
   pub target-fits : Bounded (r .target)
-  pub weight-fits : r .weight ≤ 1000000
+  pub weight-fits : r .weight ≤ max-weight
   pub inside : r .alone ≡ false → to ≤ length (u .arcs)
   pub single : r .alone ≡ true → to ≤ j + 1
   pub rest : r .alone ≡ false → j < to → Rest u (arc u j .source) j to

@@ -4,20 +4,24 @@ ghost use mathlib.Core.Bool.{true, false, cond};
 ghost use lib.Dec.{eqb};
 ghost use Prim.Native.Nat.{ℕ, _+_, _*_, _-_, _≤_, _<_};
 ghost use lib.ListN.{length};
-ghost use Rattle.transducer.specs.Format.{decode, barred};
+ghost use Rattle.transducer.specs.Format.{max-weight, decode, barred};
 ghost use Rattle.transducer.specs.Leaf.{Opened};
 ghost use Rattle.steps.specs.Steps.{left-origin, right-origin};
 ghost use Rattle.steps.specs.Lookup.{Heads, Chain, Leaving};
-ghost use Rattle.steps.specs.Packing.{pack, unpacked, Bounded};
+ghost use Rattle.steps.specs.Packing.{Bounded};
 ghost use Rattle.steps.specs.Runs.{run-step, run-at, begin-from};
 use crate::Begin;
 use crate::Origin;
 use crate::Run;
 use crate::State;
 use crate::Step;
+use crate::keys;
 use crate::lookup;
+use transducer::ARC_BYTES;
+use transducer::MAX_ARCS;
 
-const STILL: u16 = 65535;
+// Stands for the arc of a side that stands still.
+const STILL: u16 = transducer::BARRED;
 
 // The filter state that a step leads to: of a left arc alone, of a right arc alone, of one of each.
 const AFTER_LEFT: u32 = 0;
@@ -25,25 +29,6 @@ const AFTER_LEFT: u32 = 0;
 const AFTER_RIGHT: u32 = 1;
 
 const AFTER_BOTH: u32 = 0;
-
-// A composed state as one number.
-pub fn pack(left: u32, right: u32, filter: u32) -> u32
-    requires { ⌜ Bounded (record { left = left; right = right; filter = filter }) ⌝ }
-    ensures { λ r. ⌜ r ≡ pack (record { left = left; right = right; filter = filter }) ⌝ }
-{
-    (left * 1024 + right) * 2 + filter
-}
-
-// The parts of a packed state.
-pub fn unpack(key: u32) -> State
-    ensures { λ r. ⌜ r ≡ unpacked key ⌝ }
-{
-    State {
-        left: key / 2048,
-        right: key / 2 % 1024,
-        filter: key % 2,
-    }
-}
 
 // Where the next run with a step begins, from left arc `i` on: a left arc that writes nothing, where the filter state allows it; one
 // whose output some right arc reads; or behind the last left arc, with the first right arc that reads nothing.
@@ -55,8 +40,8 @@ pub fn next_run(
     filter: u32,
     right: &[u8],
     rfirst: usize,
-    heads: &[u16; 4096],
-    chain: &[u16; 3072],
+    heads: &[u16; lookup::LABEL_BUCKETS],
+    chain: &[u16; MAX_ARCS],
     q: u16,
     to: usize,
 ) -> Begin
@@ -68,7 +53,7 @@ pub fn next_run(
     let mut k = i;
     while k < last {
         let at = k;
-        let label = wire::u16_at(left, lfirst + 16 * at + 8);
+        let label = wire::u16_at(left, lfirst + ARC_BYTES * at + 8);
         k += 1;
         if label == 0 {
             if filter == 0 {
@@ -158,7 +143,8 @@ fn with_right(left: u16, j: u16) -> Origin
 
 // The step of a run with right arc `j`.
 pub fn step_of(run: Run, right: &[u8], rfirst: usize, j: usize) -> Step
-    requires { ⌜ Opened (now right) rfirst × (run .alone ≡ false → j < length (decode (now right) .arcs)) × Bounded (run .target) × (run .weight ≤ 1000000) ⌝ }
+    requires { ⌜ Opened (now right) rfirst × (run .alone ≡ false → j < length (decode (now right) .arcs))
+        × Bounded (run .target) × (run .weight ≤ max-weight) ⌝ }
     ensures { λ r. ⌜ r ≡ run-step (decode (now (right .entry))) run j ⌝ }
 {
     let to = run.target;
@@ -167,7 +153,7 @@ pub fn step_of(run: Run, right: &[u8], rfirst: usize, j: usize) -> Step
             origin: Origin::Left(run.left),
             input: run.input,
             output: 0,
-            target: pack(to.left, to.right, to.filter),
+            target: keys::pack(to.left, to.right, to.filter),
             weight: run.weight,
         };
     }
@@ -176,7 +162,7 @@ pub fn step_of(run: Run, right: &[u8], rfirst: usize, j: usize) -> Step
         origin: with_right(run.left, j as u16),
         input: run.input,
         output: b.output,
-        target: pack(to.left, b.target as u32, to.filter),
+        target: keys::pack(to.left, b.target as u32, to.filter),
         weight: run.weight + b.weight,
     }
 }

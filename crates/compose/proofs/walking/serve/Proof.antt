@@ -14,7 +14,8 @@ use Rattle.steps.specs.declared.State.{State}
 use Rattle.steps.specs.Runs.{run-at, In-both}
 use Rattle.compose.specs.Walk.{key-steps}
 use Rattle.steps.proofs.Reading.{right-from, Run-here, next-run-here}
-use Rattle.compose.proofs.WalkCode.{run-left, Placed, placed, placed-left, placed-right, placed-leaving, Serving, serving-first, serving-next, serving-full, serving-stop}
+use Rattle.compose.specs.Taking.{run-left}
+use Rattle.compose.proofs.WalkCode.{Placed, placed, placed-left, placed-right, placed-leaving, Serving, serving-first, serving-next, serving-full, serving-stop}
 use Rattle.compose.proofs.walking.serve.Statement.{statement}
 use Rattle.compose.proofs.walking.serve.Tie as tie
 

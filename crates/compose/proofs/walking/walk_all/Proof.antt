@@ -8,7 +8,7 @@ use lib.ListN.{length}
 use Rattle.transducer.specs.Format.{decode, Good}
 use Rattle.transducer.proofs.RoundTrip.{accepted-good}
 use Rattle.explore.specs.Explore.{there}
-use Rattle.explore.proofs.Cases.{clash}
+use Rattle.wire.proofs.Bool.{clash}
 use Rattle.explore.proofs.Chain.{chained-zeros}
 use Rattle.explore.proofs.ExploredKeys.{Keying}
 use Rattle.explore.proofs.Walking.{Walking, walking-first, walking-small, walking-state, walking-next, walking-full, walking-stop}

@@ -3,8 +3,8 @@ use borrow.Author.Needs.{needs}
 use mathlib.Core.Path.{refl}
 use native.Mathlib.Omega.{arith}
 use Rattle.steps.specs.Packing.{pack}
-use Rattle.steps.proofs.runs.pack.Statement.{statement}
-use Rattle.steps.proofs.runs.pack.Tie as tie
+use Rattle.steps.proofs.keys.pack.Statement.{statement}
+use Rattle.steps.proofs.keys.pack.Tie as tie
 
 mul-result : tie.Need-mul-result
 mul-result c = omega (arith, c .pre .left)
