@@ -44,9 +44,9 @@ use Rattle.compose.specs.Entry.{Compose-says, compose-refusal, compose-r
 use Rattle.compose.specs.Finished.{key-final, key-weight, key-finals, Finishable, Refused-with, Composable}
 use Rattle.steps.specs.Packing.{pack}
 use Rattle.compose.specs.Walk.{key-steps, key-walk}
-use Rattle.compose.proofs.Explored.{two-origins, composed-keying, steps-light, key-small}
+use Rattle.compose.proofs.Explored.{two-origins, composed-keying, steps-light, key-bounded}
 use Rattle.compose.proofs.KeyFinals.{code-most, pack-final, pack-weight}
-use Rattle.steps.proofs.Packing.{Within, within-bounded}
+use Rattle.steps.proofs.Within.{Within, within-bounded}
 use Rattle.compose.proofs.Written.{steps-labelled}
 
 -- Compose-says, by how the buffers are left
@@ -216,7 +216,7 @@ module _ (left right : List ℕ) (lb : Bytes left) (rb : Bytes right) (lok : ref
               few = few;
               stored = omega arith;
               room = omega arith;
-              keys = λ i l. key-small t u tg ug (getD states i 0) (told-key keying (final-state t u) (state-weight t u) told i l);
+              keys = λ i l. key-bounded t u tg ug (getD states i 0) (told-key keying (final-state t u) (state-weight t u) told i l);
               left = code-most t ls tg lby;
               right = code-most u rs ug rby;
             }

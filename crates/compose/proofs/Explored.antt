@@ -1,7 +1,7 @@
 -- The walk by keys walks the composition: keys stand for its states, and the steps of a key are those of its state. Assumes nothing.
 use mathlib.Core.Path.{_≡_, refl, sym, ap, subst, _∙_}
 use mathlib.Core.List.{List, [], _∷_, map}
-use Prim.Native.Nat.{ℕ, _<_}
+use Prim.Native.Nat.{ℕ}
 use native.Mathlib.Omega.{arith}
 use lib.ListN.{length}
 use Rattle.transducer.specs.Format.{Transducer, Good}
@@ -15,9 +15,10 @@ use Rattle.steps.specs.declared.Origin.{Origin}
 use Rattle.steps.specs.declared.State.{State}
 use Rattle.steps.specs.Steps.{same-state, steps, first-state, origin-pair}
 use Rattle.steps.specs.Runs.{In-both, coded}
-use Rattle.steps.specs.Packing.{pack, unpacked}
+use Rattle.steps.specs.Packing.{pack, unpacked, Bounded}
 use Rattle.compose.specs.Walk.{keyed-step, key-steps}
-use Rattle.steps.proofs.Packing.{Within, within-bounded, first-within, step-within, step-weight, unpacked-pack, pack-injective, pack-small}
+use Rattle.steps.proofs.Packing.{unpacked-pack, pack-injective}
+use Rattle.steps.proofs.Within.{Within, within-bounded, first-within, step-within, step-weight}
 use Rattle.steps.proofs.SameState.{same-state-decides}
 
 pub two-origins : (o : Origin) → length (origin-pair o) ≡ 2
@@ -51,5 +52,8 @@ module _ (t u : Transducer) (tg : Good t) (ug : Good u) where
       let is : unpacked key ≡ x = ap unpacked (k .key-is) ∙ unpacked-pack x (within-bounded t u tg ug x (k .within)) in
       subst (λ (y : State). In-both t u y) (sym is) (record { left-in = k .within .left; right-in = k .within .right })
 
-  pub key-small : (key : ℕ) → Key-of pack (Within t u) key → key < 2097152
-  key-small key k = rw (k .key-is) (pack-small (k .state) (within-bounded t u tg ug (k .state) (k .within)))
+  pub key-bounded : (key : ℕ) → Key-of pack (Within t u) key → Bounded (unpacked key)
+  key-bounded key k =
+      let x : State = k .state in
+      let b : Bounded x = within-bounded t u tg ug x (k .within) in
+      subst Bounded (sym (ap unpacked (k .key-is) ∙ unpacked-pack x b)) b

@@ -8,29 +8,18 @@ use lib.Dec.{leb, eqb}
 use lib.ListN.{getD}
 use borrow.Author.Tests.{eq-eqb, ne-eqb, leb-true}
 use Rattle.wire.specs.Bytes.{every}
-use Rattle.wire.proofs.Places.{and-true}
+use Rattle.wire.proofs.Bool.{by-test, and-true}
 use Rattle.transducer.specs.declared.Final.{Final}
 use Rattle.transducer.specs.Format.{Transducer, Good, weight-good}
 use Rattle.transducer.specs.Leaf.{Finals-by-state, final-code}
 use Rattle.transducer.specs.Path.{is-final, final-weight}
 use Rattle.transducer.proofs.RoundTrip.{good-passed}
-use Rattle.explore.proofs.Cases.{by-test}
 use Rattle.explore.proofs.Finals.{not-final-weight}
 use Rattle.steps.specs.declared.State.{State}
 use Rattle.compose.specs.Compose.{final-state, state-weight}
 use Rattle.compose.specs.Finished.{key-final, key-weight}
-use Rattle.steps.specs.Packing.{pack, unpacked}
-use Rattle.steps.proofs.Packing.{Bounded, unpacked-pack}
-
--- The parts of a key are states.
-pub key-parts : (k : ℕ) (x : State) → x ≡ unpacked k → k < 2097152 → (x .left < 1024) × (x .right < 1024)
-unfolding unpacked
-key-parts k x e h = rw e (omega arith, omega arith)
-
--- There are two filter states.
-pub key-filter : (k : ℕ) (x : State) → x ≡ unpacked k → x .filter < 2
-unfolding unpacked
-key-filter k x e = rw e (omega arith)
+use Rattle.steps.specs.Packing.{pack, unpacked, Bounded}
+use Rattle.steps.proofs.Packing.{unpacked-pack}
 
 -- key-final, by the two codes
 

@@ -1,15 +1,19 @@
-pub mod Claimed
-pub mod ComposeSays
-pub mod Explored
-pub mod KeyFinals
+-- Trails of steps and pairs of paths stand one to one.
+pub mod Trail
 pub mod Leads
-pub mod LeastSums
-pub mod MetPaths
-pub mod Numbered
-pub mod Opening
-pub mod Origins
 pub mod Pairing
 pub mod Pairs
-pub mod Trail
-pub mod WalkCode
+-- The same of the composition's accepting paths, by their arcs' origins; least sums.
+pub mod Origins
+pub mod MetPaths
+pub mod Numbered
 pub mod Written
+pub mod LeastSums
+pub mod Claimed
+-- The walk by keys walks the composition, and its code walks by keys.
+pub mod Explored
+pub mod WalkCode
+-- What is written, and the answers.
+pub mod Opening
+pub mod KeyFinals
+pub mod ComposeSays

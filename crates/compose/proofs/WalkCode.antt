@@ -16,7 +16,7 @@ use Rattle.explore.specs.declared.Walk.{Walk}
 use Rattle.explore.specs.Explore.{place}
 use Rattle.explore.specs.Chain.{Chained}
 use Rattle.explore.specs.Walk.{Keyed, Sofar, with-key, taken, all-taken, state-served, traced-by, Records, Walked, Went}
-use Rattle.explore.proofs.Cases.{by-test}
+use Rattle.wire.proofs.Bool.{by-test}
 use Rattle.explore.proofs.Walking.{walked-next, Taking, taking-state, taking-part, taking-full, taking-stop}
 use Rattle.steps.specs.declared.Begin.{Begin}
 use Rattle.steps.specs.declared.Origin.{Origin}
@@ -26,8 +26,9 @@ use Rattle.steps.specs.declared.Step.{Step}
 use Rattle.steps.specs.Steps.{left-origin, right-origin, origin-pair, steps}
 use Rattle.steps.specs.Lookup.{Leaving}
 use Rattle.steps.specs.Packing.{unpacked}
-use Rattle.steps.specs.Runs.{coded, run-step, run-steps, Ready, In-both}
+use Rattle.steps.specs.Runs.{coded, run-step, run-steps, Takeable, In-both}
 use Rattle.compose.specs.Walk.{keyed-step, key-steps}
+use Rattle.compose.specs.Taking.{run-left}
 use Rattle.compose.proofs.Explored.{two-origins}
 use Rattle.steps.proofs.Leaving.{state-leaving}
 use Rattle.steps.proofs.RunSteps.{runs-from, good-runs}
@@ -60,16 +61,12 @@ step-walked b source number count s w w' table table' origins origins' states st
 
 -- The steps of a run
 
--- Those from right arc j to below `to`.
-abbrev pub run-left : (u : Transducer) → Run → (to j : ℕ) → List Keyed
-run-left u r to j = map keyed-step (run-steps u r (to - j) j)
-
 module _ (u : Transducer) (r : Run) (to j : ℕ) where
   pub run-left-next : (k : ℕ) (s : Step) → Next-step u r j to k → s ≡ run-step u r j → run-left u r to j ≡ keyed-step s ∷ run-left u r to k
   run-left-next k s next is =
       ap (λ (ss : List Step). map keyed-step ss) (next .are) ∙ ap (λ (z : Step). keyed-step z ∷ run-left u r to k) (sym is)
 
-  pub run-left-first : (s : Step) → Ready u r j to → j < to → s ≡ run-step u r j → run-left u r to j ≡ keyed-step s ∷ run-left u r to (suc j)
+  pub run-left-first : (s : Step) → Takeable u r j to → j < to → s ≡ run-step u r j → run-left u r to j ≡ keyed-step s ∷ run-left u r to (suc j)
   run-left-first s ready l is =
       ap (λ (ss : List Step). map keyed-step ss) (first-step u r j to ready l) ∙ ap (λ (z : Step). keyed-step z ∷ run-left u r to (suc j)) (sym is)
 

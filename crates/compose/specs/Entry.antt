@@ -6,7 +6,7 @@ use Prim.Native.Nat.{ℕ}
 use lib.Dec.{ltb}
 use lib.ListN.{length}
 use Rattle.transducer.specs.declared.Written.{Written}
-use Rattle.transducer.specs.Format.{refusal, decode}
+use Rattle.transducer.specs.Format.{max-states, max-bytes, max-origins, refusal, decode}
 use Rattle.transducer.specs.Encode.{encode}
 use Rattle.transducer.specs.Entry.{or-else, unless}
 use Rattle.explore.specs.Explore.{Step, built-refusal, left-behind}
@@ -22,7 +22,7 @@ origin-pairs ss = all-origins origin-pair ss
 
 -- 10: a lent buffer is too short
 unfoldable pub compose-room : (table origins states : ℕ) → ℕ
-compose-room a b c = cond (ltb a 59404 || (ltb b 6144 || ltb c 1024)) 10 0
+compose-room a b c = cond (ltb a max-bytes || (ltb b max-origins || ltb c max-states)) 10 0
 
 -- The left transducer's 1 to 8, the right one's, 10, then 11 to 13.
 unfoldable pub compose-refusal : (left right : List ℕ) → (table origins states : ℕ) → ℕ

@@ -2,18 +2,18 @@
 use mathlib.Core.Path.{_≡_}
 use mathlib.Core.Bool.{Bool, _&&_, not}
 use mathlib.Core.List.{List, []}
-use Prim.Native.Nat.{ℕ, _-_, _≤_, _<_}
+use Prim.Native.Nat.{ℕ, _+_, _-_, _≤_, _<_}
 use lib.Dec.{eqb}
 use lib.ListN.{length, getD}
 use Rattle.wire.specs.Bytes.{filled}
 use Rattle.transducer.specs.declared.Final.{Final}
 use Rattle.transducer.specs.declared.Written.{Written}
-use Rattle.transducer.specs.Format.{refusal, decode}
+use Rattle.transducer.specs.Format.{max-states, max-arcs, max-weight, max-bytes, max-origins, arcs-at, refusal, decode}
 use Rattle.transducer.specs.Weight.{plus}
 use Rattle.explore.specs.declared.Walk.{Walk}
 use Rattle.explore.specs.Explore.{finals-from}
 use Rattle.explore.specs.Walk.{Told}
-use Rattle.steps.specs.Packing.{unpacked}
+use Rattle.steps.specs.Packing.{unpacked, Bounded}
 use Rattle.compose.specs.Walk.{key-walk}
 
 -- Whether the state of a key is final, by the final codes of its parts, and with which weight.
@@ -28,12 +28,12 @@ key-finals ls rs keys = finals-from (key-final ls rs) (key-weight ls rs) 0 keys
 
 -- The first `count` states are keys, there is room for 1,024 finals, and each code is that of a weight in range.
 pub record Finishable (lcodes rcodes states : List ℕ) (count : ℕ) (table : List ℕ) : Type 0 where
-  pub few : count ≤ 1024
+  pub few : count ≤ max-states
   pub stored : count ≤ length states
-  pub room : 10252 ≤ length table
-  pub keys : (i : ℕ) → i < count → getD states i 0 < 2097152
-  pub left : (s : ℕ) → s < 1024 → getD lcodes s 0 ≤ 1000001
-  pub right : (s : ℕ) → s < 1024 → getD rcodes s 0 ≤ 1000001
+  pub room : arcs-at max-states ≤ length table
+  pub keys : (i : ℕ) → i < count → Bounded (unpacked (getD states i 0))
+  pub left : (s : ℕ) → s < max-states → getD lcodes s 0 ≤ max-weight + 1
+  pub right : (s : ℕ) → s < max-states → getD rcodes s 0 ≤ max-weight + 1
 
 -- A refusal once the buffers have been written to.
 pub record Refused-with (number : ℕ) (r : Written) (a a' b b' c c' : List ℕ) : Type 0 where
@@ -46,11 +46,11 @@ pub record Refused-with (number : ℕ) (r : Written) (a a' b b' c c' : List ℕ)
 pub record Composable (left right : List ℕ) (table origins states : ℕ) : Type 0 where
   pub left-accepted : refusal left ≡ 0
   pub right-accepted : refusal right ≡ 0
-  pub table-long : 59404 ≤ table
-  pub origins-long : 6144 ≤ origins
-  pub states-long : 1024 ≤ states
+  pub table-long : max-bytes ≤ table
+  pub origins-long : max-origins ≤ origins
+  pub states-long : max-states ≤ states
 
 -- The walk is done, and neither 11 nor 12 holds.
 pub record Walked-through (left right : List ℕ) (w : Walk) (table origins states : List ℕ) : Type 0 where
   pub told : Told 2 (key-walk (decode left) (decode right)) w table origins states
-  pub few-arcs : w .arcs ≤ 3072
+  pub few-arcs : w .arcs ≤ max-arcs

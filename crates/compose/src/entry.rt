@@ -9,6 +9,14 @@ ghost use Rattle.compose.specs.Finished.{Composable, Walked-through};
 use crate::finish;
 use crate::walking;
 use explore::Walk;
+use steps::LABEL_BUCKETS;
+use transducer::ARC_BYTES;
+use transducer::FINAL_BYTES;
+use transducer::HEAD_BYTES;
+use transducer::MAX_ARCS;
+use transducer::MAX_BYTES;
+use transducer::MAX_ORIGINS;
+use transducer::MAX_STATES;
 use transducer::Written;
 
 // Composes two transducers: the composed one's bytes, and the origins of its arcs, the left one and the right one in turn.
@@ -31,13 +39,13 @@ pub fn compose(
     if b != 0 {
         return transducer::refused(b);
     }
-    if table.len() < 59404 {
+    if table.len() < MAX_BYTES {
         return transducer::refused(10);
     }
-    if origins.len() < 6144 {
+    if origins.len() < MAX_ORIGINS {
         return transducer::refused(10);
     }
-    if states.len() < 1024 {
+    if states.len() < MAX_STATES {
         return transducer::refused(10);
     }
     compose_into(left, right, table, origins, states)
@@ -57,13 +65,13 @@ fn compose_into(
 {
     let l = transducer::head_of(left);
     let r = transducer::head_of(right);
-    let lfirst = 12 + 10 * (l.finals as usize);
-    let rfirst = 12 + 10 * (r.finals as usize);
+    let lfirst = HEAD_BYTES + FINAL_BYTES * (l.finals as usize);
+    let rfirst = HEAD_BYTES + FINAL_BYTES * (r.finals as usize);
     let lindex = transducer::first_arcs(left, lfirst, l.states as usize, l.arcs as usize);
     let rindex = transducer::first_arcs(right, rfirst, r.states as usize, r.arcs as usize);
-    let mut rheads = [0u16; 4096];
-    let mut chain = [0u16; 3072];
-    let mut again = [0u16; 3072];
+    let mut rheads = [0u16; LABEL_BUCKETS];
+    let mut chain = [0u16; MAX_ARCS];
+    let mut again = [0u16; MAX_ARCS];
     steps::put_chains(
         right,
         rfirst,
@@ -92,7 +100,7 @@ fn compose_into(
         return finish::refuse(table, origins, states, 11);
     }
     let arcs = w.arcs;
-    if 3072 < arcs {
+    if MAX_ARCS < arcs {
         return finish::refuse(table, origins, states, 12);
     }
     let lcodes = transducer::final_codes(left, l.finals as usize);
@@ -104,8 +112,8 @@ fn compose_into(
 fn write_out(
     left: &[u8],
     right: &[u8],
-    lcodes: &[u32; 1024],
-    rcodes: &[u32; 1024],
+    lcodes: &[u32; MAX_STATES],
+    rcodes: &[u32; MAX_STATES],
     w: Walk,
     table: &mut [u8],
     origins: &mut [u16],
@@ -127,8 +135,8 @@ fn write_out(
         return finish::refuse(table, origins, states, 13);
     }
     let finals = f.count;
-    let behind = 12 + 10 * finals;
-    let end = behind + 16 * arcs;
+    let behind = HEAD_BYTES + FINAL_BYTES * finals;
+    let end = behind + ARC_BYTES * arcs;
     explore::move_arcs(table, behind, arcs);
     transducer::put_head(table, count as u16, arcs as u16, finals as u16, 0);
     wire::clear8(table, end);

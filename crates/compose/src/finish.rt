@@ -1,31 +1,18 @@
 // What is left when the walk is done: the finals, or zeros.
-ghost use mathlib.Core.Path.{_≡_};
-ghost use Prim.Native.Nat.{_<_};
 ghost use lib.ListN.{take};
 ghost use Rattle.explore.specs.Walk.{Finals-stored};
 ghost use Rattle.compose.specs.Finished.{key-finals, Finishable, Refused-with};
 use explore::FinalsPut;
+use transducer::FINAL_BYTES;
 use transducer::Final;
+use transducer::HEAD_BYTES;
+use transducer::MAX_STATES;
 use transducer::Written;
 
-// States are final by their parts in both filter states.
-const FINAL_FILTERS: u32 = 2;
-
-// A final code as it counts in a filter state.
-fn counted(code: u32, filter: u32) -> u32
-    requires { ⌜ filter < 2 ⌝ }
-    ensures { λ r. ⌜ r ≡ code ⌝ }
-{
-    if filter < FINAL_FILTERS {
-        return code;
-    }
-    0
-}
-
-// Writes the finals of `count` states, in order, from 12 on.
+// Writes the finals of `count` states, in order, behind the head.
 pub fn put_finals(
-    lcodes: &[u32; 1024],
-    rcodes: &[u32; 1024],
+    lcodes: &[u32; MAX_STATES],
+    rcodes: &[u32; MAX_STATES],
     states: &[u32],
     count: usize,
     table: &mut [u8],
@@ -43,7 +30,7 @@ pub fn put_finals(
         let p = x.left as usize;
         let q = x.right as usize;
         let a = lcodes[p];
-        let b = counted(rcodes[q], x.filter);
+        let b = rcodes[q];
         s += 1;
         if a != 0 {
             if b != 0 {
@@ -52,7 +39,7 @@ pub fn put_finals(
                     state: state,
                     weight: weight,
                 };
-                transducer::put_final(table, 12 + 10 * finals, f);
+                transducer::put_final(table, HEAD_BYTES + FINAL_BYTES * finals, f);
                 dear = dear | !transducer::weight_ok(weight);
                 finals += 1;
             }

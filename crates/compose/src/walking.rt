@@ -1,32 +1,38 @@
 // The walk: each state is served in turn, its steps taken, their targets numbered as first reached.
 ghost use mathlib.Core.Path.{_≡_};
 ghost use mathlib.Core.Bool.{true, false, cond};
-ghost use mathlib.Core.List.{map};
-ghost use Prim.Native.Nat.{_-_, _≤_, _<_};
+ghost use Prim.Native.Nat.{_≤_, _<_};
 ghost use lib.ListN.{length, getD};
-ghost use Rattle.transducer.specs.Format.{decode};
+ghost use Rattle.transducer.specs.Format.{max-states, max-bytes, max-origins, decode};
 ghost use Rattle.transducer.specs.Leaf.{Opened};
-ghost use Rattle.explore.specs.Walk.{Sofar, all-taken, state-served, traced-by, Records, Walked, Went, Walk-says};
+ghost use Rattle.explore.specs.Walk.{all-taken, state-served, traced-by, Records, Walk-says};
 ghost use Rattle.steps.specs.Steps.{first-state, origin-pair};
 ghost use Rattle.steps.specs.Lookup.{Again};
 ghost use Rattle.steps.specs.Packing.{pack, unpacked};
-ghost use Rattle.steps.specs.Runs.{run-steps, Ready, In-both};
-ghost use Rattle.compose.specs.Walk.{keyed-step, key-steps, key-walk, Walkable};
+ghost use Rattle.steps.specs.Runs.{Takeable, In-both};
+ghost use Rattle.compose.specs.Walk.{key-steps, key-walk, Walkable};
+ghost use Rattle.compose.specs.Taking.{run-left, Holds, Takes};
+use explore::BUCKETS;
 use explore::Walk;
 use steps::Begin;
+use steps::LABEL_BUCKETS;
 use steps::Origin;
 use steps::Run;
 use steps::Step;
 use transducer::Arc;
+use transducer::INDEX_LEN;
+use transducer::MAX_ARCS;
+use transducer::MAX_STATES;
 
-const MAX_STATES: usize = 1024;
+// The number that a state beyond the limit would have.
+const FULL: usize = MAX_STATES;
 
 // Writes the origins of the arc of number `arcs`, where there is room for that arc.
 fn put_origins(origins: &mut [u16], arcs: usize, o: Origin)
-    requires { ⌜ 6144 ≤ length (now origins) ⌝ }
+    requires { ⌜ max-origins ≤ length (now origins) ⌝ }
     ensures { λ _. ⌜ now (origins .exit) ≡ traced-by 2 arcs (origin-pair o) (now (origins .entry)) ⌝ }
 {
-    if arcs < explore::MAX_ARCS {
+    if arcs < MAX_ARCS {
         origins[2 * arcs] = steps::left_origin(o);
         origins[2 * arcs + 1] = steps::right_origin(o);
     }
@@ -41,7 +47,7 @@ fn record_step(
     s: Step,
     number: usize,
 ) -> Walk
-    requires { ⌜ (number < 1024) × (59404 ≤ length (now table)) × (6144 ≤ length (now origins)) ⌝ }
+    requires { ⌜ (number < max-states) × (max-bytes ≤ length (now table)) × (max-origins ≤ length (now origins)) ⌝ }
     ensures { λ r. ⌜ Records (record { source = source; input = s .input; output = s .output; target = number; weight = s .weight }) w r
         (now (table .entry)) (now (table .exit)) ⌝ }
     ensures { λ _. ⌜ now (origins .exit) ≡ traced-by 2 (w .arcs) (origin-pair (s .origin)) (now (origins .entry)) ⌝ }
@@ -70,14 +76,14 @@ fn take_one(
     table: &mut [u8],
     origins: &mut [u16],
     states: &mut [u32],
-    heads: &mut [u16; 1024],
-    links: &mut [u16; 1024],
+    heads: &mut [u16; BUCKETS],
+    links: &mut [u16; MAX_STATES],
 ) -> Walk
-    requires { ⌜ Opened (now right) rfirst × Ready (decode (now right)) r from to × (r .alone ≡ true) ⌝ }
-    requires { ⌜ ((b : Sofar) × Walked 2 b w (now table) (now origins) (now states) (now heads) (now links)) ⌝ }
-    ensures { λ z. ⌜ ((b : Sofar) → Walked 2 b w (now (table .entry)) (now (origins .entry)) (now (states .entry)) (now (heads .entry)) (now (links .entry)) →
-        Went 2 (all-taken source (map keyed-step (run-steps (decode (now (right .entry))) r (to - from) from)) b) z
-        (now (table .exit)) (now (origins .exit)) (now (states .exit)) (now (heads .exit)) (now (links .exit))) ⌝ }
+    requires { ⌜ Opened (now right) rfirst × Takeable (decode (now right)) r from to × (r .alone ≡ true) ⌝ }
+    requires { ⌜ Holds w (now table) (now origins) (now states) (now heads) (now links) ⌝ }
+    ensures { λ z. ⌜ Takes (all-taken source (run-left (decode (now (right .entry))) r to from)) w z (now (table .entry)) (now (table .exit))
+        (now (origins .entry)) (now (origins .exit)) (now (states .entry)) (now (states .exit))
+        (now (heads .entry)) (now (heads .exit)) (now (links .entry)) (now (links .exit)) ⌝ }
 {
     if to <= from {
         return w;
@@ -86,7 +92,7 @@ fn take_one(
     let key = s.target;
     let count = w.states;
     let number = explore::find(states, heads, links, count, key);
-    if number == MAX_STATES {
+    if number == FULL {
         return Walk {
             states: count,
             arcs: w.arcs,
@@ -107,7 +113,7 @@ fn take_one(
 fn take_each(
     right: &[u8],
     rfirst: usize,
-    again: &[u16; 3072],
+    again: &[u16; MAX_ARCS],
     r: Run,
     source: u16,
     from: usize,
@@ -116,14 +122,14 @@ fn take_each(
     table: &mut [u8],
     origins: &mut [u16],
     states: &mut [u32],
-    heads: &mut [u16; 1024],
-    links: &mut [u16; 1024],
+    heads: &mut [u16; BUCKETS],
+    links: &mut [u16; MAX_STATES],
 ) -> Walk
-    requires { ⌜ Opened (now right) rfirst × Again (decode (now right)) 0 (now again) × Ready (decode (now right)) r from to × (r .alone ≡ false) ⌝ }
-    requires { ⌜ ((b : Sofar) × Walked 2 b w (now table) (now origins) (now states) (now heads) (now links)) ⌝ }
-    ensures { λ z. ⌜ ((b : Sofar) → Walked 2 b w (now (table .entry)) (now (origins .entry)) (now (states .entry)) (now (heads .entry)) (now (links .entry)) →
-        Went 2 (all-taken source (map keyed-step (run-steps (decode (now (right .entry))) r (to - from) from)) b) z
-        (now (table .exit)) (now (origins .exit)) (now (states .exit)) (now (heads .exit)) (now (links .exit))) ⌝ }
+    requires { ⌜ Opened (now right) rfirst × Again (decode (now right)) 0 (now again) × Takeable (decode (now right)) r from to × (r .alone ≡ false) ⌝ }
+    requires { ⌜ Holds w (now table) (now origins) (now states) (now heads) (now links) ⌝ }
+    ensures { λ z. ⌜ Takes (all-taken source (run-left (decode (now (right .entry))) r to from)) w z (now (table .entry)) (now (table .exit))
+        (now (origins .entry)) (now (origins .exit)) (now (states .entry)) (now (states .exit))
+        (now (heads .entry)) (now (heads .exit)) (now (links .entry)) (now (links .exit)) ⌝ }
 {
     let mut walk = w;
     let mut j = from;
@@ -143,7 +149,7 @@ fn take_each(
             }
             next = links[next] as usize;
         };
-        if number == MAX_STATES {
+        if number == FULL {
             walk.full = true;
             return walk;
         }
@@ -162,7 +168,7 @@ fn take_each(
 fn take_run(
     right: &[u8],
     rfirst: usize,
-    again: &[u16; 3072],
+    again: &[u16; MAX_ARCS],
     r: Run,
     source: u16,
     from: usize,
@@ -171,14 +177,14 @@ fn take_run(
     table: &mut [u8],
     origins: &mut [u16],
     states: &mut [u32],
-    heads: &mut [u16; 1024],
-    links: &mut [u16; 1024],
+    heads: &mut [u16; BUCKETS],
+    links: &mut [u16; MAX_STATES],
 ) -> Walk
-    requires { ⌜ Opened (now right) rfirst × Again (decode (now right)) 0 (now again) × Ready (decode (now right)) r from to ⌝ }
-    requires { ⌜ ((b : Sofar) × Walked 2 b w (now table) (now origins) (now states) (now heads) (now links)) ⌝ }
-    ensures { λ z. ⌜ ((b : Sofar) → Walked 2 b w (now (table .entry)) (now (origins .entry)) (now (states .entry)) (now (heads .entry)) (now (links .entry)) →
-        Went 2 (all-taken source (map keyed-step (run-steps (decode (now (right .entry))) r (to - from) from)) b) z
-        (now (table .exit)) (now (origins .exit)) (now (states .exit)) (now (heads .exit)) (now (links .exit))) ⌝ }
+    requires { ⌜ Opened (now right) rfirst × Again (decode (now right)) 0 (now again) × Takeable (decode (now right)) r from to ⌝ }
+    requires { ⌜ Holds w (now table) (now origins) (now states) (now heads) (now links) ⌝ }
+    ensures { λ z. ⌜ Takes (all-taken source (run-left (decode (now (right .entry))) r to from)) w z (now (table .entry)) (now (table .exit))
+        (now (origins .entry)) (now (origins .exit)) (now (states .entry)) (now (states .exit))
+        (now (heads .entry)) (now (heads .exit)) (now (links .entry)) (now (links .exit)) ⌝ }
 {
     if r.alone {
         return take_one(
@@ -227,27 +233,28 @@ fn end_of(at: Begin, to: usize) -> usize
 fn serve(
     left: &[u8],
     lfirst: usize,
-    lindex: &[u16; 1025],
+    lindex: &[u16; INDEX_LEN],
     right: &[u8],
     rfirst: usize,
-    rindex: &[u16; 1025],
-    rheads: &[u16; 4096],
-    chain: &[u16; 3072],
-    again: &[u16; 3072],
+    rindex: &[u16; INDEX_LEN],
+    rheads: &[u16; LABEL_BUCKETS],
+    chain: &[u16; MAX_ARCS],
+    again: &[u16; MAX_ARCS],
     source: usize,
     w: Walk,
     table: &mut [u8],
     origins: &mut [u16],
     states: &mut [u32],
-    heads: &mut [u16; 1024],
-    links: &mut [u16; 1024],
+    heads: &mut [u16; BUCKETS],
+    links: &mut [u16; MAX_STATES],
 ) -> Walk
     requires { ⌜ Walkable (now left) lfirst (now lindex) (now right) rfirst (now rindex) (now rheads) (now chain) (now again) × (source < w .states) ⌝ }
     requires { ⌜ In-both (decode (now left)) (decode (now right)) (unpacked (getD (now states) source 0)) ⌝ }
-    requires { ⌜ ((b : Sofar) × Walked 2 b w (now table) (now origins) (now states) (now heads) (now links)) ⌝ }
-    ensures { λ z. ⌜ ((b : Sofar) → Walked 2 b w (now (table .entry)) (now (origins .entry)) (now (states .entry)) (now (heads .entry)) (now (links .entry)) →
-        Went 2 (state-served (key-steps (decode (now (left .entry))) (decode (now (right .entry)))) source b) z
-        (now (table .exit)) (now (origins .exit)) (now (states .exit)) (now (heads .exit)) (now (links .exit))) ⌝ }
+    requires { ⌜ Holds w (now table) (now origins) (now states) (now heads) (now links) ⌝ }
+    ensures { λ z. ⌜ Takes (state-served (key-steps (decode (now (left .entry))) (decode (now (right .entry)))) source) w z
+        (now (table .entry)) (now (table .exit))
+        (now (origins .entry)) (now (origins .exit)) (now (states .entry)) (now (states .exit))
+        (now (heads .entry)) (now (heads .exit)) (now (links .entry)) (now (links .exit)) ⌝ }
 {
     let x = steps::unpack(states[source]);
     let p = x.left as usize;
@@ -299,13 +306,13 @@ fn serve(
 pub fn walk_all(
     left: &[u8],
     lfirst: usize,
-    lindex: &[u16; 1025],
+    lindex: &[u16; INDEX_LEN],
     right: &[u8],
     rfirst: usize,
-    rindex: &[u16; 1025],
-    rheads: &[u16; 4096],
-    chain: &[u16; 3072],
-    again: &[u16; 3072],
+    rindex: &[u16; INDEX_LEN],
+    rheads: &[u16; LABEL_BUCKETS],
+    chain: &[u16; MAX_ARCS],
+    again: &[u16; MAX_ARCS],
     first: u32,
     table: &mut [u8],
     origins: &mut [u16],
@@ -313,12 +320,12 @@ pub fn walk_all(
 ) -> Walk
     requires { ⌜ Walkable (now left) lfirst (now lindex) (now right) rfirst (now rindex) (now rheads) (now chain) (now again) ⌝ }
     requires { ⌜ first ≡ pack (first-state (decode (now left)) (decode (now right))) ⌝ }
-    requires { ⌜ (59404 ≤ length (now table)) × (6144 ≤ length (now origins)) × (1024 ≤ length (now states)) ⌝ }
+    requires { ⌜ (max-bytes ≤ length (now table)) × (max-origins ≤ length (now origins)) × (max-states ≤ length (now states)) ⌝ }
     ensures { λ r. ⌜ Walk-says 2 (key-walk (decode (now (left .entry))) (decode (now (right .entry)))) r (now (table .entry)) (now (table .exit))
         (now (origins .entry)) (now (origins .exit)) (now (states .entry)) (now (states .exit)) ⌝ }
 {
-    let mut heads = [0u16; 1024];
-    let mut links = [0u16; 1024];
+    let mut heads = [0u16; BUCKETS];
+    let mut links = [0u16; MAX_STATES];
     explore::insert(states, &mut heads, &mut links, 0, first);
     let mut walk = Walk {
         states: 1,

@@ -7,7 +7,8 @@ use native.Mathlib.Omega.{arith}
 use lib.Dec.{ltb}
 use lib.ListN.{length}
 use borrow.Author.Tests.{ltb-true, lt-ltb}
-use Rattle.wire.proofs.Places.{and-true, true-and, every-getD}
+use Rattle.wire.proofs.Bool.{and-true, true-and}
+use Rattle.wire.proofs.Places.{every-getD}
 use Rattle.transducer.specs.Format.{Transducer, barred, labels-good, all-labels-good}
 use Rattle.transducer.specs.Path.{arc, no-arc}
 use Rattle.explore.specs.Explore.{Step}

@@ -1,9 +1,14 @@
+-- The steps of a composed state, one by one: their kinds, labels, targets and weights.
 pub mod Moves
 pub mod Labels
+pub mod Within
+-- States compared and packed.
 pub mod SameState
 pub mod Packing
+-- The same steps as runs, and the next run from a left arc on.
 pub mod RunSteps
 pub mod Leaving
 pub mod Reading
+-- What the code relies on: arcs read in place, and the look-up of right arcs.
 pub mod RunCode
 pub mod Links

@@ -11,15 +11,14 @@ use lib.ListN.{length, getD, set, replicate, length-set, length-replicate, getD-
 use lib.Seq.{getD-set-same, getD-set-other}
 use borrow.Author.Tests.{eqb-true, eq-eqb, ne-eqb}
 use Rattle.wire.proofs.Low.{two-below}
-use Rattle.wire.proofs.Places.{and-true}
+use Rattle.wire.proofs.Bool.{by-test, clash, is-false, and-true}
 use Rattle.wire.specs.Bytes.{Bytes, four}
 use Rattle.transducer.specs.Format.{Transducer, decode}
 use Rattle.transducer.specs.Leaf.{Opened}
 use Rattle.transducer.specs.Path.{arc}
-use Rattle.explore.proofs.Cases.{by-test, clash, is-false}
 use Rattle.steps.specs.declared.Run.{Run}
 use Rattle.steps.specs.Lookup.{label-bucket, reads, in-bucket, first-of, first-from, Heads, Chain, Again, Lookup, Leads, Rest, Leaving}
-use Rattle.steps.specs.Runs.{Ready, reading-from}
+use Rattle.steps.specs.Runs.{Takeable, reading-from}
 use Rattle.steps.proofs.Leaving.{rest-from}
 use Rattle.steps.proofs.RunCode.{source-in-place, input-in-place}
 use Rattle.steps.proofs.Reading.{First-reading, reading-unique, Next-step, next-together}
@@ -375,7 +374,7 @@ module _ {u : Transducer} {again : List ℕ} (a : Again u 0 again) (j to : ℕ) 
       omega (arith, repeats, most, r .within)
 
 -- The next step of a run by the link of the right arc at hand.
-module _ {u : Transducer} {r : Run} {again : List ℕ} (a : Again u 0 again) (j to : ℕ) (ready : Ready u r j to) (l : j < to) (together : r .alone ≡ false)
+module _ {u : Transducer} {r : Run} {again : List ℕ} (a : Again u 0 again) (j to : ℕ) (ready : Takeable u r j to) (l : j < to) (together : r .alone ≡ false)
   where
     reads-here : arc u j .input ≡ r .label
     reads-here = eqb-true (arc u j .input) (r .label) (rw together at (ready .fits-here l))

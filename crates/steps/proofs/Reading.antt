@@ -13,13 +13,14 @@ use Rattle.transducer.specs.declared.Arc.{Arc}
 use Rattle.transducer.specs.Format.{Transducer, Good}
 use Rattle.transducer.specs.Path.{arc}
 use Rattle.transducer.specs.Leaf.{arcs-below}
-use Rattle.explore.proofs.Cases.{by-test, never}
+use Rattle.wire.proofs.Bool.{by-test, never}
 use Rattle.steps.specs.declared.Begin.{Begin}
 use Rattle.steps.specs.declared.Run.{Run}
 use Rattle.steps.specs.declared.State.{State}
 use Rattle.steps.specs.declared.Step.{Step}
 use Rattle.steps.specs.Lookup.{Rest}
-use Rattle.steps.specs.Runs.{run-step, run-steps, reading-from, begin-from, run-at, Ready, In-both}
+use Rattle.steps.specs.Packing.{Bounded}
+use Rattle.steps.specs.Runs.{run-step, run-steps, reading-from, begin-from, run-at, Takeable, In-both}
 use Rattle.transducer.proofs.RoundTrip.{good-range, good-content}
 use Rattle.steps.proofs.Leaving.{rest-at, state-leaving}
 use Rattle.steps.proofs.RunSteps.{
@@ -105,18 +106,18 @@ module _ (u : Transducer) (label : ℕ) where
 
 module _ (u : Transducer) (r : Run) where
   -- A run that is ready has a step.
-  pub first-step : (j to : ℕ) → Ready u r j to → j < to → run-steps u r (to - j) j ≡ run-step u r j ∷ run-steps u r (to - suc j) (suc j)
+  pub first-step : (j to : ℕ) → Takeable u r j to → j < to → run-steps u r (to - j) j ≡ run-step u r j ∷ run-steps u r (to - suc j) (suc j)
   unfolding run-steps
   first-step j to ready l = let e : to - j ≡ suc (to - suc j) = omega arith in rw (e, ready .fits-here l)
 
   -- The next step is with right arc k, and the run can be taken from there.
   pub record Next-step (j to k : ℕ) : Type 0 where
     pub past : j < k
-    pub ready : Ready u r k to
+    pub ready : Takeable u r k to
     pub are : run-steps u r (to - j) j ≡ run-step u r j ∷ run-steps u r (to - k) k
 
   -- A run alone is at its end after one step.
-  pub next-alone : (j to : ℕ) → Ready u r j to → j < to → r .alone ≡ true → Next-step j to to
+  pub next-alone : (j to : ℕ) → Takeable u r j to → j < to → r .alone ≡ true → Next-step j to to
   next-alone j to ready l e =
       let short : to ≤ j + 1 = ready .single e in
       let same : to ≡ suc j = omega arith in
@@ -135,7 +136,7 @@ module _ (u : Transducer) (r : Run) where
       }
 
   -- Any other goes on with the next right arc that reads its label.
-  pub next-together : (j to k : ℕ) → Ready u r j to → j < to → r .alone ≡ false → k ≡ reading-from u (r .label) (to - suc j) (suc j)
+  pub next-together : (j to k : ℕ) → Takeable u r j to → j < to → r .alone ≡ false → k ≡ reading-from u (r .label) (to - suc j) (suc j)
       → Next-step j to k
   next-together j to k ready l e is =
       let first : First-reading u (r .label) (suc j) to k = rw is (first-reading u (r .label) (suc j) to l) in
@@ -168,7 +169,8 @@ right-to u x = arcs-below (suc (x .right)) (u .arcs)
 pub record Run-here (t u : Transducer) (x : State) (i last to : ℕ) (b : Begin) (r : Run) : Type 0 where
   pub at-least : i ≤ b .i
   pub at-most : b .i ≤ last
-  pub ready : Ready u r (b .j) (cond (b .alone) 1 to)
+  pub alone-before : b .alone ≡ true → b .i < last
+  pub ready : Takeable u r (b .j) (cond (b .alone) 1 to)
   pub are-more : b .i < last
       → runs-from t u x (last - i) i
       ≡ run-steps u r (cond (b .alone) 1 to - b .j) (b .j) ++ runs-from t u x (last - suc (b .i)) (suc (b .i))
@@ -183,6 +185,7 @@ here-skip t u x i last to b r l none h =
     record {
       at-least = omega (arith, h .at-least);
       at-most = h .at-most;
+      alone-before = h .alone-before;
       ready = h .ready;
       are-more = λ p. e ∙ h .are-more p;
       are-last = λ p. e ∙ h .are-last p;
@@ -198,6 +201,13 @@ module _ (t u : Transducer) (tg : Good t) (ug : Good u) (x : State) (inside : In
   right-order : right-from u x ≤ right-to u x
   right-order = right-rest .order
 
+  -- A left state and either filter state, with the right state at hand, can be packed.
+  fits : (p filter : ℕ) → p < t .states → filter < 2 → Bounded (record { left = p; right = x .right; filter = filter })
+  fits p filter l f =
+      let few : t .states ≤ 1024 = good-range t tg .states in
+      let many : u .states ≤ 1024 = good-range u ug .states in
+      record { left = omega arith; right = omega (arith, inside .right-in); filter = f }
+
   -- Behind the last left arc: the right arcs alone.
   here-right : (last : ℕ)
       → Run-here t u x last last (right-to u x) (record { alone = false; i = last; j = reading-from u 0 (right-to u x - right-from u x) (right-from u x) })
@@ -205,13 +215,13 @@ module _ (t u : Transducer) (tg : Good t) (ug : Good u) (x : State) (inside : In
   here-right last =
       let j : ℕ = reading-from u 0 (right-to u x - right-from u x) (right-from u x) in
       let first : First-reading u 0 (right-from u x) (right-to u x) j = first-reading u 0 (right-from u x) (right-to u x) right-order in
-      let few : t .states ≤ 1024 = good-range t tg .states in
       record {
         at-least = omega arith;
         at-most = omega arith;
+        alone-before = λ h. never h;
         ready =
             record {
-              target-fits = omega (arith, inside .left-in);
+              target-fits = fits (x .left) 1 (inside .left-in) (omega arith);
               weight-fits = omega arith;
               inside = λ h. right-inside;
               single = λ h. never h;
@@ -227,15 +237,13 @@ module _ (t u : Transducer) (tg : Good t) (ug : Good u) (x : State) (inside : In
   here-alone : (i last : ℕ) → i < last → last ≤ length (t .arcs) → arc t i .output ≡ 0 → x .filter ≡ 0
       → Run-here t u x i last (right-to u x) (record { alone = true; i = i; j = 0 }) (alone-run x i (arc t i))
   here-alone i last l within silent free =
-      let few : t .states ≤ 1024 = good-range t tg .states in
-      let many : u .states ≤ 1024 = good-range u ug .states in
-      let target : arc t i .target < t .states = good-content t tg .target i (omega arith) in
       record {
         at-least = omega arith;
         at-most = omega arith;
+        alone-before = λ h. l;
         ready =
             record {
-              target-fits = omega (arith, inside .right-in);
+              target-fits = fits (arc t i .target) 0 (good-content t tg .target i (omega arith)) (omega arith);
               weight-fits = good-content t tg .weight i (omega arith);
               inside = λ h. never (sym h);
               single = λ h. omega arith;
@@ -252,19 +260,18 @@ module _ (t u : Transducer) (tg : Good t) (ug : Good u) (x : State) (inside : In
   here-both : (i last : ℕ) → i < last → last ≤ length (t .arcs) → (arc t i .output ≡ 0 → ⊥)
       → Run-here t u x i last (right-to u x)
       (record { alone = false; i = i; j = reading-from u (arc t i .output) (right-to u x - right-from u x) (right-from u x) })
-      (both-run i (arc t i))
+      (both-run x i (arc t i))
   here-both i last l within writes =
       let label : ℕ = arc t i .output in
       let j : ℕ = reading-from u label (right-to u x - right-from u x) (right-from u x) in
       let first : First-reading u label (right-from u x) (right-to u x) j = first-reading u label (right-from u x) (right-to u x) right-order in
-      let few : t .states ≤ 1024 = good-range t tg .states in
-      let target : arc t i .target < t .states = good-content t tg .target i (omega arith) in
       record {
         at-least = omega arith;
         at-most = omega arith;
+        alone-before = λ h. never h;
         ready =
             record {
-              target-fits = omega arith;
+              target-fits = fits (arc t i .target) 0 (good-content t tg .target i (omega arith)) (omega arith);
               weight-fits = good-content t tg .weight i (omega arith);
               inside = λ h. right-inside;
               single = λ h. never h;
@@ -275,7 +282,7 @@ module _ (t u : Transducer) (tg : Good t) (ug : Good u) (x : State) (inside : In
             runs-next t u x i last l
             ∙ ap (λ (ss : List Step). ss ++ runs-from t u x (last - suc i) (suc i))
             (arc-steps-both t u x i writes
-            ∙ run-skip u (both-run i (arc t i)) refl (right-from u x) j (right-to u x) (first .least) (first .most) (first .unread));
+            ∙ run-skip u (both-run x i (arc t i)) refl (right-from u x) j (right-to u x) (first .least) (first .most) (first .unread));
         are-last = λ h. absurd (omega arith);
       }
 
@@ -284,11 +291,11 @@ module _ (t u : Transducer) (tg : Good t) (ug : Good u) (x : State) (inside : In
   unfolding run-at
   run-at-right last j = rw (eq-eqb last last refl)
 
-  run-at-alone : (i last j : ℕ) → i < last → run-at t last x (record { alone = true; i = i; j = j }) ≡ alone-run x i (arc t i)
+  run-at-alone : (i last j : ℕ) → run-at t last x (record { alone = true; i = i; j = j }) ≡ alone-run x i (arc t i)
   unfolding run-at
-  run-at-alone i last j l = rw (ne-eqb i last (λ e. omega arith))
+  run-at-alone i last j = refl
 
-  run-at-both : (i last j : ℕ) → i < last → run-at t last x (record { alone = false; i = i; j = j }) ≡ both-run i (arc t i)
+  run-at-both : (i last j : ℕ) → i < last → run-at t last x (record { alone = false; i = i; j = j }) ≡ both-run x i (arc t i)
   unfolding run-at
   run-at-both i last j l = rw (ne-eqb i last (λ e. omega arith))
 
@@ -308,7 +315,7 @@ module _ (t u : Transducer) (tg : Good t) (ug : Good u) (x : State) (inside : In
       let b : Begin = begin-from t u (x .filter) (right-from u x) width n (suc i) in
       by-test (eqb label 0)
       (λ z. by-test (eqb (x .filter) 0)
-      (λ f. rw (z, f, run-at-alone i last 0 l) (here-alone i last l within (eqb-true label 0 z) (eqb-true (x .filter) 0 f)))
+      (λ f. rw (z, f, run-at-alone i last 0) (here-alone i last l within (eqb-true label 0 z) (eqb-true (x .filter) 0 f)))
       (λ f. rw (z, f)
       (here-skip t u x i last (right-to u x) b (run-at t last x b) l
       (arc-steps-none t u x i (eqb-true label 0 z) (eqb-false (x .filter) 0 f)) more)))

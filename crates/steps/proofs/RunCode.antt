@@ -9,12 +9,12 @@ use lib.ListN.{length}
 use borrow.Author.Tests.{eq-eqb, ne-eqb, lt-ltb, le-ltb}
 use Rattle.wire.specs.Bytes.{Bytes, two}
 use Rattle.transducer.specs.declared.Arc.{Arc}
-use Rattle.transducer.specs.Format.{Transducer, decode, arc-at}
+use Rattle.transducer.specs.Format.{Transducer, Good, decode, arc-at}
 use Rattle.transducer.specs.Path.{arc}
 use Rattle.transducer.specs.Leaf.{Opened}
 use Rattle.transducer.proofs.Offsets.{arc-offset, length-accepted, length-arcs}
 use Rattle.transducer.proofs.Accept.{Bounds, bounds}
-use Rattle.steps.specs.declared.Run.{Run}
+use Rattle.transducer.proofs.RoundTrip.{accepted-good, good-range, good-content}
 use Rattle.steps.specs.Runs.{reading-from, begin-from}
 
 -- Accepted bytes
@@ -41,14 +41,13 @@ module _ (bs : List ℕ) (bytes : Bytes bs) (first : ℕ) (opened : Opened bs fi
   pub opened-few : length (decode bs .arcs) ≤ 3072
   opened-few = let b : Bounds bs = bounds bytes (opened .accepted) in omega (arith, b .arcs-long, b .arcs)
 
+  pub opened-target : (j : ℕ) → j < length (decode bs .arcs) → arc (decode bs) j .target < 1024
+  opened-target j h =
+      let good : Good (decode bs) = accepted-good bs bytes (opened .accepted) in
+      omega (arith, good-content (decode bs) good .target j h, good-range (decode bs) good .states)
+
   pub opened-weight : (j : ℕ) → j < length (decode bs .arcs) → arc (decode bs) j .weight ≤ 1000000
   opened-weight j h = let b : Bounds bs = bounds bytes (opened .accepted) in b .weight j (omega (arith, b .arcs-long))
-
--- Runs that differ in their target alone.
-pub to-target : {alone : Bool} {left label input target target' weight : ℕ} → target ≡ target'
-    → _≡_ {A = Run} (record { alone = alone; left = left; label = label; input = input; target = target; weight = weight })
-    (record { alone = alone; left = left; label = label; input = input; target = target'; weight = weight })
-to-target e = rw e
 
 -- begin-from
 

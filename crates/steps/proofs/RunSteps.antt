@@ -15,14 +15,13 @@ use Rattle.transducer.specs.Path.{arc}
 use Rattle.transducer.specs.Each.{each-arc, fits, passed}
 use Rattle.transducer.specs.Leaf.{arcs-below}
 use Rattle.transducer.proofs.Ranges.{from-to, from-to-same, from-to-skip, map-from-to, arcs-below-length, arcs-below-rises, each-arc-range}
-use Rattle.explore.proofs.Cases.{by-test}
+use Rattle.wire.proofs.Bool.{by-test}
 use Rattle.explore.specs.Explore as explore
 use Rattle.steps.specs.declared.Origin.{Origin}
 use Rattle.steps.specs.declared.Run.{Run}
 use Rattle.steps.specs.declared.State.{State}
 use Rattle.steps.specs.declared.Step.{Step}
 use Rattle.steps.specs.Steps.{left-alone, right-alone, both-step, left-steps, right-steps, steps}
-use Rattle.steps.specs.Packing.{pack}
 use Rattle.steps.specs.Runs.{coded, run-step, run-steps}
 use Rattle.transducer.proofs.RoundTrip.{good-range, good-content}
 
@@ -79,13 +78,15 @@ module _ (u : Transducer) (r : Run) (together : r .alone ≡ false) where
 
 abbrev pub alone-run : State → (i : ℕ) → Arc → Run
 alone-run x i a =
-    record { alone = true; left = i; label = 0; input = a .input; target = 2048 * a .target + 2 * x .right; weight = a .weight }
+    record { alone = true; left = i; label = 0; input = a .input; target = record { left = a .target; right = x .right; filter = 0 }; weight = a .weight }
 
-abbrev pub both-run : (i : ℕ) → Arc → Run
-both-run i a = record { alone = false; left = i; label = a .output; input = a .input; target = 2048 * a .target; weight = a .weight }
+abbrev pub both-run : State → (i : ℕ) → Arc → Run
+both-run x i a =
+    record { alone = false; left = i; label = a .output; input = a .input; target = record { left = a .target; right = x .right; filter = 0 }; weight = a .weight }
 
 abbrev pub right-run : State → Run
-right-run x = record { alone = false; left = barred; label = 0; input = 0; target = x .left * 2048 + 1; weight = 0 }
+right-run x =
+    record { alone = false; left = barred; label = 0; input = 0; target = record { left = x .left; right = x .right; filter = 1 }; weight = 0 }
 
 -- The steps of a run with each right arc of the right state that fits.
 abbrev pub right-steps-of : (u : Transducer) → State → Run → List Step
@@ -94,22 +95,16 @@ right-steps-of u x r = run-steps u r (arcs-below (suc (x .right)) (u .arcs) - ar
 -- A step of each kind, as the run's.
 
 pub coded-left : (u : Transducer) (x : State) (i j : ℕ) (a : Arc) → coded (left-alone x i a) ≡ run-step u (alone-run x i a) j
-unfolding coded left-alone run-step pack
-coded-left u x i j a =
-    let e : (a .target * 1024 + x .right) * 2 + 0 ≡ 2048 * a .target + 2 * x .right = omega arith in
-    rw e
+unfolding coded left-alone run-step
+coded-left u x i j a = refl
 
-pub coded-both : (u : Transducer) (i j : ℕ) (a : Arc) → i < 65535 → coded (both-step i a j (arc u j)) ≡ run-step u (both-run i a) j
-unfolding coded both-step run-step pack passed
-coded-both u i j a small =
-    let e : (a .target * 1024 + arc u j .target) * 2 + 0 ≡ 2048 * a .target + 2 * arc u j .target = omega arith in
-    rw (e, ne-eqb i 65535 (λ q. omega arith))
+pub coded-both : (u : Transducer) (x : State) (i j : ℕ) (a : Arc) → i < 65535 → coded (both-step i a j (arc u j)) ≡ run-step u (both-run x i a) j
+unfolding coded both-step run-step passed
+coded-both u x i j a small = rw (ne-eqb i 65535 (λ q. omega arith))
 
 pub coded-right : (u : Transducer) (x : State) (j : ℕ) → coded (right-alone x j (arc u j)) ≡ run-step u (right-run x) j
-unfolding coded right-alone run-step pack
-coded-right u x j =
-    let e : (x .left * 1024 + arc u j .target) * 2 + 1 ≡ x .left * 2048 + 1 + 2 * arc u j .target = omega arith in
-    rw (e, zero-add (arc u j .weight))
+unfolding coded right-alone run-step
+coded-right u x j = rw (zero-add (arc u j .weight))
 
 -- What a test lets through, mapped.
 map-cond : {A B : Type 0} (f : A → B) (b : Bool) (x : A) → map f (cond b (x ∷ []) []) ≡ cond b (f x ∷ []) []
@@ -129,7 +124,7 @@ left-steps-none u x i a e k = rw (eq-eqb (a .output) 0 e, ne-eqb (x .filter) 0 k
 
 -- A left arc that writes goes with each right arc that reads its output.
 pub left-steps-both : (u : Transducer) (x : State) (i : ℕ) (a : Arc) → sources-stay 0 (u .arcs) ≡ true → (a .output ≡ 0 → ⊥) → i < 65535
-    → map coded (left-steps u x i a) ≡ right-steps-of u x (both-run i a)
+    → map coded (left-steps u x i a) ≡ right-steps-of u x (both-run x i a)
 unfolding left-steps fits
 left-steps-both u x i a stay writes small =
     let lo : ℕ = arcs-below (x .right) (u .arcs) in
@@ -137,9 +132,9 @@ left-steps-both u x i a stay writes small =
     let f : ℕ → Arc → List (explore.Step State Origin) = λ j b. cond (eqb (b .input) (a .output)) (both-step i a j b ∷ []) [] in
     rw (ne-eqb (a .output) 0 writes)
     (ap (map coded) (each-arc-range u (x .right) f stay) ∙ map-from-to coded n lo (λ j. f j (arc u j))
-    ∙ from-to-same n lo (λ j. map coded (f j (arc u j))) (run-arc u (both-run i a) refl)
-    (λ j p q. map-cond coded (eqb (arc u j .input) (a .output)) (both-step i a j (arc u j)) ∙ (rw (coded-both u i j a small)))
-    ∙ sym (run-range u (both-run i a) refl n lo))
+    ∙ from-to-same n lo (λ j. map coded (f j (arc u j))) (run-arc u (both-run x i a) refl)
+    (λ j p q. map-cond coded (eqb (arc u j .input) (a .output)) (both-step i a j (arc u j)) ∙ (rw (coded-both u x i j a small)))
+    ∙ sym (run-range u (both-run x i a) refl n lo))
 
 -- The right arcs that read nothing go alone.
 pub right-steps-alone : (u : Transducer) (x : State) → sources-stay 0 (u .arcs) ≡ true
@@ -157,7 +152,7 @@ right-steps-alone u x stay =
 unfoldable pub arc-steps : (t u : Transducer) → State → (i : ℕ) → List Step
 arc-steps t u x i =
     cond (eqb (arc t i .output) 0) (cond (eqb (x .filter) 0) (run-steps u (alone-run x i (arc t i)) 1 0) [])
-    (right-steps-of u x (both-run i (arc t i)))
+    (right-steps-of u x (both-run x i (arc t i)))
 
 -- The steps of `count` left arcs from i on, then those of the right arcs alone.
 unfoldable pub runs-from : (t u : Transducer) → State → (count i : ℕ) → List Step
@@ -173,7 +168,7 @@ module _ (t u : Transducer) (x : State) where
   unfolding arc-steps
   arc-steps-none i e k = rw (eq-eqb (arc t i .output) 0 e, ne-eqb (x .filter) 0 k)
 
-  pub arc-steps-both : (i : ℕ) → (arc t i .output ≡ 0 → ⊥) → arc-steps t u x i ≡ right-steps-of u x (both-run i (arc t i))
+  pub arc-steps-both : (i : ℕ) → (arc t i .output ≡ 0 → ⊥) → arc-steps t u x i ≡ right-steps-of u x (both-run x i (arc t i))
   unfolding arc-steps
   arc-steps-both i writes = rw (ne-eqb (arc t i .output) 0 writes)
 
@@ -183,7 +178,7 @@ module _ (t u : Transducer) (x : State) where
       → arc-steps t u x i ≡ []
   arc-steps-unread i writes unread =
       arc-steps-both i writes
-      ∙ run-unread u (both-run i (arc t i)) refl (arcs-below (x .right) (u .arcs)) (arcs-below (suc (x .right)) (u .arcs))
+      ∙ run-unread u (both-run x i (arc t i)) refl (arcs-below (x .right) (u .arcs)) (arcs-below (suc (x .right)) (u .arcs))
       (arcs-below-rises (x .right) (suc (x .right)) (u .arcs) (omega arith)) unread
 
   pub runs-range : (n i : ℕ) → runs-from t u x n i ≡ from-to n i (arc-steps t u x) ++ right-steps-of u x (right-run x)

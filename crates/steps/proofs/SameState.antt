@@ -3,7 +3,7 @@ use mathlib.Core.Path.{_≡_, refl}
 use mathlib.Core.Bool.{true, _&&_}
 use lib.Dec.{eqb}
 use borrow.Author.Tests.{eqb-true, eq-eqb}
-use Rattle.wire.proofs.Places.{and-true}
+use Rattle.wire.proofs.Bool.{and-true}
 use Rattle.explore.specs.Explore.{Decides}
 use Rattle.steps.specs.declared.State.{State}
 use Rattle.steps.specs.Steps.{same-state}

@@ -6,12 +6,15 @@ use mathlib.Core.List.{List}
 use Prim.Native.Nat.{ℕ, zero, suc, _+_, _*_, _-_, _%_, _≤_, _<_}
 use lib.Dec.{eqb}
 use lib.ListN.{length, getD}
-use Rattle.transducer.specs.Format.{Transducer}
+use Rattle.transducer.specs.Format.{max-arcs, Transducer}
 use Rattle.transducer.specs.Path.{arc}
 
--- The bucket of a state and a label.
+-- How many buckets there are, and the bucket of a state and a label.
+abbrev pub label-buckets : ℕ
+label-buckets = 4096
+
 unfoldable pub label-bucket : (state label : ℕ) → ℕ
-label-bucket q label = (q * 61 + label) % 4096
+label-bucket q label = (q * 61 + label) % label-buckets
 
 -- Whether arc j leaves state q and reads a label; whether it is in a bucket.
 unfoldable pub reads : Transducer → (q label j : ℕ) → Bool
@@ -31,16 +34,16 @@ first-from u test j = first-of test (length (u .arcs) - j) j
 -- Of the arcs from `from` on, heads lead to the first of each bucket, the chain leads from each to the next of its bucket, and `again` to the
 -- next that leaves the same state and reads the same label.
 pub record Heads (u : Transducer) (from : ℕ) (heads : List ℕ) : Type 0 where
-  pub long : length heads ≡ 4096
-  pub are : (b : ℕ) → b < 4096 → getD heads b 0 ≡ first-from u (in-bucket u b) from
+  pub long : length heads ≡ label-buckets
+  pub are : (b : ℕ) → b < label-buckets → getD heads b 0 ≡ first-from u (in-bucket u b) from
 
 pub record Chain (u : Transducer) (from : ℕ) (chain : List ℕ) : Type 0 where
-  pub long : length chain ≡ 3072
+  pub long : length chain ≡ max-arcs
   pub are : (j : ℕ) → from ≤ j → j < length (u .arcs)
       → getD chain j 0 ≡ first-from u (in-bucket u (label-bucket (arc u j .source) (arc u j .input))) (suc j)
 
 pub record Again (u : Transducer) (from : ℕ) (again : List ℕ) : Type 0 where
-  pub long : length again ≡ 3072
+  pub long : length again ≡ max-arcs
   pub are : (j : ℕ) → from ≤ j → j < length (u .arcs) → getD again j 0 ≡ first-from u (reads u (arc u j .source) (arc u j .input)) (suc j)
 
 -- All arcs are in the chains.

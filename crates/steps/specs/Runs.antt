@@ -5,7 +5,7 @@ use mathlib.Core.List.{List, [], _∷_}
 use Prim.Native.Nat.{ℕ, zero, suc, _+_, _*_, _≤_, _<_}
 use lib.Dec.{ltb, eqb}
 use lib.ListN.{length}
-use Rattle.transducer.specs.Format.{Transducer, barred}
+use Rattle.transducer.specs.Format.{max-weight, barred, Transducer}
 use Rattle.transducer.specs.Path.{arc}
 use Rattle.transducer.specs.Weight.{plus}
 use Rattle.explore.specs.Explore as explore
@@ -16,7 +16,7 @@ use Rattle.steps.specs.declared.Step.{Step}
 use Rattle.steps.specs.declared.Run.{Run}
 use Rattle.steps.specs.declared.Begin.{Begin}
 use Rattle.steps.specs.Lookup.{Rest}
-use Rattle.steps.specs.Packing.{pack}
+use Rattle.steps.specs.Packing.{pack, Bounded}
 
 -- A step as the code has it: its target is a key.
 unfoldable pub coded : explore.Step State Origin → Step
@@ -27,12 +27,12 @@ coded s =
 unfoldable pub run-step : (right : Transducer) → Run → (j : ℕ) → Step
 run-step u r j =
     cond (r .alone)
-    (record { origin = Left (r .left); input = r .input; output = 0; target = r .target; weight = r .weight })
+    (record { origin = Left (r .left); input = r .input; output = 0; target = pack (r .target); weight = r .weight })
     (record {
       origin = cond (eqb (r .left) barred) (Right j) (Both (r .left) j);
       input = r .input;
       output = arc u j .output;
-      target = r .target + 2 * arc u j .target;
+      target = pack (record { left = r .target .left; right = arc u j .target; filter = r .target .filter });
       weight = plus (r .weight) (arc u j .weight);
     })
 
@@ -56,21 +56,36 @@ begin-from t u filter from width (suc count) i =
     cond (eqb label 0) (cond (eqb filter 0) (record { alone = true; i = i; j = 0 }) more)
     (cond (ltb j (from + width)) (record { alone = false; i = i; j = j }) more)
 
--- The run that begins there; behind the last left arc it is that of the right arcs alone.
+-- The run that begins there; behind the last left arc it is that of the right arcs alone. The right part of its target is that of a left arc
+-- alone, since each right arc leads to its own.
 unfoldable pub run-at : (t : Transducer) → (last : ℕ) → State → Begin → Run
 run-at t last x b =
     let a = arc t (b .i) in
-    cond (eqb (b .i) last)
-    (record { alone = false; left = barred; label = 0; input = 0; target = x .left * 2048 + 1; weight = 0 })
-    (cond (b .alone)
-    (record { alone = true; left = b .i; label = 0; input = a .input; target = 2048 * a .target + 2 * x .right; weight = a .weight })
-    (record { alone = false; left = b .i; label = a .output; input = a .input; target = 2048 * a .target; weight = a .weight }))
+    cond (b .alone)
+    (record {
+      alone = true;
+      left = b .i;
+      label = 0;
+      input = a .input;
+      target = record { left = a .target; right = x .right; filter = 0 };
+      weight = a .weight;
+    })
+    (cond (eqb (b .i) last)
+    (record { alone = false; left = barred; label = 0; input = 0; target = record { left = x .left; right = x .right; filter = 1 }; weight = 0 })
+    (record {
+      alone = false;
+      left = b .i;
+      label = a .output;
+      input = a .input;
+      target = record { left = a .target; right = x .right; filter = 0 };
+      weight = a .weight;
+    }))
 
 -- A run can be taken from right arc j to below `to`: its numbers are in range, and unless j is at the end, arc j fits and the arcs of its state
 -- end at `to`.
-pub record Ready (u : Transducer) (r : Run) (j to : ℕ) : Type 0 where
-  pub target-fits : r .target ≤ 2097152
-  pub weight-fits : r .weight ≤ 1000000
+pub record Takeable (u : Transducer) (r : Run) (j to : ℕ) : Type 0 where
+  pub target-fits : Bounded (r .target)
+  pub weight-fits : r .weight ≤ max-weight
   pub inside : r .alone ≡ false → to ≤ length (u .arcs)
   pub single : r .alone ≡ true → to ≤ j + 1
   pub rest : r .alone ≡ false → j < to → Rest u (arc u j .source) j to

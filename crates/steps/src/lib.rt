@@ -1,16 +1,18 @@
 // The steps of a composed state, by the epsilon-sequencing filter (paper 01: what comes from a triple): packed states, the right arcs by
 // look-up, and steps in runs.
+mod keys;
 mod lookup;
 mod runs;
 
+pub use keys::pack;
+pub use keys::unpack;
+pub use lookup::LABEL_BUCKETS;
 pub use lookup::put_chains;
 pub use runs::left_origin;
 pub use runs::next_run;
-pub use runs::pack;
 pub use runs::right_origin;
 pub use runs::run_of;
 pub use runs::step_of;
-pub use runs::unpack;
 
 // The arcs that a step of the composition comes from: an arc of the left transducer alone, of the right one alone, or one of each.
 pub enum Origin {
@@ -36,13 +38,14 @@ pub struct Step {
 }
 
 // Steps that differ in their right arc alone: of one left arc alone, of one left arc with each right arc that reads `label`, or of the
-// right arcs alone that read nothing (then `left` is 65,535).
+// right arcs alone that read nothing (then `left` is 65,535). The right part of `target` is where a left arc alone leads; a right arc leads
+// to its own target.
 pub struct Run {
     pub alone: bool,
     pub left: u16,
     pub label: u16,
     pub input: u16,
-    pub target: u32,
+    pub target: State,
     pub weight: u32,
 }
 

@@ -3,21 +3,26 @@
 ghost use mathlib.Core.Path.{_≡_};
 ghost use Prim.Native.Nat.{ℕ, _+_, _*_, _-_, _≤_, _<_};
 ghost use lib.ListN.{length, getD, replicate};
-ghost use Rattle.transducer.specs.Format.{decode};
+ghost use Rattle.transducer.specs.Format.{max-arcs, decode};
 ghost use Rattle.transducer.specs.Leaf.{Opened};
-ghost use Rattle.steps.specs.Lookup.{label-bucket, reads, first-from, Leads, Heads, Chain, Lookup, Leaving};
+ghost use Rattle.steps.specs.Lookup.{label-buckets, label-bucket, reads, first-from, Leads, Heads, Chain, Lookup, Leaving};
 ghost use Rattle.steps.specs.Runs.{reading-from};
+use transducer::ARC_BYTES;
+use transducer::MAX_ARCS;
+
+// Arcs stand in chains by the bucket of their state and label.
+pub const LABEL_BUCKETS: usize = 4096;
 
 // The bucket of a state and a label.
 fn label_bucket(state: u16, label: u16) -> usize
-    ensures { λ r. ⌜ (r ≡ label-bucket state label) × (r < 4096) ⌝ }
+    ensures { λ r. ⌜ (r ≡ label-bucket state label) × (r < label-buckets) ⌝ }
 {
-    ((state as usize) * 61 + (label as usize)) % 4096
+    ((state as usize) * 61 + (label as usize)) % LABEL_BUCKETS
 }
 
 // The link to the first arc that leaves state `q` and reads `label`, along the chain that `head` leads to. An arc's source and label stand side
 // by side and are compared as one number.
-fn along(right: &[u8], rfirst: usize, chain: &[u16; 3072], head: u16, q: u16, label: u16) -> u16
+fn along(right: &[u8], rfirst: usize, chain: &[u16; MAX_ARCS], head: u16, q: u16, label: u16) -> u16
     requires { ⌜ Opened (now right) rfirst × ((from : ℕ) × Leads (decode (now right)) q label from (now chain) head) ⌝ }
     ensures { λ r. ⌜ ((from : ℕ) → Leads (decode (now (right .entry))) q label from (now (chain .entry)) head →
         r ≡ first-from (decode (now (right .entry))) (reads (decode (now (right .entry))) q label) from) ⌝ }
@@ -26,7 +31,7 @@ fn along(right: &[u8], rfirst: usize, chain: &[u16; 3072], head: u16, q: u16, la
     let mut next = head;
     while next != 0 {
         let j = (next - 1) as usize;
-        if wire::u32_at(right, rfirst + 16 * j + 4) == both {
+        if wire::u32_at(right, rfirst + ARC_BYTES * j + 4) == both {
             return next;
         }
         next = chain[j];
@@ -40,12 +45,12 @@ pub fn put_chains(
     right: &[u8],
     rfirst: usize,
     arcs: usize,
-    heads: &mut [u16; 4096],
-    chain: &mut [u16; 3072],
-    again: &mut [u16; 3072],
+    heads: &mut [u16; LABEL_BUCKETS],
+    chain: &mut [u16; MAX_ARCS],
+    again: &mut [u16; MAX_ARCS],
 )
-    requires { ⌜ Opened (now right) rfirst × (arcs ≡ length (decode (now right) .arcs)) × (now heads ≡ replicate 4096 0)
-        × (length (now chain) ≡ 3072) × (length (now again) ≡ 3072) ⌝ }
+    requires { ⌜ Opened (now right) rfirst × (arcs ≡ length (decode (now right) .arcs)) × (now heads ≡ replicate label-buckets 0)
+        × (length (now chain) ≡ max-arcs) × (length (now again) ≡ max-arcs) ⌝ }
     ensures { λ _. ⌜ Lookup (decode (now (right .entry))) (now (heads .exit)) (now (chain .exit)) (now (again .exit)) ⌝ }
 {
     let mut left = arcs;
@@ -53,7 +58,7 @@ pub fn put_chains(
         let j = left - 1;
         let link = left as u16;
         left = j;
-        let place = rfirst + 16 * j + 4;
+        let place = rfirst + ARC_BYTES * j + 4;
         let q = wire::u16_at(right, place);
         let label = wire::u16_at(right, place + 2);
         let b = label_bucket(q, label);
@@ -68,8 +73,8 @@ pub fn put_chains(
 pub fn first_fit(
     right: &[u8],
     rfirst: usize,
-    heads: &[u16; 4096],
-    chain: &[u16; 3072],
+    heads: &[u16; LABEL_BUCKETS],
+    chain: &[u16; MAX_ARCS],
     q: u16,
     label: u16,
     to: usize,

@@ -1,23 +1,27 @@
 // Runs of steps: where the next one begins, and each of its steps.
 ghost use mathlib.Core.Path.{_≡_};
-ghost use mathlib.Core.Bool.{false, cond};
+ghost use mathlib.Core.Bool.{true, false, cond};
 ghost use lib.Dec.{eqb};
 ghost use Prim.Native.Nat.{ℕ, _+_, _*_, _-_, _≤_, _<_};
 ghost use lib.ListN.{length};
-ghost use Rattle.transducer.specs.Format.{decode, barred};
+ghost use Rattle.transducer.specs.Format.{max-weight, decode, barred};
 ghost use Rattle.transducer.specs.Leaf.{Opened};
 ghost use Rattle.steps.specs.Steps.{left-origin, right-origin};
 ghost use Rattle.steps.specs.Lookup.{Heads, Chain, Leaving};
-ghost use Rattle.steps.specs.Packing.{pack, unpacked};
+ghost use Rattle.steps.specs.Packing.{Bounded};
 ghost use Rattle.steps.specs.Runs.{run-step, run-at, begin-from};
 use crate::Begin;
 use crate::Origin;
 use crate::Run;
 use crate::State;
 use crate::Step;
+use crate::keys;
 use crate::lookup;
+use transducer::ARC_BYTES;
+use transducer::MAX_ARCS;
 
-const STILL: u16 = 65535;
+// Stands for the arc of a side that stands still.
+const STILL: u16 = transducer::BARRED;
 
 // The filter state that a step leads to: of a left arc alone, of a right arc alone, of one of each.
 const AFTER_LEFT: u32 = 0;
@@ -25,25 +29,6 @@ const AFTER_LEFT: u32 = 0;
 const AFTER_RIGHT: u32 = 1;
 
 const AFTER_BOTH: u32 = 0;
-
-// A composed state as one number.
-pub fn pack(left: u32, right: u32, filter: u32) -> u32
-    requires { ⌜ (left < 1024) × (right < 1024) × (filter < 2) ⌝ }
-    ensures { λ r. ⌜ r ≡ pack (record { left = left; right = right; filter = filter }) ⌝ }
-{
-    (left * 1024 + right) * 2 + filter
-}
-
-// The parts of a packed state.
-pub fn unpack(key: u32) -> State
-    ensures { λ r. ⌜ r ≡ unpacked key ⌝ }
-{
-    State {
-        left: key / 2048,
-        right: key / 2 % 1024,
-        filter: key % 2,
-    }
-}
 
 // Where the next run with a step begins, from left arc `i` on: a left arc that writes nothing, where the filter state allows it; one
 // whose output some right arc reads; or behind the last left arc, with the first right arc that reads nothing.
@@ -55,8 +40,8 @@ pub fn next_run(
     filter: u32,
     right: &[u8],
     rfirst: usize,
-    heads: &[u16; 4096],
-    chain: &[u16; 3072],
+    heads: &[u16; lookup::LABEL_BUCKETS],
+    chain: &[u16; MAX_ARCS],
     q: u16,
     to: usize,
 ) -> Begin
@@ -68,7 +53,7 @@ pub fn next_run(
     let mut k = i;
     while k < last {
         let at = k;
-        let label = wire::u16_at(left, lfirst + 16 * at + 8);
+        let label = wire::u16_at(left, lfirst + ARC_BYTES * at + 8);
         k += 1;
         if label == 0 {
             if filter == 0 {
@@ -98,38 +83,50 @@ pub fn next_run(
 
 // The run that begins there.
 pub fn run_of(left: &[u8], lfirst: usize, at: Begin, last: usize, x: State) -> Run
-    requires { ⌜ Opened (now left) lfirst × (at .i ≤ last) × (last ≤ length (decode (now left) .arcs)) × (x .left < 1024) × (x .right < 1024) ⌝ }
+    requires { ⌜ Opened (now left) lfirst × (at .i ≤ last) × (at .alone ≡ true → at .i < last) × (last ≤ length (decode (now left) .arcs)) ⌝ }
     ensures { λ r. ⌜ r ≡ run-at (decode (now (left .entry))) last x at ⌝ }
 {
     let i = at.i;
+    if at.alone {
+        let a = transducer::arc_of(left, lfirst, i);
+        return Run {
+            alone: true,
+            left: i as u16,
+            label: 0,
+            input: a.input,
+            target: State {
+                left: a.target as u32,
+                right: x.right,
+                filter: AFTER_LEFT,
+            },
+            weight: a.weight,
+        };
+    }
     if i == last {
         return Run {
             alone: false,
             left: STILL,
             label: 0,
             input: 0,
-            target: x.left * 2048 + AFTER_RIGHT,
+            target: State {
+                left: x.left,
+                right: x.right,
+                filter: AFTER_RIGHT,
+            },
             weight: 0,
         };
     }
     let a = transducer::arc_of(left, lfirst, i);
-    let base = 2048 * (a.target as u32);
-    if at.alone {
-        return Run {
-            alone: true,
-            left: i as u16,
-            label: 0,
-            input: a.input,
-            target: base + 2 * x.right + AFTER_LEFT,
-            weight: a.weight,
-        };
-    }
     Run {
         alone: false,
         left: i as u16,
         label: a.output,
         input: a.input,
-        target: base + AFTER_BOTH,
+        target: State {
+            left: a.target as u32,
+            right: x.right,
+            filter: AFTER_BOTH,
+        },
         weight: a.weight,
     }
 }
@@ -146,15 +143,17 @@ fn with_right(left: u16, j: u16) -> Origin
 
 // The step of a run with right arc `j`.
 pub fn step_of(run: Run, right: &[u8], rfirst: usize, j: usize) -> Step
-    requires { ⌜ Opened (now right) rfirst × (run .alone ≡ false → j < length (decode (now right) .arcs)) × (run .target ≤ 2097152) × (run .weight ≤ 1000000) ⌝ }
+    requires { ⌜ Opened (now right) rfirst × (run .alone ≡ false → j < length (decode (now right) .arcs))
+        × Bounded (run .target) × (run .weight ≤ max-weight) ⌝ }
     ensures { λ r. ⌜ r ≡ run-step (decode (now (right .entry))) run j ⌝ }
 {
+    let to = run.target;
     if run.alone {
         return Step {
             origin: Origin::Left(run.left),
             input: run.input,
             output: 0,
-            target: run.target,
+            target: keys::pack(to.left, to.right, to.filter),
             weight: run.weight,
         };
     }
@@ -163,7 +162,7 @@ pub fn step_of(run: Run, right: &[u8], rfirst: usize, j: usize) -> Step
         origin: with_right(run.left, j as u16),
         input: run.input,
         output: b.output,
-        target: run.target + 2 * (b.target as u32),
+        target: keys::pack(to.left, b.target as u32, to.filter),
         weight: run.weight + b.weight,
     }
 }

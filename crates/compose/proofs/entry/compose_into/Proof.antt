@@ -97,7 +97,7 @@ put-chains-requires c κs =
 pack-requires : tie.Need-pack-requires
 pack-requires c κs =
     let h = c .before .before .before .before .before .before .before .before .before .before .before .before .before in
-    (left-head h .small, right-head h .small, omega arith)
+    record { left = left-head h .small; right = right-head h .small; filter = omega arith }
 
 walk-all-requires : tie.Need-walk-all-requires
 walk-all-requires c κs =

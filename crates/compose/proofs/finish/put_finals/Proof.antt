@@ -1,12 +1,13 @@
 -- A store loop over the keys, a record for each that is final. The invariant, `Finishing`: the finals of the first `s` keys are written and counted.
 use borrow.Author.Needs.{needs}
-use mathlib.Core.Path.{sym, _∙_}
-use Prim.Native.Nat.{_<_, _+_, _-_}
+use mathlib.Core.Path.{sym}
+use Prim.Native.Nat.{_+_, _-_}
 use native.Mathlib.Omega.{arith}
 use lib.ListN.{getD}
 use Rattle.explore.proofs.PutFinals.{Finishing, finishing-first, finishing-none, finishing-more, finishing-stop}
+use Rattle.steps.specs.Packing.{Bounded}
 use Rattle.compose.specs.Finished.{key-final, key-weight}
-use Rattle.compose.proofs.KeyFinals.{key-parts, key-filter, left-not-final, right-not-final, both-final, both-weight}
+use Rattle.compose.proofs.KeyFinals.{left-not-final, right-not-final, both-final, both-weight}
 use Rattle.compose.proofs.finish.put_finals.Statement.{statement}
 use Rattle.compose.proofs.finish.put_finals.Tie as tie
 
@@ -18,19 +19,17 @@ abbrev μ-loop : tie.MeasureT-loop
 μ-loop lcodes rcodes states count table₀ finals₀ dear₀ s₀ table finals dear s = count - s
 
 -- The way back from a place to an earlier one.
-abbrev unpacking : tie.After-counted Inv-loop μ-loop → tie.After-unpack Inv-loop μ-loop
-unpacking c = c .before .before .before .before .before
+abbrev unpacking : tie.After-b Inv-loop μ-loop → tie.After-unpack Inv-loop μ-loop
+unpacking c = c .before .before .before .before
 
 abbrev turn : tie.After-unpack Inv-loop μ-loop → tie.At-loop Inv-loop μ-loop
 turn c = c .before .before .before
 
 -- The parts of the key are below 1,024.
-parts : (c : tie.After-unpack Inv-loop μ-loop) → (c .unpack .result .left < 1024) × (c .unpack .result .right < 1024)
+parts : (c : tie.After-unpack Inv-loop μ-loop) → Bounded (c .unpack .result)
 parts c =
     let h = turn c in
-    let start = h .before .before .before in
-    key-parts (getD (start .args .states .now) (h .loop .s) 0) (c .unpack .result) (c .unpack .ensures)
-    (start .pre .keys (h .loop .s) (c .before .before .loop-test .taken))
+    rw (c .unpack .ensures) (h .before .before .before .pre .keys (h .loop .s) (c .before .before .loop-test .taken))
 
 loop-holds : tie.Need-loop-holds Inv-loop μ-loop
 loop-holds c =
@@ -56,22 +55,16 @@ cast-q : tie.Need-cast-q Inv-loop μ-loop
 cast-q c = omega arith
 
 mul-a : tie.Need-mul-a Inv-loop μ-loop
-mul-a c = omega (arith, parts (c .before .before))
+mul-a c = omega (arith, parts (c .before .before) .left)
 
 element-copy-out-a : tie.Need-element-copy-out-a Inv-loop μ-loop
-element-copy-out-a c = parts (c .before .before) .0
+element-copy-out-a c = parts (c .before .before) .left
 
-mul-counted : tie.Need-mul-counted Inv-loop μ-loop
-mul-counted c = omega (arith, parts (c .before .before .before))
+mul-b : tie.Need-mul-b Inv-loop μ-loop
+mul-b c = omega (arith, parts (c .before .before .before) .right)
 
-element-copy-out-counted : tie.Need-element-copy-out-counted Inv-loop μ-loop
-element-copy-out-counted c = parts (c .before .before .before) .1
-
-counted-requires : tie.Need-counted-requires Inv-loop μ-loop
-counted-requires c κs =
-    let here = c .before .before .before .before in
-    let h = turn here in
-    key-filter (getD (h .before .before .before .args .states .now) (h .loop .s) 0) (here .unpack .result) (here .unpack .ensures)
+element-copy-out-b : tie.Need-element-copy-out-b Inv-loop μ-loop
+element-copy-out-b c = parts (c .before .before .before) .right
 
 add-s : tie.Need-add-s Inv-loop μ-loop
 add-s c = omega arith
@@ -87,7 +80,7 @@ add-weight c =
     let here = unpacking (c .before .before) in
     let pre = turn here .before .before .before .pre in
     let x = here .unpack .result in
-    omega (arith, pre .left (x .left) (parts here .0), pre .right (x .right) (parts here .1), c .before .before .counted .ensures)
+    omega (arith, pre .left (x .left) (parts here .left), pre .right (x .right) (parts here .right))
 
 mul-put-final : tie.Need-mul-put-final Inv-loop μ-loop
 mul-put-final c = omega arith
@@ -126,9 +119,9 @@ loop-again c =
     let p = here .unpack .result in
     finishing-more (key-final ls rs) (key-weight ls rs) (x .states .now) (h .loop .inv) (here .before .before .loop-test .taken) (start .pre .stored) _
     ((getD ls (p .left) 0 - 1) + (getD rs (p .right) 0 - 1)) (c .weight-ok .result)
-    (both-final ls rs key p (here .unpack .ensures) (c .before .before .before .before .before .before .if1 .taken) (λ e. c .before .before .before .before .before .if2 .taken (b .counted .ensures ∙ e)))
-    (sym (both-weight ls rs key p (here .unpack .ensures))) (rw (b .counted .ensures) at (put .ensures)) (put .kept .0)
-    (rw (b .counted .ensures) at (c .weight-ok .ensures))
+    (both-final ls rs key p (here .unpack .ensures) (c .before .before .before .before .before .before .if1 .taken) (c .before .before .before .before .before .if2 .taken))
+    (sym (both-weight ls rs key p (here .unpack .ensures))) (put .ensures) (put .kept .0)
+    (c .weight-ok .ensures)
 
 loop-less-2 : tie.Need-loop-less-2 Inv-loop μ-loop
 loop-less-2 c = omega (arith, unpacking (c .before .before) .before .before .loop-test .taken)
@@ -142,7 +135,7 @@ loop-again-2 c =
     finishing-none (key-final (x .lcodes .now) (x .rcodes .now)) (key-weight (x .lcodes .now) (x .rcodes .now)) (x .states .now) (h .loop .inv)
     (here .before .before .loop-test .taken) (start .pre .stored)
     (right-not-final (x .lcodes .now) (x .rcodes .now) (getD (x .states .now) (h .loop .s) 0) (here .unpack .result) (here .unpack .ensures) (c .before .if1 .taken)
-    (sym (c .before .before .counted .ensures) ∙ c .if2 .left))
+    (c .if2 .left))
 
 loop-less-3 : tie.Need-loop-less-3 Inv-loop μ-loop
 loop-less-3 c = omega (arith, unpacking (c .before) .before .before .loop-test .taken)
@@ -181,9 +174,8 @@ put-finals-spec =
     cast-q
     mul-a
     element-copy-out-a
-    mul-counted
-    element-copy-out-counted
-    counted-requires
+    mul-b
+    element-copy-out-b
     add-s
     sub-weight
     sub-weight-2

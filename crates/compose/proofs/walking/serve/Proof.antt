@@ -14,7 +14,8 @@ use Rattle.steps.specs.declared.State.{State}
 use Rattle.steps.specs.Runs.{run-at, In-both}
 use Rattle.compose.specs.Walk.{key-steps}
 use Rattle.steps.proofs.Reading.{right-from, Run-here, next-run-here}
-use Rattle.compose.proofs.WalkCode.{run-left, Placed, placed, placed-left, placed-right, placed-leaving, Serving, serving-first, serving-next, serving-full, serving-stop}
+use Rattle.compose.specs.Taking.{run-left}
+use Rattle.compose.proofs.WalkCode.{Placed, placed, placed-left, placed-right, placed-leaving, Serving, serving-first, serving-next, serving-full, serving-stop}
 use Rattle.compose.proofs.walking.serve.Statement.{statement}
 use Rattle.compose.proofs.walking.serve.Tie as tie
 
@@ -206,7 +207,7 @@ run-of-requires : tie.Need-run-of-requires Inv-loop μ-loop
 run-of-requires c κs =
     let k = state (head c) in
     let here = begins c (run-at (decode (entry k .args .left .now)) (last-of k) (both k) (c .next-run .result)) refl in
-    (entry k .pre .0 .0 .left-open, here .at-most, placed-left (bounds k) .1, parts k .0, parts k .1)
+    (entry k .pre .0 .0 .left-open, here .at-most, here .alone-before, placed-left (bounds k) .1)
 
 end-of-requires : tie.Need-end-of-requires Inv-loop μ-loop
 end-of-requires c κs = search needs

@@ -17,11 +17,12 @@ use Rattle.explore.specs.Walk.{Sofar, Walked, all-taken}
 use Rattle.explore.proofs.Search.{Searching, search-first, search-le, search-in, search-less, search-found, search-next, search-none, place-le}
 use Rattle.explore.proofs.Walking.{went-full, Taking, taking-first, taking-next, taking-over, taking-stop}
 use Rattle.compose.specs.Walk.{keyed-step}
-use Rattle.steps.specs.Runs.{Ready}
+use Rattle.steps.specs.Runs.{Takeable}
 use Rattle.steps.proofs.Reading.{Next-step}
 use Rattle.steps.proofs.Links.{step-last, step-more, step-link}
 use Rattle.steps.proofs.RunCode.{opened-few}
-use Rattle.compose.proofs.WalkCode.{step-walked, run-left, run-left-first, run-left-next, run-left-none}
+use Rattle.compose.specs.Taking.{run-left}
+use Rattle.compose.proofs.WalkCode.{step-walked, run-left-first, run-left-next, run-left-none}
 use Rattle.compose.proofs.walking.take_each.Statement.{statement}
 use Rattle.compose.proofs.walking.take_each.Tie as tie
 
@@ -36,7 +37,7 @@ abbrev Inv-loop : tie.InvT-loop
 Inv-loop right rfirst again r source from to table₀ origins₀ states₀ heads₀ links₀ walk₀ j₀ table origins states heads links walk j =
     ((b : Sofar) → Walked 2 b walk₀ table₀ origins₀ states₀ heads₀ links₀
     → Taking 2 source (run-left (decode right) r to j) (all-taken source (run-left (decode right) r to j₀) b) walk table origins states heads links)
-    × Ready (decode right) r j to × (length table ≡ length table₀) × (length origins ≡ length origins₀) × (length states ≡ length states₀)
+    × Takeable (decode right) r j to × (length table ≡ length table₀) × (length origins ≡ length origins₀) × (length states ≡ length states₀)
 
 abbrev μ-loop : tie.MeasureT-loop
 μ-loop right rfirst again r source from to table₀ origins₀ states₀ heads₀ links₀ walk₀ j₀ table origins states heads links walk j = to - j

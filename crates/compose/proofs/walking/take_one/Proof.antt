@@ -10,12 +10,13 @@ use Rattle.transducer.specs.Format.{decode}
 use Rattle.explore.specs.Explore.{place}
 use Rattle.explore.specs.Chain.{Chained}
 use Rattle.explore.specs.Walk.{Sofar, Walked, all-taken}
-use Rattle.explore.proofs.Cases.{clash}
+use Rattle.wire.proofs.Bool.{clash}
 use Rattle.explore.proofs.Search.{place-le}
 use Rattle.explore.proofs.Walking.{went-full, Taking, taking-first, taking-next, taking-over, taking-stop}
 use Rattle.compose.specs.Walk.{keyed-step}
 use Rattle.steps.proofs.Reading.{next-alone}
-use Rattle.compose.proofs.WalkCode.{step-walked, run-left, run-left-first, run-left-next, run-left-none}
+use Rattle.compose.specs.Taking.{run-left}
+use Rattle.compose.proofs.WalkCode.{step-walked, run-left-first, run-left-next, run-left-none}
 use Rattle.compose.proofs.walking.take_one.Statement.{statement}
 use Rattle.compose.proofs.walking.take_one.Tie as tie
 

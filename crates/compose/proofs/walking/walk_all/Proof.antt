@@ -8,7 +8,7 @@ use lib.ListN.{length}
 use Rattle.transducer.specs.Format.{decode, Good}
 use Rattle.transducer.proofs.RoundTrip.{accepted-good}
 use Rattle.explore.specs.Explore.{there}
-use Rattle.explore.proofs.Cases.{clash}
+use Rattle.wire.proofs.Bool.{clash}
 use Rattle.explore.proofs.Chain.{chained-zeros}
 use Rattle.explore.proofs.ExploredKeys.{Keying}
 use Rattle.explore.proofs.Walking.{Walking, walking-first, walking-small, walking-state, walking-next, walking-full, walking-stop}
@@ -16,7 +16,7 @@ use Rattle.steps.specs.Steps.{same-state, steps, first-state, origin-pair}
 use Rattle.steps.specs.Packing.{pack}
 use Rattle.compose.specs.Walk.{key-steps}
 use Rattle.compose.proofs.Explored.{composed-keying, key-inside}
-use Rattle.steps.proofs.Packing.{Within}
+use Rattle.steps.proofs.Within.{Within}
 use Rattle.compose.proofs.walking.walk_all.Statement.{statement}
 use Rattle.compose.proofs.walking.walk_all.Tie as tie
 

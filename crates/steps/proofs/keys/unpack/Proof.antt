@@ -1,8 +1,8 @@
 -- The code is the definition.
 use mathlib.Core.Path.{refl}
 use Rattle.steps.specs.Packing.{unpacked}
-use Rattle.steps.proofs.runs.unpack.Statement.{statement}
-use Rattle.steps.proofs.runs.unpack.Tie as tie
+use Rattle.steps.proofs.keys.unpack.Statement.{statement}
+use Rattle.steps.proofs.keys.unpack.Tie as tie
 
 returns : tie.Need-returns
 unfolding unpacked
