@@ -15,8 +15,9 @@ use Rattle.transducer.specs.Format.{all-labels-good, weights-good, first-of, co
 use Rattle.transducer.specs.Encode.{weight-bytes, head-record, final-record, arc-record, final-records, arc-records, encode}
 use Rattle.transducer.specs.Path.{is-final, final-weight, arc, ends, non-empty, written-by, arcs-cost, path-cost}
 use Rattle.transducer.specs.Each.{by-number, each-arc, fits, passed}
-use Rattle.transducer.specs.Entry.{or-else, arc-fields, read-room, read-refusal}
+use Rattle.transducer.specs.Entry.{or-else}
 use Rattle.transducer.proofs.RoundTrip.{refusal-encode, decode-encode}
+use Rattle.codec.specs.Entry.{arc-fields, read-room, read-refusal}
 use Rattle.explore.specs.Explore.{there, place, met, served, numbered, targets, arcs-here, arcs-from, finals-from, steps-from, built, built-refusal}
 use Rattle.explore.specs.Walk.{all-origins}
 use Rattle.steps.specs.Steps.{same-state, left-alone, right-alone, both-step, left-steps, right-steps, steps, first-state, left-origin, right-origin, origin-pair}

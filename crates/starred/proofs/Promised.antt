@@ -10,7 +10,8 @@ use borrow.Author.Tests.{le-ltb, eqb-true}
 use lib.Dec.{eqb}
 use lib.ListN.{length, getD, drop}
 use Rattle.transducer.specs.Format.{decode}
-use Rattle.transducer.specs.Entry.{or-else, unless, left-in, read-room, read-refusal, Read-says}
+use Rattle.transducer.specs.Entry.{or-else, unless, left-in}
+use Rattle.codec.specs.Entry.{read-room, read-refusal, Read-says}
 use Rattle.explore.specs.Explore.{left-behind}
 use Rattle.compose.specs.Compose.{composed}
 use Rattle.compose.specs.Entry.{compose-room, compose-refusal, Compose-says, origin-pairs}

@@ -7,7 +7,8 @@ use lib.ListN.{length, getD}
 use Rattle.wire.specs.Bytes.{filled}
 use Rattle.transducer.specs.declared.Header.{Header}
 use Rattle.transducer.specs.declared.Written.{Written}
-use Rattle.transducer.specs.Entry.{left-in, read-refusal, Read-says}
+use Rattle.transducer.specs.Entry.{left-in}
+use Rattle.codec.specs.Entry.{read-refusal, Read-says}
 use Rattle.explore.specs.Explore.{left-behind}
 use Rattle.compose.specs.Entry.{compose-refusal, Compose-says}
 use Rattle.lattice.specs.ApplyEntry.{apply-refusal, Apply-says}
