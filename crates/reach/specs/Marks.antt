@@ -7,13 +7,13 @@ use Prim.Native.Nat.{ℕ, _<_}
 use lib.Dec.{ltb}
 use lib.ListN.{length, getD}
 use Rattle.transducer.specs.declared.Arc.{Arc}
-use Rattle.transducer.specs.Format.{Transducer}
+use Rattle.transducer.specs.Format.{max-states, Transducer}
 use Rattle.transducer.specs.Path.{arc}
 use Rattle.reach.specs.Counted.{count}
 
 -- The marks are those of a property.
 pub record Marked (p : ℕ → Bool) (ms : List Bool) : Type 0 where
-  pub long : length ms ≡ 1024
+  pub long : length ms ≡ max-states
   pub at-state : (s : ℕ) → getD ms s false ≡ p s
 
 -- The end of an arc that marks spread from, and the one that they spread to: along the arc, or back where so told.

@@ -5,7 +5,7 @@ use mathlib.Core.List.{List}
 use Prim.Native.Nat.{ℕ, zero, suc, _+_, _*_, _≤_, _<_}
 use lib.Dec.{eqb}
 use lib.ListN.{length, getD}
-use Rattle.transducer.specs.Format.{Transducer}
+use Rattle.transducer.specs.Format.{max-arcs, max-states, Transducer}
 use Rattle.transducer.specs.Path.{arc}
 use Rattle.reach.specs.Marks.{from-end, to-end, Widened, number}
 
@@ -21,9 +21,9 @@ cell t back (suc i) = 4096 * to-end back (arc t i) + suc i
 
 -- The arcs in chains: at a state the cell of its last arc, at an arc that of the last one before it from the same state.
 pub record Chained (t : Transducer) (back : Bool) (heads next : List ℕ) : Type 0 where
-  pub heads-long : length heads ≡ 1024
-  pub next-long : length next ≡ 3072
-  pub head-at : (s : ℕ) → s < 1024 → getD heads s 0 ≡ cell t back (last t back s (length (t .arcs)))
+  pub heads-long : length heads ≡ max-states
+  pub next-long : length next ≡ max-arcs
+  pub head-at : (s : ℕ) → s < max-states → getD heads s 0 ≡ cell t back (last t back s (length (t .arcs)))
   pub next-at : (i : ℕ) → i < length (t .arcs) → getD next i 0 ≡ cell t back (last t back (from-end back (arc t i)) i)
 
 -- A state is not among the first so many on a stack.
@@ -32,8 +32,8 @@ Off stack top s = (j : ℕ) → j < top → getD stack j 0 ≡ s → ⊥
 
 -- The states on the stack are marked and no more than the marks, and each arc from a marked state that is not on it leads to a marked one.
 pub record Waiting (t : Transducer) (back : Bool) (ms : List Bool) (stack : List ℕ) (top : ℕ) : Type 0 where
-  pub marks-long : length ms ≡ 1024
-  pub stack-long : length stack ≡ 1024
+  pub marks-long : length ms ≡ max-states
+  pub stack-long : length stack ≡ max-states
   pub few : top ≤ number ms
   pub held : (j : ℕ) → j < top → (getD stack j 0 < t .states) × (getD ms (getD stack j 0) false ≡ true)
   pub closed : (i : ℕ) → i < length (t .arcs) → getD ms (from-end back (arc t i)) false ≡ true → Off stack top (from-end back (arc t i))
@@ -48,7 +48,7 @@ pub record Served (t : Transducer) (back : Bool) (top : ℕ) (ms ms' : List Bool
 
 -- The marked states below n are on the stack.
 pub record Pushed (n : ℕ) (ms : List Bool) (stack : List ℕ) (top : ℕ) : Type 0 where
-  pub stack-long : length stack ≡ 1024
+  pub stack-long : length stack ≡ max-states
   pub few : top ≤ number ms
   pub held : (j : ℕ) → j < top → (getD stack j 0 < n) × (getD ms (getD stack j 0) false ≡ true)
   pub all : (s : ℕ) → s < n → getD ms s false ≡ true → Off stack top s → ⊥

@@ -6,13 +6,14 @@ ghost use Rattle.transducer.specs.Format.{decode};
 ghost use Rattle.transducer.specs.Path.{arc};
 ghost use Rattle.transducer.specs.Leaf.{Opened};
 ghost use Rattle.reach.specs.Marks.{from-end, to-end};
+use transducer::ARC_BYTES;
 
 // Where arc `i` comes from.
 pub fn source(table: &[u8], first: usize, i: usize) -> usize
     requires { ⌜ Opened (now table) first × (i < length (decode (now table) .arcs)) ⌝ }
     ensures { λ r. ⌜ (r ≡ arc (decode (now (table .entry))) i .source) × (r < decode (now (table .entry)) .states) ⌝ }
 {
-    wire::u16_at(table, first + 16 * i + 4) as usize
+    wire::u16_at(table, first + ARC_BYTES * i + 4) as usize
 }
 
 // Where arc `i` leads.
@@ -20,7 +21,7 @@ pub fn target(table: &[u8], first: usize, i: usize) -> usize
     requires { ⌜ Opened (now table) first × (i < length (decode (now table) .arcs)) ⌝ }
     ensures { λ r. ⌜ (r ≡ arc (decode (now (table .entry))) i .target) × (r < decode (now (table .entry)) .states) ⌝ }
 {
-    wire::u16_at(table, first + 16 * i + 10) as usize
+    wire::u16_at(table, first + ARC_BYTES * i + 10) as usize
 }
 
 // The end of arc `i` that marks spread from: its source, or its target where they spread back.

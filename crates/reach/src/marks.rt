@@ -2,7 +2,7 @@
 ghost use mathlib.Core.Path.{_≡_};
 ghost use mathlib.Core.Bool.{true};
 ghost use lib.ListN.{length};
-ghost use Rattle.transducer.specs.Format.{refusal, decode, head-finals};
+ghost use Rattle.transducer.specs.Format.{max-states, refusal, decode, head-finals};
 ghost use Rattle.transducer.specs.Path.{is-final};
 ghost use Rattle.transducer.specs.Leaf.{Opened};
 ghost use Rattle.reach.specs.Reach.{accessible, coaccessible};
@@ -10,6 +10,10 @@ ghost use Rattle.reach.specs.Marks.{Closure, Marked};
 ghost use Rattle.reach.specs.Stack.{Chained};
 use crate::stack;
 use crate::sweep;
+use transducer::FINAL_BYTES;
+use transducer::HEAD_BYTES;
+use transducer::MAX_ARCS;
+use transducer::MAX_STATES;
 
 // Spreads marks until no more are to come: one sweep is enough where few arcs lead to lower states, and needs no chains.
 fn settle(
@@ -18,10 +22,10 @@ fn settle(
     states: usize,
     arcs: usize,
     back: bool,
-    marks: &mut [bool; 1024],
+    marks: &mut [bool; MAX_STATES],
 )
     requires { ⌜ Opened (now table) first × (states ≡ decode (now table) .states) × (arcs ≡ length (decode (now table) .arcs))
-        × (length (now marks) ≡ 1024) ⌝ }
+        × (length (now marks) ≡ max-states) ⌝ }
     ensures { λ _. ⌜ Closure (decode (now (table .entry))) back (now (marks .entry)) (now (marks .exit)) ⌝ }
 {
     let again = sweep::sweep(table, first, arcs, back, marks);
@@ -38,30 +42,30 @@ pub fn accessible(
     states: usize,
     arcs: usize,
     start: usize,
-) -> [bool; 1024]
+) -> [bool; MAX_STATES]
     requires { ⌜ Opened (now table) first × (states ≡ decode (now table) .states) × (arcs ≡ length (decode (now table) .arcs))
         × (start ≡ decode (now table) .start) ⌝ }
     ensures { λ r. ⌜ Marked (accessible (decode (now (table .entry)) .states) (decode (now (table .entry)))) r ⌝ }
 {
-    let mut marks = [false; 1024];
+    let mut marks = [false; MAX_STATES];
     marks[start] = true;
     settle(table, first, states, arcs, false, &mut marks);
     marks
 }
 
 // The final states.
-fn final_marks(table: &[u8], finals: usize) -> [bool; 1024]
+fn final_marks(table: &[u8], finals: usize) -> [bool; MAX_STATES]
     requires { ⌜ (refusal (now table) ≡ 0) × (finals ≡ head-finals (now table)) ⌝ }
     ensures { λ r. ⌜ Marked (is-final (decode (now (table .entry)) .finals)) r ⌝ }
 {
-    let mut marks = [false; 1024];
+    let mut marks = [false; MAX_STATES];
     let mut i = 0;
-    let mut place = 12;
+    let mut place = HEAD_BYTES;
     while i < finals {
         let f = transducer::load_final(table, place);
         let state = f.state as usize;
         marks[state] = true;
-        place += 10;
+        place += FINAL_BYTES;
         i += 1;
     }
     marks
@@ -74,7 +78,7 @@ pub fn coaccessible(
     states: usize,
     arcs: usize,
     finals: usize,
-) -> [bool; 1024]
+) -> [bool; MAX_STATES]
     requires { ⌜ Opened (now table) first × (states ≡ decode (now table) .states) × (arcs ≡ length (decode (now table) .arcs))
         × (finals ≡ head-finals (now table)) ⌝ }
     ensures { λ r. ⌜ Marked (coaccessible (decode (now (table .entry)) .states) (decode (now (table .entry)))) r ⌝ }
@@ -90,12 +94,12 @@ fn settle_chained(
     first: usize,
     states: usize,
     arcs: usize,
-    heads: &[u32; 1024],
-    next: &[u32; 3072],
-    marks: &mut [bool; 1024],
+    heads: &[u32; MAX_STATES],
+    next: &[u32; MAX_ARCS],
+    marks: &mut [bool; MAX_STATES],
 )
     requires { ⌜ Opened (now table) first × (states ≡ decode (now table) .states) × (arcs ≡ length (decode (now table) .arcs))
-        × Chained (decode (now table)) true (now heads) (now next) × (length (now marks) ≡ 1024) ⌝ }
+        × Chained (decode (now table)) true (now heads) (now next) × (length (now marks) ≡ max-states) ⌝ }
     ensures { λ _. ⌜ Closure (decode (now (table .entry))) true (now (marks .entry)) (now (marks .exit)) ⌝ }
 {
     let again = sweep::sweep(table, first, arcs, true, marks);
@@ -112,9 +116,9 @@ pub fn coaccessible_chained(
     states: usize,
     arcs: usize,
     finals: usize,
-    heads: &[u32; 1024],
-    next: &[u32; 3072],
-) -> [bool; 1024]
+    heads: &[u32; MAX_STATES],
+    next: &[u32; MAX_ARCS],
+) -> [bool; MAX_STATES]
     requires { ⌜ Opened (now table) first × (states ≡ decode (now table) .states) × (arcs ≡ length (decode (now table) .arcs))
         × (finals ≡ head-finals (now table)) × Chained (decode (now table)) true (now heads) (now next) ⌝ }
     ensures { λ r. ⌜ Marked (coaccessible (decode (now (table .entry)) .states) (decode (now (table .entry)))) r ⌝ }

@@ -4,11 +4,13 @@ ghost use mathlib.Core.Path.{_≡_};
 ghost use Prim.Native.Nat.{_+_, _≤_};
 ghost use lib.ListN.{length, replicate};
 ghost use Rattle.wire.specs.Bytes.{Bytes};
-ghost use Rattle.transducer.specs.Format.{refusal, decode};
+ghost use Rattle.transducer.specs.Format.{max-arcs, max-states, refusal, decode};
 ghost use Rattle.transducer.specs.Leaf.{Opened};
 ghost use Rattle.reach.specs.Marks.{Closure};
 ghost use Rattle.reach.specs.Stack.{Chained, Waiting, Served, Pushed};
 use crate::arcs;
+use transducer::MAX_ARCS;
+use transducer::MAX_STATES;
 
 // A cell holds a state times this, and the number of an arc and one more.
 pub const LINKS: u32 = 4096;
@@ -19,10 +21,10 @@ fn chain(
     first: usize,
     arcs: usize,
     back: bool,
-    heads: &mut [u32; 1024],
-    next: &mut [u32; 3072],
+    heads: &mut [u32; MAX_STATES],
+    next: &mut [u32; MAX_ARCS],
 )
-    requires { ⌜ Opened (now table) first × (arcs ≡ length (decode (now table) .arcs)) × (now heads ≡ replicate 1024 0) × (length (now next) ≡ 3072) ⌝ }
+    requires { ⌜ Opened (now table) first × (arcs ≡ length (decode (now table) .arcs)) × (now heads ≡ replicate max-states 0) × (length (now next) ≡ max-arcs) ⌝ }
     ensures { λ _. ⌜ Chained (decode (now (table .entry))) back (now (heads .exit)) (now (next .exit)) ⌝ }
 {
     let mut i = 0;
@@ -36,8 +38,8 @@ fn chain(
 }
 
 // Puts each marked state on the stack. Answers how many there are.
-fn push_marked(states: usize, marks: &[bool; 1024], stack: &mut [u16; 1024]) -> usize
-    requires { ⌜ (states ≤ 1024) × (length (now marks) ≡ 1024) × (length (now stack) ≡ 1024) ⌝ }
+fn push_marked(states: usize, marks: &[bool; MAX_STATES], stack: &mut [u16; MAX_STATES]) -> usize
+    requires { ⌜ (states ≤ max-states) × (length (now marks) ≡ max-states) × (length (now stack) ≡ max-states) ⌝ }
     ensures { λ r. ⌜ Pushed states (now (marks .entry)) (now (stack .exit)) r ⌝ }
 {
     let mut s = 0;
@@ -58,11 +60,11 @@ fn push_marked(states: usize, marks: &[bool; 1024], stack: &mut [u16; 1024]) -> 
 fn serve(
     table: &[u8],
     back: bool,
-    heads: &[u32; 1024],
-    next: &[u32; 3072],
+    heads: &[u32; MAX_STATES],
+    next: &[u32; MAX_ARCS],
     top: usize,
-    marks: &mut [bool; 1024],
-    stack: &mut [u16; 1024],
+    marks: &mut [bool; MAX_STATES],
+    stack: &mut [u16; MAX_STATES],
 ) -> usize
     requires { ⌜ Bytes (now table) × (refusal (now table) ≡ 0) × Chained (decode (now table)) back (now heads) (now next)
         × Waiting (decode (now table)) back (now marks) (now stack) (top + 1) ⌝ }
@@ -89,11 +91,11 @@ fn serve(
 fn empty(
     table: &[u8],
     back: bool,
-    heads: &[u32; 1024],
-    next: &[u32; 3072],
+    heads: &[u32; MAX_STATES],
+    next: &[u32; MAX_ARCS],
     count: usize,
-    marks: &mut [bool; 1024],
-    stack: &mut [u16; 1024],
+    marks: &mut [bool; MAX_STATES],
+    stack: &mut [u16; MAX_STATES],
 )
     requires { ⌜ (refusal (now table) ≡ 0) × Chained (decode (now table)) back (now heads) (now next)
         × Waiting (decode (now table)) back (now marks) (now stack) count ⌝ }
@@ -110,15 +112,15 @@ pub fn spread_chained(
     table: &[u8],
     states: usize,
     back: bool,
-    heads: &[u32; 1024],
-    next: &[u32; 3072],
-    marks: &mut [bool; 1024],
+    heads: &[u32; MAX_STATES],
+    next: &[u32; MAX_ARCS],
+    marks: &mut [bool; MAX_STATES],
 )
     requires { ⌜ (refusal (now table) ≡ 0) × (states ≡ decode (now table) .states) × Chained (decode (now table)) back (now heads) (now next)
-        × (length (now marks) ≡ 1024) ⌝ }
+        × (length (now marks) ≡ max-states) ⌝ }
     ensures { λ _. ⌜ Closure (decode (now (table .entry))) back (now (marks .entry)) (now (marks .exit)) ⌝ }
 {
-    let mut stack = [0u16; 1024];
+    let mut stack = [0u16; MAX_STATES];
     let count = push_marked(states, marks, &mut stack);
     empty(table, back, heads, next, count, marks, &mut stack);
 }
@@ -130,14 +132,14 @@ pub fn spread_all(
     states: usize,
     arcs: usize,
     back: bool,
-    marks: &mut [bool; 1024],
+    marks: &mut [bool; MAX_STATES],
 )
     requires { ⌜ Opened (now table) first × (states ≡ decode (now table) .states) × (arcs ≡ length (decode (now table) .arcs))
-        × (length (now marks) ≡ 1024) ⌝ }
+        × (length (now marks) ≡ max-states) ⌝ }
     ensures { λ _. ⌜ Closure (decode (now (table .entry))) back (now (marks .entry)) (now (marks .exit)) ⌝ }
 {
-    let mut heads = [0u32; 1024];
-    let mut next = [0u32; 3072];
+    let mut heads = [0u32; MAX_STATES];
+    let mut next = [0u32; MAX_ARCS];
     chain(table, first, arcs, back, &mut heads, &mut next);
     spread_chained(table, states, back, &heads, &next, marks);
 }

@@ -3,15 +3,16 @@ ghost use mathlib.Core.Path.{_≡_};
 ghost use mathlib.Core.Bool.{cond};
 ghost use Prim.Native.Nat.{_+_, _-_, _<_};
 ghost use lib.ListN.{length};
-ghost use Rattle.transducer.specs.Format.{decode};
+ghost use Rattle.transducer.specs.Format.{max-states, decode};
 ghost use Rattle.transducer.specs.Leaf.{Opened};
 ghost use Rattle.reach.specs.Marks.{Spread, waits, Swept};
 use crate::arcs;
+use transducer::MAX_STATES;
 
 // Sets the mark of `to` where that of `from` is set. It is set without a test whether it was: a test at each arc that no one can foretell costs
 // more than a store.
-fn spread(marks: &mut [bool; 1024], from: usize, to: usize)
-    requires { ⌜ (from < 1024) × (to < 1024) × (length (now marks) ≡ 1024) ⌝ }
+fn spread(marks: &mut [bool; MAX_STATES], from: usize, to: usize)
+    requires { ⌜ (from < max-states) × (to < max-states) × (length (now marks) ≡ max-states) ⌝ }
     ensures { λ _. ⌜ Spread (now (marks .entry)) from to (now (marks .exit)) ⌝ }
 {
     if !marks[from] {
@@ -21,8 +22,8 @@ fn spread(marks: &mut [bool; 1024], from: usize, to: usize)
 }
 
 // Whether an arc leads against the order of a sweep and has not both marks: only then may a later mark have to spread along it.
-fn waits(marks: &[bool; 1024], from: usize, to: usize, back: bool) -> bool
-    requires { ⌜ (from < 1024) × (to < 1024) × (length (now marks) ≡ 1024) ⌝ }
+fn waits(marks: &[bool; MAX_STATES], from: usize, to: usize, back: bool) -> bool
+    requires { ⌜ (from < max-states) × (to < max-states) × (length (now marks) ≡ max-states) ⌝ }
     ensures { λ r. ⌜ r ≡ waits (now (marks .entry)) back from to ⌝ }
 {
     let both = marks[from] & marks[to];
@@ -44,8 +45,14 @@ fn arc_at_turn(arcs: usize, k: usize, back: bool) -> usize
 }
 
 // Spreads marks along each arc once, or back, and stops at the first arc that waits. Whether more may come.
-pub fn sweep(table: &[u8], first: usize, arcs: usize, back: bool, marks: &mut [bool; 1024]) -> bool
-    requires { ⌜ Opened (now table) first × (arcs ≡ length (decode (now table) .arcs)) × (length (now marks) ≡ 1024) ⌝ }
+pub fn sweep(
+    table: &[u8],
+    first: usize,
+    arcs: usize,
+    back: bool,
+    marks: &mut [bool; MAX_STATES],
+) -> bool
+    requires { ⌜ Opened (now table) first × (arcs ≡ length (decode (now table) .arcs)) × (length (now marks) ≡ max-states) ⌝ }
     ensures { λ r. ⌜ Swept (decode (now (table .entry))) back (now (marks .entry)) (now (marks .exit)) r ⌝ }
 {
     let mut k = 0;
