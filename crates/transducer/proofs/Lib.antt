@@ -10,6 +10,7 @@ pub mod Fits
 pub mod Glance
 pub mod Good
 pub mod GoodParts
+pub mod Headed
 pub mod Index
 pub mod Labels
 pub mod Laid

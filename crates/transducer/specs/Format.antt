@@ -2,7 +2,7 @@
 use mathlib.Core.Path.{_≡_}
 use mathlib.Core.Bool.{Bool, true, false, _&&_, not, cond}
 use mathlib.Core.List.{List, [], _∷_}
-use Prim.Native.Nat.{ℕ, zero, suc, _+_, _*_}
+use Prim.Native.Nat.{ℕ, zero, suc, _+_, _*_, _-_}
 use lib.Dec.{ltb, leb, eqb}
 use lib.ListN.{length}
 use Rattle.wire.specs.Bytes.{two, four, every}
@@ -25,6 +25,20 @@ max-arcs = 3072
 
 abbrev pub max-weight : ℕ
 max-weight = 1000000
+
+-- The longest string, the longest accepting path where there are finitely many, and where counting stops.
+abbrev pub max-symbols : ℕ
+max-symbols = 64
+
+abbrev pub max-path : ℕ
+max-path = max-states - 1
+
+abbrev pub max-count : ℕ
+max-count = 99
+
+-- The origins of the most composed arcs, two for each.
+abbrev pub max-origins : ℕ
+max-origins = 2 * max-arcs
 
 -- The bytes of a head's, a final's and an arc's record, and where the arcs begin behind a number of finals.
 abbrev pub head-bytes : ℕ

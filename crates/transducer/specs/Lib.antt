@@ -4,6 +4,7 @@ pub mod Path
 pub mod Each
 pub mod Check
 pub mod Leaf
+pub mod Prepare
 pub mod Entry
 pub mod RoundTrip
 pub mod Weight

@@ -7,8 +7,20 @@ pub const MAX_STATES: usize = 1024;
 
 pub const MAX_ARCS: usize = 3072;
 
+// The longest string.
+pub const MAX_SYMBOLS: usize = 64;
+
+// The longest accepting path where there are finitely many.
+pub const MAX_PATH: usize = MAX_STATES - 1;
+
+// Paths are counted up to here.
+pub const MAX_COUNT: u32 = 99;
+
 // An arc's record has four fields of two bytes.
 pub const MAX_FIELDS: usize = 4 * MAX_ARCS;
+
+// A composed arc has two origins.
+pub const MAX_ORIGINS: usize = 2 * MAX_ARCS;
 
 pub const HEAD_BYTES: usize = 12;
 
