@@ -10,12 +10,15 @@ use lib.ListN.{length, take, length-take}
 use borrow.Author.Tests.{eqb-true, eqb-false, eq-eqb, ne-eqb, le-ltb, lt-leb}
 use Rattle.wire.specs.Bytes.{filled}
 use Rattle.wire.proofs.Places.{take-filled}
+use Rattle.wire.proofs.Bool.{passed-last, raised-last, not-raised}
 use Rattle.transducer.specs.declared.Written.{Written}
 use Rattle.transducer.specs.Format.{Transducer, refusal, decode}
 use Rattle.transducer.specs.Encode.{encode}
 use Rattle.transducer.specs.Entry.{or-else, unless, left-in}
+use Rattle.transducer.proofs.Answers.{or-else-none, none-or-else, unless-none, left-in-none}
 use Rattle.transducer.specs.Path.{written-by, path-cost}
-use Rattle.explore.specs.Explore.{built-refusal, left-behind}
+use Rattle.explore.specs.Explore.{built-refusal}
+use Rattle.explore.proofs.LeftBehind.{behind-written}
 use Rattle.compose.specs.Compose.{composed}
 use Rattle.compose.specs.Entry.{origin-pairs, compose-room, compose-refusal, Compose-says}
 use Rattle.lattice.specs.Apply.{string-good, applied}
@@ -26,48 +29,12 @@ use Rattle.paths.specs.declared.Told.{Told}
 use Rattle.paths.specs.Count.{endless, path-count, nth-path}
 use Rattle.paths.specs.Entry.{count-refusal, Count-says, nth-refusal, Nth-says}
 
-or-else-none : (a b : ℕ) → or-else a b ≡ 0 → (a ≡ 0) × (b ≡ 0)
-unfolding or-else
-or-else-none a b h = on (eqb a 0) refl
-  where
-    on : (x : Bool) → eqb a 0 ≡ x → (a ≡ 0) × (b ≡ 0)
-    on true e = (eqb-true a 0 e, rw e at h)
-    on false e = absurd (eqb-false a 0 e (rw e at h))
-
-pub or-else-first : (a b : ℕ) → (a ≡ 0 → ⊥) → or-else a b ≡ a
-unfolding or-else
-or-else-first a b bad = rw (ne-eqb a 0 bad)
-
-pub or-else-second : (a b : ℕ) → a ≡ 0 → or-else a b ≡ b
-unfolding or-else
-or-else-second a b e = rw (eq-eqb a 0 e)
-
-unless-none : (number value : ℕ) → number ≡ 0 → unless number value ≡ value
-unfolding unless
-unless-none number value e = rw (eq-eqb number 0 e)
-
-pub unless-some : (number value : ℕ) → (number ≡ 0 → ⊥) → unless number value ≡ 0
-unfolding unless
-unless-some number value bad = rw (ne-eqb number 0 bad)
-
-left-behind-none : (number : ℕ) (before written : List ℕ) → number ≡ 0 → left-behind number before written ≡ filled (length before) written
-unfolding left-behind
-left-behind-none number before written e = rw (eq-eqb number 0 e)
-
-left-in-none : (number : ℕ) (before written : List ℕ) → number ≡ 0 → left-in number before written ≡ filled (length before) written
-unfolding left-in
-left-in-none number before written e = rw (eq-eqb number 0 e)
-
 -- What was written, from the buffer as left behind and the length told.
 take-told : (len room : ℕ) (xs out : List ℕ) → len ≡ length xs → out ≡ filled room xs → take len out ≡ xs
 take-told len room xs out l e = rw (l, e) (take-filled room xs)
 
 front-fits : (len : ℕ) (xs out : List ℕ) → len ≡ length xs → take len out ≡ xs → len ≤ length out
 front-fits len xs out l e = omega (arith, length-take len out, ap length e)
-
-string-passed : (b : Bool) → _≡_ {A = ℕ} (cond b 0 9) 0 → b ≡ true
-string-passed true h = refl
-string-passed false h = absurd (omega arith)
 
 -- Composing
 
@@ -98,9 +65,9 @@ composed-well xs ys r a a' b b' c c' says well =
       fine = three .1;
       bytes =
           take-told (r .len) (length a) (encode z) a' (says .len-is ∙ unless-none number (length (encode z)) none)
-          (says .table ∙ left-behind-none number a (encode z) none);
+          (says .table ∙ behind-written a (encode z) number none);
       room = length b;
-      origins = says .origins ∙ left-behind-none number b (origin-pairs (composed (decode xs) (decode ys) .steps)) none;
+      origins = says .origins ∙ behind-written b (origin-pairs (composed (decode xs) (decode ys) .steps)) number none;
     }
 
 -- What is handed on lies within the buffer.
@@ -134,13 +101,13 @@ applied-well cs bs r a a' b b' c c' says well =
     let two = or-else-none (cond (string-good cs) 0 9) rest (one .1) in
     let three = or-else-none (apply-room (length a) (length b) (length c)) last (two .1) in
     record {
-      string = string-passed (string-good cs) (two .0);
+      string = passed-last (string-good cs) 8 (two .0);
       fine = three .1;
       bytes =
           take-told (r .len) (length a) (encode w) a' (says .len-is ∙ unless-none number (length (encode w)) none)
-          (says .table ∙ left-behind-none number a (encode w) none);
+          (says .table ∙ behind-written a (encode w) number none);
       room = length b;
-      origins = says .origins ∙ left-behind-none number b (lattice-origins cs (decode bs)) none;
+      origins = says .origins ∙ behind-written b (lattice-origins cs (decode bs)) number none;
     }
 
 pub applied-fits : (cs bs : List ℕ) (r : Written) (a a' b b' c c' : List ℕ)
@@ -156,24 +123,16 @@ applied-fits cs bs r a a' b b' c c' says well =
 module _ (bs : List ℕ) (r : Counted) (ok : refusal bs ≡ 0) (says : Count-says bs (count-refusal bs) r) where
   count-number : r .refusal ≡ cond (endless (decode bs)) 14 0
   unfolding count-refusal
-  count-number = says .refusal-is ∙ or-else-second (refusal bs) (cond (endless (decode bs)) 14 0) ok
+  count-number = says .refusal-is ∙ none-or-else (refusal bs) (cond (endless (decode bs)) 14 0) ok
 
   pub refused-14 : (r .refusal ≡ 14) ↔ (endless (decode bs) ≡ true)
-  refused-14 = (λ h. on (endless (decode bs)) (sym count-number ∙ h), λ e. count-number ∙ (rw e))
-    where
-      on : (b : Bool) → _≡_ {A = ℕ} (cond b 14 0) 14 → b ≡ true
-      on true h = refl
-      on false h = absurd (omega arith)
+  refused-14 = (λ h. raised-last (endless (decode bs)) 13 (sym count-number ∙ h), λ e. count-number ∙ (rw e))
 
   pub counted-none : endless (decode bs) ≡ false → r .refusal ≡ 0
   counted-none e = count-number ∙ (rw e)
 
   pub none-counted : r .refusal ≡ 0 → endless (decode bs) ≡ false
-  none-counted h = on (endless (decode bs)) (sym count-number ∙ h)
-    where
-      on : (b : Bool) → _≡_ {A = ℕ} (cond b 14 0) 0 → b ≡ false
-      on true h = absurd (omega arith)
-      on false h = refl
+  none-counted h = not-raised (endless (decode bs)) 13 0 (sym count-number ∙ h) .0
 
   pub count-told : r .refusal ≡ 0 → r .count ≡ path-count (decode bs)
   count-told h = says .count-is ∙ unless-none (count-refusal bs) (path-count (decode bs)) (sym (says .refusal-is) ∙ h)
@@ -203,7 +162,7 @@ told-well bs k r a a' b b' ok finite below room-a room-b says =
     let p : List ℕ = nth-path w k in
     let number : ℕ = nth-refusal bs k (length a) (length b) in
     let none : number ≡ 0 =
-    or-else-second (refusal bs) (cond (ltb (length a) 1023 || ltb (length b) 1023) 10 (cond (endless w) 14 (cond (leb (path-count w) k) 15 0))) ok
+    none-or-else (refusal bs) (cond (ltb (length a) 1023 || ltb (length b) 1023) 10 (cond (endless w) 14 (cond (leb (path-count w) k) 15 0))) ok
     ∙ (rw (le-ltb (length a) 1023 room-a, le-ltb (length b) 1023 room-b, finite, lt-leb (path-count w) k below)) in
     record {
       well = says .refusal-is ∙ none;

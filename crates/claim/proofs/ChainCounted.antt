@@ -8,7 +8,7 @@ use Prim.Native.Nat.{ℕ, min}
 use lib.ListN.{length}
 use Rattle.wire.specs.Bytes.{Bytes, filled}
 use Rattle.transducer.specs.Format.{Transducer, Good, refusal, decode}
-use Rattle.transducer.proofs.Members.{Distinct, distinct-places}
+use Rattle.transducer.proofs.Members.{Distinct, distinct-places, places-distinct}
 use Rattle.transducer.proofs.RoundTrip.{accepted-good, decode-encode}
 use Rattle.transducer.proofs.Runs.{Within, good-within}
 use Rattle.compose.specs.Claim.{Two-paths, One-to-one}
@@ -28,7 +28,6 @@ use Rattle.claim.specs.Claim.{Pair, to-pair, Paths-are-pairs, Infinitely
 use Rattle.claim.proofs.Answers.{Composed-well, Applied-well, refused-14, counted-none, count-told}
 use Rattle.claim.proofs.Chain.{chain-pairs}
 use Rattle.claim.proofs.Counting.{listed-all, listed-only, listed-distinct, endless-infinitely-many, number-of-paths}
-use Rattle.claim.proofs.Pigeonhole.{places-distinct}
 
 -- Zeros behind the origins lead nowhere else.
 to-pair-filled : (n m : ℕ) (os ls os' ls' : List ℕ) → os' ≡ filled n os → ls' ≡ filled m ls → (p : List ℕ) → to-pair os ls p ≡ to-pair os' ls' p

@@ -10,11 +10,10 @@ use native.Mathlib.Omega.{arith}
 use lib.ListN.{length, length-map}
 use Rattle.transducer.specs.Format.{Transducer}
 use Rattle.transducer.specs.Path.{accepts}
-use Rattle.transducer.proofs.Members.{Distinct}
+use Rattle.transducer.proofs.Members.{Distinct, no-longer, map-distinct}
 use Rattle.transducer.proofs.Runs.{Within}
 use Rattle.paths.specs.Count.{paths, endless}
 use Rattle.paths.proofs.Endless.{mem-paths, paths-distinct, not-endless-listed, endless-escapes}
-use Rattle.claim.proofs.Pigeonhole.{no-longer, map-distinct}
 
 -- So many accepting paths, no two the same.
 record Paths (w : Transducer) (n : ℕ) : Type 0 where

@@ -8,6 +8,7 @@ use Rattle.wire.specs.Bytes.{Bytes}
 use Rattle.transducer.specs.declared.Written.{Written}
 use Rattle.transducer.specs.Format.{Transducer, refusal, decode}
 use Rattle.transducer.specs.Entry.{or-else}
+use Rattle.transducer.proofs.Answers.{some-or-else, none-or-else, unless-some}
 use Rattle.compose.specs.Entry.{compose-room, compose-refusal, Compose-says}
 use Rattle.lattice.specs.ApplyEntry.{apply-room, apply-refusal, Apply-says}
 use Rattle.lattice.specs.Lattice.{lattice}
@@ -15,7 +16,7 @@ use Rattle.paths.specs.declared.Counted.{Counted}
 use Rattle.paths.specs.Count.{endless, path-count}
 use Rattle.paths.specs.Entry.{count-refusal, Count-says}
 use Rattle.claim.specs.Entry.{composition, composition-lattice, composition-refusal, application-refusal, readings-refusal, Readings-says}
-use Rattle.claim.proofs.Answers.{or-else-first, or-else-second, unless-some, Composed-well, composed-well, composed-fits}
+use Rattle.claim.proofs.Answers.{Composed-well, composed-well, composed-fits}
 use Rattle.claim.proofs.Answers.{Applied-well, applied-well, applied-fits}
 use Rattle.claim.proofs.ChainCounted.{composition-read, composition-accepted, Chained, lattice-read, lattice-accepted, counts-pairs}
 
@@ -33,15 +34,15 @@ module _ (xs ys cs : List ℕ) where
 
   number-first : (m ≡ 0 → ⊥) → readings-refusal xs ys cs ≡ m
   unfolding readings-refusal
-  number-first bad = or-else-first m (or-else n last) bad
+  number-first bad = some-or-else m (or-else n last) bad
 
   number-second : m ≡ 0 → (n ≡ 0 → ⊥) → readings-refusal xs ys cs ≡ n
   unfolding readings-refusal
-  number-second e bad = or-else-second m (or-else n last) e ∙ or-else-first n last bad
+  number-second e bad = none-or-else m (or-else n last) e ∙ some-or-else n last bad
 
   number-third : m ≡ 0 → n ≡ 0 → readings-refusal xs ys cs ≡ last
   unfolding readings-refusal
-  number-third e f = or-else-second m (or-else n last) e ∙ or-else-second n last f
+  number-third e f = none-or-else m (or-else n last) e ∙ none-or-else n last f
 
 -- The composition's answer
 
@@ -113,7 +114,7 @@ module _ (xs ys cs : List ℕ) (made : Written) {a a' b b' c c' : List ℕ} (la 
             record { left-bytes = bytes-xs; right-bytes = bytes-ys; composing = made-well; applying = put-well; counting = counting } in
             let in-bytes : decode ws ≡ w = lattice-read chained ∙ ap (lattice cs) read in
             let number : count-refusal ws ≡ readings-refusal xs ys cs =
-            or-else-second (refusal ws) (cond (endless (decode ws)) 14 0) (lattice-accepted chained)
+            none-or-else (refusal ws) (cond (endless (decode ws)) 14 0) (lattice-accepted chained)
             ∙ ap (λ (t : Transducer). cond (endless t) 14 0) in-bytes ∙ sym (number-third xs ys cs none (sym put-number ∙ fine)) in
             record {
               refusal-is = counting .refusal-is ∙ number;

@@ -9,7 +9,7 @@ use Prim.Native.Nat.{ℕ, _≤_, _<_, min}
 use lib.ListN.{length, getD, take}
 use Rattle.wire.specs.Bytes.{Bytes}
 use Rattle.transducer.specs.declared.Written.{Written}
-use Rattle.transducer.specs.Format.{Transducer, decode}
+use Rattle.transducer.specs.Format.{max-path, max-count, Transducer, decode}
 use Rattle.transducer.specs.Path.{accepts, read-by, written-by, path-cost}
 use Rattle.transducer.specs.Weight.{plus}
 use Rattle.compose.specs.Claim.{met-at, Two-paths}
@@ -76,8 +76,8 @@ pub record Answered (c : Calls) : Type 0 where
   pub told : (k : ℕ) → k < c .counting .count
       → Nth-says (lattice-bytes c) k (nth-refusal (lattice-bytes c) k (length (c .arcs k)) (length (c .labels k))) (c .telling k)
       (c .arcs k) (c .arcs-left k) (c .labels k) (c .labels-left k)
-  pub arcs-room : (k : ℕ) → k < c .counting .count → 1023 ≤ length (c .arcs k)
-  pub labels-room : (k : ℕ) → k < c .counting .count → 1023 ≤ length (c .labels k)
+  pub arcs-room : (k : ℕ) → k < c .counting .count → max-path ≤ length (c .arcs k)
+  pub labels-room : (k : ℕ) → k < c .counting .count → max-path ≤ length (c .labels k)
 
 -- A pair: an accepting left path that reads the string, and an accepting right path that reads what the left one writes. Either may be empty.
 pub record Pair (left right string : List ℕ) (x : Two-paths) : Type 0 where
@@ -124,7 +124,7 @@ pub record Each-once (left right string : List ℕ) (l : List Two-paths) : Type 
 pub record Counts-pairs (left right string : List ℕ) (r : Counted) : Type 0 where
   pub endless : (r .refusal ≡ 14) ↔ Infinitely-many left right string
   pub finite : (Infinitely-many left right string → ⊥) → (l : List Two-paths) × Each-once left right string l
-  pub number : (l : List Two-paths) → Each-once left right string l → (r .refusal ≡ 0) × (r .count ≡ min 99 (length l))
+  pub number : (l : List Two-paths) → Each-once left right string l → (r .refusal ≡ 0) × (r .count ≡ min max-count (length l))
 
 -- The lattice is what is in the bytes handed to the count; its paths lead by the origins as they were left behind.
 abbrev pub lattice-of : Calls → Transducer
@@ -156,5 +156,5 @@ pub record Claim (c : Calls) : Type 0 where
   pub tells : (k : ℕ) → k < c .counting .count → Tells c k (leads-to c (told-arcs c k))
   pub told-once : (j k : ℕ) → j < c .counting .count → k < c .counting .count → leads-to c (told-arcs c j) ≡ leads-to c (told-arcs c k) → j ≡ k
   pub in-order : (j k : ℕ) → j < k → k < c .counting .count → before (told-arcs c j) (told-arcs c k) ≡ true
-  pub all-told : c .counting .refusal ≡ 0 → c .counting .count < 99 → (x : Two-paths) → Pair (c .left) (c .right) (c .string) x
+  pub all-told : c .counting .refusal ≡ 0 → c .counting .count < max-count → (x : Two-paths) → Pair (c .left) (c .right) (c .string) x
       → (k : ℕ) × (k < c .counting .count) × (leads-to c (told-arcs c k) ≡ x)

@@ -7,9 +7,9 @@ use paths::Counted;
 pub fn readings(left: &[u8], right: &[u8], string: &[u16]) -> Counted
     ensures { λ r. ⌜ Readings-says (now (left .entry)) (now (right .entry)) (now (string .entry)) r ⌝ }
 {
-    let mut table = [0u8; 59404];
-    let mut origins = [0u16; 6144];
-    let mut states = [0u32; 1024];
+    let mut table = [0u8; transducer::MAX_BYTES];
+    let mut origins = [0u16; transducer::MAX_ORIGINS];
+    let mut states = [0u32; transducer::MAX_STATES];
     let composed = compose::compose(left, right, &mut table, &mut origins, &mut states);
     if composed.refusal != 0 {
         return Counted {
@@ -18,9 +18,9 @@ pub fn readings(left: &[u8], right: &[u8], string: &[u16]) -> Counted
         };
     }
     let size = composed.len as usize;
-    let mut lattice = [0u8; 59404];
-    let mut arcs = [0u16; 3072];
-    let mut pairs = [0u32; 1024];
+    let mut lattice = [0u8; transducer::MAX_BYTES];
+    let mut arcs = [0u16; transducer::MAX_ARCS];
+    let mut pairs = [0u32; transducer::MAX_STATES];
     let applied = lattice::apply(string, &table[..size], &mut lattice, &mut arcs, &mut pairs);
     if applied.refusal != 0 {
         return Counted {

@@ -14,9 +14,10 @@ use Rattle.explore.proofs.Member.{at-length, at-getD}
 use Rattle.explore.proofs.Trails.{inputs, outputs, weights, along, Once}
 use Rattle.explore.proofs.Accepting.{accepts-read, accepts-written, accepts-once, accepts-trail, trail-accepts}
 use Rattle.explore.proofs.Built.{unrefused-few}
-use Rattle.compose.specs.declared.Origin.{Origin}
-use Rattle.compose.specs.declared.State.{State}
-use Rattle.compose.specs.Compose.{same-state, steps, first-state, final-state, state-weight, composed}
+use Rattle.steps.specs.declared.Origin.{Origin}
+use Rattle.steps.specs.declared.State.{State}
+use Rattle.steps.specs.Steps.{same-state, steps, first-state}
+use Rattle.compose.specs.Compose.{final-state, state-weight, composed}
 use Rattle.compose.specs.Entry.{origin-pairs}
 use Rattle.compose.specs.Claim.{met-at, Pair, Stands-for, One-to-one, Least-sums}
 use Rattle.compose.proofs.Trail.{lefts, rights}
@@ -24,7 +25,7 @@ use Rattle.compose.proofs.Leads.{Leads, trail-leads}
 use Rattle.compose.proofs.Pairing.{never-two}
 use Rattle.compose.proofs.Origins.{origin-once}
 use Rattle.compose.proofs.LeastSums.{one-to-one-least-sums}
-use Rattle.compose.proofs.SameState.{same-state-decides}
+use Rattle.steps.proofs.SameState.{same-state-decides}
 use Rattle.compose.proofs.MetPaths.{no-step, met-lefts, met-rights}
 use Rattle.compose.proofs.Pairs.{Accepted, accepted-pair, accepted-cost, Pair-trail, pair-accepted}
 use Rattle.compose.proofs.Written.{good-arcs-below, refusal-composed, decode-composed}

@@ -38,13 +38,15 @@ use Rattle.explore.proofs.WalkTold.{
   table-written,
   origins-written,
 }
-use Rattle.compose.specs.Compose.{same-state, steps, final-state, state-weight, first-state, composed, origin-pair}
+use Rattle.steps.specs.Steps.{same-state, steps, first-state, origin-pair}
+use Rattle.compose.specs.Compose.{final-state, state-weight, composed}
 use Rattle.compose.specs.Entry.{Compose-says, compose-refusal, compose-room, origin-pairs}
 use Rattle.compose.specs.Finished.{key-final, key-weight, key-finals, Finishable, Refused-with, Composable}
-use Rattle.compose.specs.Walk.{pack, key-steps, key-walk}
+use Rattle.steps.specs.Packing.{pack}
+use Rattle.compose.specs.Walk.{key-steps, key-walk}
 use Rattle.compose.proofs.Explored.{two-origins, composed-keying, steps-light, key-small}
 use Rattle.compose.proofs.KeyFinals.{code-most, pack-final, pack-weight}
-use Rattle.compose.proofs.Pack.{Within, within-bounded}
+use Rattle.steps.proofs.Packing.{Within, within-bounded}
 use Rattle.compose.proofs.Written.{steps-labelled}
 
 -- Compose-says, by how the buffers are left

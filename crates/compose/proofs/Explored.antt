@@ -11,13 +11,14 @@ use Rattle.explore.proofs.ArcsFit.{Weighing}
 use Rattle.explore.proofs.ExploredKeys.{Keying}
 use Rattle.explore.proofs.Member.{mem-in}
 use Rattle.explore.proofs.Walking.{Key-of}
-use Rattle.compose.specs.declared.Origin.{Origin}
-use Rattle.compose.specs.declared.State.{State}
-use Rattle.compose.specs.Compose.{same-state, steps, first-state, origin-pair}
-use Rattle.compose.specs.Taking.{In-both}
-use Rattle.compose.specs.Walk.{pack, unpacked, coded, keyed-step, key-steps}
-use Rattle.compose.proofs.Pack.{Within, within-bounded, first-within, step-within, step-weight, unpacked-pack, pack-injective, pack-small}
-use Rattle.compose.proofs.SameState.{same-state-decides}
+use Rattle.steps.specs.declared.Origin.{Origin}
+use Rattle.steps.specs.declared.State.{State}
+use Rattle.steps.specs.Steps.{same-state, steps, first-state, origin-pair}
+use Rattle.steps.specs.Runs.{In-both, coded}
+use Rattle.steps.specs.Packing.{pack, unpacked}
+use Rattle.compose.specs.Walk.{keyed-step, key-steps}
+use Rattle.steps.proofs.Packing.{Within, within-bounded, first-within, step-within, step-weight, unpacked-pack, pack-injective, pack-small}
+use Rattle.steps.proofs.SameState.{same-state-decides}
 
 pub two-origins : (o : Origin) → length (origin-pair o) ≡ 2
 unfolding origin-pair

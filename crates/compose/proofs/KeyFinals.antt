@@ -16,11 +16,11 @@ use Rattle.transducer.specs.Path.{is-final, final-weight}
 use Rattle.transducer.proofs.RoundTrip.{good-passed}
 use Rattle.explore.proofs.Cases.{by-test}
 use Rattle.explore.proofs.Finals.{not-final-weight}
-use Rattle.compose.specs.declared.State.{State}
+use Rattle.steps.specs.declared.State.{State}
 use Rattle.compose.specs.Compose.{final-state, state-weight}
 use Rattle.compose.specs.Finished.{key-final, key-weight}
-use Rattle.compose.specs.Walk.{pack, unpacked}
-use Rattle.compose.proofs.Pack.{Bounded, unpacked-pack}
+use Rattle.steps.specs.Packing.{pack, unpacked}
+use Rattle.steps.proofs.Packing.{Bounded, unpacked-pack}
 
 -- The parts of a key are states.
 pub key-parts : (k : ℕ) (x : State) → x ≡ unpacked k → k < 2097152 → (x .left < 1024) × (x .right < 1024)

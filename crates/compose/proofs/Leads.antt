@@ -7,9 +7,9 @@ use lib.ListN.{length}
 use Rattle.transducer.specs.Format.{Transducer}
 use Rattle.transducer.specs.Path.{arc, runs, ends, non-empty, read-by, written-by, arcs-cost}
 use Rattle.explore.specs.Explore.{Step}
-use Rattle.compose.specs.declared.Origin.{Origin}
-use Rattle.compose.specs.declared.State.{State}
-use Rattle.compose.specs.Compose.{left-alone, right-alone, both-step, steps}
+use Rattle.steps.specs.declared.Origin.{Origin}
+use Rattle.steps.specs.declared.State.{State}
+use Rattle.steps.specs.Steps.{left-alone, right-alone, both-step, steps}
 use Rattle.transducer.specs.Weight.{plus}
 use Rattle.transducer.proofs.Fits.{passed-output}
 use Rattle.transducer.proofs.Paths.{cons-runs, empty-passed}
@@ -17,7 +17,7 @@ use Rattle.transducer.proofs.Weights.{plus-assoc, plus-behind, plus-across}
 use Rattle.explore.proofs.Member.{mem-in}
 use Rattle.explore.proofs.Trails.{Trail, inputs, outputs, weights}
 use Rattle.compose.proofs.Trail.{add-left, add-right, lefts, rights}
-use Rattle.compose.proofs.Moves.{Move, by-left, by-right, by-both, step-move}
+use Rattle.steps.proofs.Moves.{Move, by-left, by-right, by-both, step-move}
 
 pub record Leads (t u : Transducer) (x : State) (ss : List (Step State Origin)) (y : State) : Type 0 where
   pub left-runs : runs t (x .left) (lefts ss) ≡ true

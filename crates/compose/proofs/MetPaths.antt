@@ -10,10 +10,10 @@ use Rattle.transducer.specs.Format.{Transducer, barred}
 use Rattle.explore.specs.Explore.{Step, Built}
 use Rattle.explore.specs.Walk.{all-origins}
 use Rattle.explore.proofs.Trails.{Trail, along}
-use Rattle.compose.specs.declared.Origin.{Origin}
-use Rattle.compose.specs.declared.Origin.the-variants.{Both}
-use Rattle.compose.specs.declared.State.{State}
-use Rattle.compose.specs.Compose.{steps, left-origin, right-origin, origin-pair}
+use Rattle.steps.specs.declared.Origin.{Origin}
+use Rattle.steps.specs.declared.Origin.the-variants.{Both}
+use Rattle.steps.specs.declared.State.{State}
+use Rattle.steps.specs.Steps.{steps, left-origin, right-origin, origin-pair}
 use Rattle.compose.specs.Entry.{origin-pairs}
 use Rattle.compose.specs.Claim.{led, met-at}
 use Rattle.compose.proofs.Trail.{lefts, rights}

@@ -9,8 +9,9 @@ use Rattle.explore.specs.Explore.{targets, built-refusal}
 use Rattle.explore.proofs.Numbered as numbering
 use Rattle.explore.proofs.Numbered.{Numbered, More-reached, built-numbered}
 use Rattle.explore.proofs.Built.{refused-11}
-use Rattle.compose.specs.Compose.{same-state, steps, first-state, final-state, state-weight, composed}
-use Rattle.compose.proofs.SameState.{same-state-decides}
+use Rattle.steps.specs.Steps.{same-state, steps, first-state}
+use Rattle.compose.specs.Compose.{final-state, state-weight, composed}
+use Rattle.steps.proofs.SameState.{same-state-decides}
 
 module _ (t u : Transducer) where
   pub composed-numbered : length (composed t u .states) ≤ 1024

@@ -9,8 +9,8 @@ use Rattle.transducer.specs.declared.Header.{Header}
 use Rattle.transducer.specs.Format.{Transducer, refusal, decode, head-finals, head-start}
 use Rattle.transducer.specs.Leaf.{Opened, header-of}
 use Rattle.transducer.proofs.Accept.{Bounds, bounds}
-use Rattle.compose.specs.Compose.{first-state}
-use Rattle.compose.specs.Walk.{pack}
+use Rattle.steps.specs.Steps.{first-state}
+use Rattle.steps.specs.Packing.{pack}
 
 pub record Opening (bs : List ℕ) (h : Header) : Type 0 where
   pub opened : Opened bs (12 + 10 * h .finals)

@@ -13,17 +13,17 @@ use Rattle.transducer.specs.Format.{Transducer, barred}
 use Rattle.transducer.specs.Path.{arc}
 use Rattle.transducer.specs.Each.{each-arc, fits}
 use Rattle.explore.specs.Explore.{Step}
-use Rattle.compose.specs.declared.Origin.{Origin}
-use Rattle.compose.specs.declared.State.{State}
-use Rattle.compose.specs.Compose.{left-alone, right-alone, both-step, left-steps, right-steps, steps, left-origin, right-origin}
+use Rattle.steps.specs.declared.Origin.{Origin}
+use Rattle.steps.specs.declared.State.{State}
+use Rattle.steps.specs.Steps.{left-alone, right-alone, both-step, left-steps, right-steps, steps, left-origin, right-origin}
 use Rattle.compose.specs.Claim.{led}
 use Rattle.transducer.proofs.Members.{in-cond, Distinct, distinct-one, distinct-cond, distinct-append, distinct-places}
 use Rattle.transducer.proofs.Each.{FromArc, in-each-arc, each-arc-distinct}
 use Rattle.explore.proofs.Member.{mem-in}
 use Rattle.explore.proofs.Trails.{Trail}
 use Rattle.compose.proofs.Trail.{add-left, add-right, lefts, rights}
-use Rattle.compose.proofs.Moves.{both-steps, OfLeft, alone, with-right, in-left-steps, in-right-steps, Move, by-left, by-right, by-both}
-use Rattle.compose.proofs.Moves.{step-move}
+use Rattle.steps.proofs.Moves.{both-steps, OfLeft, alone, with-right, in-left-steps, in-right-steps, Move, by-left, by-right, by-both}
+use Rattle.steps.proofs.Moves.{step-move}
 
 abbrev origin : Step State Origin → Origin
 origin s = s .origin

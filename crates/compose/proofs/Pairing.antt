@@ -9,15 +9,15 @@ use borrow.Author.Tests.{eqb-true, eqb-false}
 use Rattle.transducer.specs.Format.{Transducer}
 use Rattle.transducer.specs.Path.{arc, runs, read-by, written-by}
 use Rattle.explore.specs.Explore.{Step}
-use Rattle.compose.specs.declared.Origin.{Origin}
-use Rattle.compose.specs.declared.Origin.the-variants.{Left, Right, Both}
-use Rattle.compose.specs.declared.State.{State}
-use Rattle.compose.specs.Compose.{left-alone, right-alone, both-step, steps}
+use Rattle.steps.specs.declared.Origin.{Origin}
+use Rattle.steps.specs.declared.Origin.the-variants.{Left, Right, Both}
+use Rattle.steps.specs.declared.State.{State}
+use Rattle.steps.specs.Steps.{left-alone, right-alone, both-step, steps}
 use Rattle.transducer.proofs.Paths.{Runs, runs-cons, empty-passed, symbol-kept}
 use Rattle.explore.proofs.Member.{mem-in, in-mem}
 use Rattle.explore.proofs.Trails.{Trail}
 use Rattle.compose.proofs.Trail.{add-left, add-right, lefts, rights}
-use Rattle.compose.proofs.Moves.{Move, by-left, by-right, by-both, step-move, move-step}
+use Rattle.steps.proofs.Moves.{Move, by-left, by-right, by-both, step-move, move-step}
 
 -- Only from filter state 0 does a left path begin with an arc that writes nothing.
 unfoldable pub Ready : Transducer → (filter : ℕ) → (path : List ℕ) → Type 0

@@ -11,9 +11,10 @@ use Rattle.transducer.proofs.Weights.{plus-across}
 use Rattle.explore.specs.Explore.{Step}
 use Rattle.explore.proofs.Trails.{weights}
 use Rattle.explore.proofs.Accepting.{Accepting}
-use Rattle.compose.specs.declared.Origin.{Origin}
-use Rattle.compose.specs.declared.State.{State}
-use Rattle.compose.specs.Compose.{steps, first-state, final-state, state-weight}
+use Rattle.steps.specs.declared.Origin.{Origin}
+use Rattle.steps.specs.declared.State.{State}
+use Rattle.steps.specs.Steps.{steps, first-state}
+use Rattle.compose.specs.Compose.{final-state, state-weight}
 use Rattle.compose.specs.Claim.{Pair}
 use Rattle.compose.proofs.Trail.{lefts, rights}
 use Rattle.compose.proofs.Leads.{Leads, trail-leads}

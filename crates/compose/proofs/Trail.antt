@@ -2,8 +2,8 @@
 use mathlib.Core.List.{List, [], _∷_}
 use Prim.Native.Nat.{ℕ}
 use Rattle.explore.specs.Explore.{Step}
-use Rattle.compose.specs.declared.Origin.{Origin}
-use Rattle.compose.specs.declared.Origin.the-variants.{Left, Right, Both}
+use Rattle.steps.specs.declared.Origin.{Origin}
+use Rattle.steps.specs.declared.Origin.the-variants.{Left, Right, Both}
 
 -- The left arc of an origin in front of a path, where it has one; the same for the right arc.
 unfoldable pub add-left : Origin → List ℕ → List ℕ

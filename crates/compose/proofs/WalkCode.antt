@@ -18,19 +18,20 @@ use Rattle.explore.specs.Chain.{Chained}
 use Rattle.explore.specs.Walk.{Keyed, Sofar, with-key, taken, all-taken, state-served, traced-by, Records, Walked, Went}
 use Rattle.explore.proofs.Cases.{by-test}
 use Rattle.explore.proofs.Walking.{walked-next, Taking, taking-state, taking-part, taking-full, taking-stop}
-use Rattle.compose.specs.declared.Begin.{Begin}
-use Rattle.compose.specs.declared.Origin.{Origin}
-use Rattle.compose.specs.declared.Run.{Run}
-use Rattle.compose.specs.declared.State.{State}
-use Rattle.compose.specs.declared.Step.{Step}
-use Rattle.compose.specs.Compose.{left-origin, right-origin, origin-pair, steps}
-use Rattle.compose.specs.Lookup.{Leaving}
-use Rattle.compose.specs.Walk.{unpacked, coded, keyed-step, key-steps, run-step, run-steps}
-use Rattle.compose.specs.Taking.{Ready, In-both}
+use Rattle.steps.specs.declared.Begin.{Begin}
+use Rattle.steps.specs.declared.Origin.{Origin}
+use Rattle.steps.specs.declared.Run.{Run}
+use Rattle.steps.specs.declared.State.{State}
+use Rattle.steps.specs.declared.Step.{Step}
+use Rattle.steps.specs.Steps.{left-origin, right-origin, origin-pair, steps}
+use Rattle.steps.specs.Lookup.{Leaving}
+use Rattle.steps.specs.Packing.{unpacked}
+use Rattle.steps.specs.Runs.{coded, run-step, run-steps, Ready, In-both}
+use Rattle.compose.specs.Walk.{keyed-step, key-steps}
 use Rattle.compose.proofs.Explored.{two-origins}
-use Rattle.compose.proofs.Leaving.{state-leaving}
-use Rattle.compose.proofs.RunSteps.{runs-from, good-runs}
-use Rattle.compose.proofs.Reading.{first-step, Next-step, right-from, right-to, Run-here}
+use Rattle.steps.proofs.Leaving.{state-leaving}
+use Rattle.steps.proofs.RunSteps.{runs-from, good-runs}
+use Rattle.steps.proofs.Reading.{first-step, Next-step, right-from, right-to, Run-here}
 
 -- The two origins of an arc stored, or left out where there is no room for the arc.
 module _ (arcs : ℕ) (o : Origin) (origins : List ℕ) where

@@ -11,10 +11,11 @@ use Rattle.transducer.proofs.RoundTrip.{good-passed, good-range, refusal-encode
 use Rattle.explore.specs.Explore.{built-refusal}
 use Rattle.explore.proofs.Member.{mem-in}
 use Rattle.explore.proofs.Built.{Labelled, good-built}
-use Rattle.compose.specs.Compose.{same-state, steps, first-state, final-state, state-weight, composed}
+use Rattle.steps.specs.Steps.{same-state, steps, first-state}
+use Rattle.compose.specs.Compose.{final-state, state-weight, composed}
 use Rattle.transducer.proofs.Labels.{Unbarred}
-use Rattle.compose.proofs.Labels.{step-unbarred}
-use Rattle.compose.proofs.SameState.{same-state-decides}
+use Rattle.steps.proofs.Labels.{step-unbarred}
+use Rattle.steps.proofs.SameState.{same-state-decides}
 
 pub good-labels : (t : Transducer) → Good t → all-labels-good t ≡ true
 unfolding all-labels-good

@@ -11,9 +11,10 @@ use Rattle.transducer.specs.Encode.{encode}
 use Rattle.transducer.specs.Entry.{or-else, unless}
 use Rattle.explore.specs.Explore.{Step, built-refusal, left-behind}
 use Rattle.explore.specs.Walk.{all-origins}
-use Rattle.compose.specs.declared.State.{State}
-use Rattle.compose.specs.declared.Origin.{Origin}
-use Rattle.compose.specs.Compose.{composed, origin-pair}
+use Rattle.steps.specs.declared.State.{State}
+use Rattle.steps.specs.declared.Origin.{Origin}
+use Rattle.steps.specs.Steps.{origin-pair}
+use Rattle.compose.specs.Compose.{composed}
 
 -- The origins of each arc, the left one and then the right one.
 unfoldable pub origin-pairs : List (Step State Origin) → List ℕ

@@ -13,7 +13,8 @@ use Rattle.transducer.specs.Weight.{plus}
 use Rattle.explore.specs.declared.Walk.{Walk}
 use Rattle.explore.specs.Explore.{finals-from}
 use Rattle.explore.specs.Walk.{Told}
-use Rattle.compose.specs.Walk.{unpacked, key-walk}
+use Rattle.steps.specs.Packing.{unpacked}
+use Rattle.compose.specs.Walk.{key-walk}
 
 -- Whether the state of a key is final, by the final codes of its parts, and with which weight.
 unfoldable pub key-final : (lcodes rcodes : List ℕ) → (key : ℕ) → Bool

@@ -2,6 +2,4 @@ pub mod Claim
 pub mod Compose
 pub mod Entry
 pub mod Finished
-pub mod Lookup
-pub mod Taking
 pub mod Walk

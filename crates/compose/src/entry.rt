@@ -7,8 +7,6 @@ ghost use Rattle.compose.specs.Compose.{composed};
 ghost use Rattle.compose.specs.Entry.{Compose-says, compose-refusal};
 ghost use Rattle.compose.specs.Finished.{Composable, Walked-through};
 use crate::finish;
-use crate::lookup;
-use crate::runs;
 use crate::walking;
 use explore::Walk;
 use transducer::Written;
@@ -66,7 +64,7 @@ fn compose_into(
     let mut rheads = [0u16; 4096];
     let mut chain = [0u16; 3072];
     let mut again = [0u16; 3072];
-    lookup::put_chains(
+    steps::put_chains(
         right,
         rfirst,
         r.arcs as usize,
@@ -74,7 +72,7 @@ fn compose_into(
         &mut chain,
         &mut again,
     );
-    let first = runs::pack(l.start, r.start, 0);
+    let first = steps::pack(l.start, r.start, 0);
     let w = walking::walk_all(
         left,
         lfirst,

@@ -4,7 +4,6 @@ ghost use Prim.Native.Nat.{_<_};
 ghost use lib.ListN.{take};
 ghost use Rattle.explore.specs.Walk.{Finals-stored};
 ghost use Rattle.compose.specs.Finished.{key-finals, Finishable, Refused-with};
-use crate::runs;
 use explore::FinalsPut;
 use transducer::Final;
 use transducer::Written;
@@ -40,7 +39,7 @@ pub fn put_finals(
     let mut s = 0;
     while s < count {
         let state = s as u16;
-        let x = runs::unpack(states[s]);
+        let x = steps::unpack(states[s]);
         let p = x.left as usize;
         let q = x.right as usize;
         let a = lcodes[p];

@@ -1,49 +1,6 @@
 // Composition with the epsilon-sequencing filter (paper 01: the join).
 mod entry;
 mod finish;
-mod lookup;
-mod runs;
 mod walking;
 
 pub use entry::compose;
-
-// The arcs that a step of the composition comes from: an arc of the left transducer alone, of the right one alone, or one of each.
-pub enum Origin {
-    Left(u16),
-    Right(u16),
-    Both(u16, u16),
-}
-
-// A composed state: a left state, a right state and the filter state.
-pub struct State {
-    pub left: u32,
-    pub right: u32,
-    pub filter: u32,
-}
-
-// A step from a composed state; its target is a packed state.
-pub struct Step {
-    pub origin: Origin,
-    pub input: u16,
-    pub output: u16,
-    pub target: u32,
-    pub weight: u32,
-}
-
-// Steps that differ in their right arc alone: of one left arc alone, of one left arc with each right arc that reads `label`, or of the
-// right arcs alone that read nothing (then `left` is 65,535).
-pub struct Run {
-    pub alone: bool,
-    pub left: u16,
-    pub label: u16,
-    pub input: u16,
-    pub target: u32,
-    pub weight: u32,
-}
-
-// Where the next run begins: at left arc `i`, or behind the last one, with right arc `j`.
-pub struct Begin {
-    pub alone: bool,
-    pub i: usize,
-    pub j: usize,
-}

@@ -7,16 +7,16 @@ ghost use lib.ListN.{length, getD};
 ghost use Rattle.transducer.specs.Format.{decode};
 ghost use Rattle.transducer.specs.Leaf.{Opened};
 ghost use Rattle.explore.specs.Walk.{Sofar, all-taken, state-served, traced-by, Records, Walked, Went, Walk-says};
-ghost use Rattle.compose.specs.Compose.{first-state, origin-pair};
-ghost use Rattle.compose.specs.Lookup.{Again};
-ghost use Rattle.compose.specs.Walk.{pack, unpacked, keyed-step, key-steps, key-walk, run-steps, Walkable};
-ghost use Rattle.compose.specs.Taking.{Ready, In-both};
-use crate::Begin;
-use crate::Origin;
-use crate::Run;
-use crate::Step;
-use crate::runs;
+ghost use Rattle.steps.specs.Steps.{first-state, origin-pair};
+ghost use Rattle.steps.specs.Lookup.{Again};
+ghost use Rattle.steps.specs.Packing.{pack, unpacked};
+ghost use Rattle.steps.specs.Runs.{run-steps, Ready, In-both};
+ghost use Rattle.compose.specs.Walk.{keyed-step, key-steps, key-walk, Walkable};
 use explore::Walk;
+use steps::Begin;
+use steps::Origin;
+use steps::Run;
+use steps::Step;
 use transducer::Arc;
 
 const MAX_STATES: usize = 1024;
@@ -27,8 +27,8 @@ fn put_origins(origins: &mut [u16], arcs: usize, o: Origin)
     ensures { λ _. ⌜ now (origins .exit) ≡ traced-by 2 arcs (origin-pair o) (now (origins .entry)) ⌝ }
 {
     if arcs < explore::MAX_ARCS {
-        origins[2 * arcs] = runs::left_origin(o);
-        origins[2 * arcs + 1] = runs::right_origin(o);
+        origins[2 * arcs] = steps::left_origin(o);
+        origins[2 * arcs + 1] = steps::right_origin(o);
     }
 }
 
@@ -82,7 +82,7 @@ fn take_one(
     if to <= from {
         return w;
     }
-    let s = runs::step_of(r, right, rfirst, from);
+    let s = steps::step_of(r, right, rfirst, from);
     let key = s.target;
     let count = w.states;
     let number = explore::find(states, heads, links, count, key);
@@ -128,7 +128,7 @@ fn take_each(
     let mut walk = w;
     let mut j = from;
     while j < to {
-        let s = runs::step_of(r, right, rfirst, j);
+        let s = steps::step_of(r, right, rfirst, j);
         let key = s.target;
         let count = walk.states;
         // A state met before keeps the number it was first given.
@@ -249,7 +249,7 @@ fn serve(
         Went 2 (state-served (key-steps (decode (now (left .entry))) (decode (now (right .entry)))) source b) z
         (now (table .exit)) (now (origins .exit)) (now (states .exit)) (now (heads .exit)) (now (links .exit))) ⌝ }
 {
-    let x = runs::unpack(states[source]);
+    let x = steps::unpack(states[source]);
     let p = x.left as usize;
     let q = x.right as usize;
     let to = rindex[q + 1] as usize;
@@ -257,7 +257,7 @@ fn serve(
     let mut walk = w;
     let mut i = lindex[p] as usize;
     while i <= last {
-        let at = runs::next_run(
+        let at = steps::next_run(
             left,
             lfirst,
             i,
@@ -270,7 +270,7 @@ fn serve(
             q as u16,
             to,
         );
-        let r = runs::run_of(left, lfirst, at, last, x);
+        let r = steps::run_of(left, lfirst, at, last, x);
         let end = end_of(at, to);
         walk = take_run(
             right,

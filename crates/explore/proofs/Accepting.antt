@@ -4,7 +4,7 @@ use mathlib.Core.Bool.{Bool, true}
 use mathlib.Core.List.{List}
 use Prim.Native.Nat.{ℕ, _≤_, _<_}
 use lib.ListN.{length, getD}
-use Rattle.wire.proofs.Places.{and-true}
+use Rattle.wire.proofs.Bool.{and-true}
 use Rattle.transducer.specs.Format.{Transducer}
 use Rattle.transducer.specs.Path.{runs, ends, accepts, is-final, read-by, written-by, arcs-cost, path-cost}
 use Rattle.transducer.specs.Weight.{plus}

@@ -8,7 +8,8 @@ use lib.Dec.{ltb}
 use lib.ListN.{length, getD}
 use borrow.Author.Tests.{ltb-true, lt-ltb}
 use Rattle.wire.specs.Bytes.{every}
-use Rattle.wire.proofs.Places.{and-true, every-getD}
+use Rattle.wire.proofs.Places.{every-getD}
+use Rattle.wire.proofs.Bool.{and-true}
 use Rattle.transducer.specs.declared.Arc.{Arc}
 use Rattle.transducer.specs.Format.{Transducer, barred, labels-good, states-good, all-labels-good}
 use Rattle.explore.specs.Explore.{Step, Decides, Built, built}

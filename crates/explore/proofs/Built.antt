@@ -10,11 +10,12 @@ use lib.Dec.{ltb, leb}
 use lib.ListN.{length, getD}
 use borrow.Author.Tests.{ltb-true, ltb-false, lt-ltb, le-ltb, leb-true, le-leb, not-false}
 use Rattle.wire.specs.Bytes.{every}
-use Rattle.wire.proofs.Places.{and-true, true-and, every-append}
+use Rattle.wire.proofs.Places.{every-append}
+use Rattle.wire.proofs.Bool.{and-true, true-and, by-test, passed-last, not-raised}
 use Rattle.transducer.specs.declared.Arc.{Arc}
 use Rattle.transducer.specs.Format.{Transducer, barred, head-good, states-good, sources-stay, order-good, labels-good, all-labels-good, weights-good, first-of, content-refusal, Good}
+use Rattle.transducer.proofs.GoodParts.{good-parts}
 use Rattle.explore.specs.Explore.{Step, Decides, Built, targets, built, built-refusal, place, arcs-here, arcs-from}
-use Rattle.explore.proofs.Cases.{by-test}
 use Rattle.explore.proofs.Member.{At, Mem, at-length, at-getD, mem-here, mem-later, mem-there, place-length}
 use Rattle.explore.proofs.Numbering.{More, numbered-more}
 use Rattle.explore.proofs.Finals.{finals-from-rise, finals-from-states}
@@ -71,19 +72,15 @@ pub record Unrefused (t : Transducer) : Type 0 where
   pub few-arcs : length (t .arcs) ≤ 3072
   pub light : weights-good t ≡ true
 
-passed : (b : Bool) (k r : ℕ) → cond b (suc k) r ≡ 0 → (b ≡ false) × (r ≡ 0)
-passed true k r h = absurd (omega arith)
-passed false k r h = (refl, h)
-
 pub unrefused : (t : Transducer) → built-refusal t ≡ 0 → Unrefused t
 unfolding built-refusal
 unrefused t h =
-    let states = passed (ltb 1024 (t .states)) 10 (cond (ltb 3072 (length (t .arcs))) 12 (cond (weights-good t) 0 13)) h in
-    let arcs = passed (ltb 3072 (length (t .arcs))) 11 (cond (weights-good t) 0 13) (states .1) in
+    let states = not-raised (ltb 1024 (t .states)) 10 (cond (ltb 3072 (length (t .arcs))) 12 (cond (weights-good t) 0 13)) h in
+    let arcs = not-raised (ltb 3072 (length (t .arcs))) 11 (cond (weights-good t) 0 13) (states .1) in
     record {
       few-states = ltb-false 1024 (t .states) (states .0);
       few-arcs = ltb-false 3072 (length (t .arcs)) (arcs .0);
-      light = by-test (weights-good t) (λ e. e) (λ e. let z : _≡_ {A = ℕ} 13 0 = rw e at (arcs .1) in absurd (omega arith));
+      light = passed-last (weights-good t) 12 (arcs .1);
     }
 
 pub not-refused : (t : Transducer) → Unrefused t → built-refusal t ≡ 0
@@ -103,26 +100,8 @@ over-11 t = (
         (λ e. by-test (weights-good t) (λ w. let z : _≡_ {A = ℕ} 0 11 = rw (e, w) at h in omega arith)
         (λ w. let z : _≡_ {A = ℕ} 13 11 = rw (e, w) at h in omega arith))
 
-first-of-zero : (a b c d : Bool) → first-of a b c d ≡ 0 → d ≡ true
-unfolding first-of
-first-of-zero a b c d h =
-    let p = passed (not a) 4 (cond (not b) 6 (cond (not c) 7 (cond (not d) 8 0))) h in
-    let q = passed (not b) 5 (cond (not c) 7 (cond (not d) 8 0)) (p .1) in
-    let r = passed (not c) 6 (cond (not d) 8 0) (q .1) in
-    not-false d (passed (not d) 7 0 (r .1) .0)
-
 pub good-unrefused : (t : Transducer) → Good t → Unrefused t
-unfolding head-good content-refusal
-good-unrefused t g =
-    let n : ℕ = t .states in
-    let m : ℕ = length (t .arcs) in
-    let tail : Bool = leb (length (t .finals)) n && ltb (t .start) n in
-    let head = and-true (leb 1 n && leb n 1024) (leb m 3072 && tail) (g .head) in
-    record {
-      few-states = leb-true n 1024 (and-true (leb 1 n) (leb n 1024) (head .0) .1);
-      few-arcs = leb-true m 3072 (and-true (leb m 3072) tail (head .1) .0);
-      light = first-of-zero (states-good t) (order-good t) (all-labels-good t) (weights-good t) (g .content);
-    }
+good-unrefused t g = let p = good-parts t g in record { few-states = p .few-states; few-arcs = p .few-arcs; light = p .weights-are }
 
 module _ {A O : Type 0} (same : A → A → Bool) (steps : A → List (Step A O)) (final : A → Bool) (weight : A → ℕ) (first : A) where
   abbrev b : Built A O

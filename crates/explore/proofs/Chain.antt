@@ -12,7 +12,7 @@ use lib.ListN.{length, getD, set, replicate, length-append, length-set, length-r
 use lib.Seq.{take-suc-set, getD-take, getD-set-same, getD-set-other, getD-append-seam}
 use Rattle.explore.specs.Explore.{Decides, there}
 use Rattle.explore.specs.Chain.{bucket-of, last-in, Once, Chained}
-use Rattle.explore.proofs.Cases.{by-test}
+use Rattle.wire.proofs.Bool.{by-test}
 use Rattle.explore.proofs.Member.{at-length, at-getD, getD-at}
 use Rattle.explore.proofs.Distinct.{Distinct, distinct-snoc, distinct-at, at-distinct}
 

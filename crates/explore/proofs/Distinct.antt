@@ -3,37 +3,17 @@ use mathlib.Core.Path.{_≡_, refl, ap}
 use mathlib.Core.Bool.{Bool, true, false}
 use mathlib.Core.List.{List, [], _∷_, _++_}
 use Prim.Native.Nat.{ℕ, zero, suc, _≤_, _<_}
-use native.Mathlib.Nat.{not-suc-le-zero, le-of-suc-le-suc}
 use native.Mathlib.Omega.{arith}
 use lib.ListN.{length, getD, take}
+use Rattle.wire.proofs.Bool.{by-test, clash, is-false}
+use Rattle.transducer.proofs.Members.{Distinct as Apart, no-longer}
 use Rattle.explore.specs.Explore.{Decides, there, place}
-use Rattle.explore.proofs.Cases.{by-test, clash, is-false}
-use Rattle.explore.proofs.Member.{At, Mem, at-length, at-same, getD-at, there-append, at-there, there-mem, mem-here, mem-later, mem-take, not-there-not-mem, there-at}
+use Rattle.explore.proofs.Member.{At, Mem, mem-in, in-mem, getD-at, there-append, at-there, there-mem, mem-here, mem-later, mem-take, not-there-not-mem, there-at}
 
 -- No element stands twice.
 abbrev pub Distinct : {A : Type 0} → (same : A → A → Bool) → List A → Type 0
 Distinct same [] = Unit
 Distinct same (x ∷ xs) = (there same x xs ≡ false) × Distinct same xs
-
--- A list without what stands at a place.
-unfoldable pub without : {A : Type 0} → (i : ℕ) → List A → List A
-without i [] = []
-without zero (x ∷ xs) = xs
-without (suc i) (x ∷ xs) = x ∷ without i xs
-
-pub length-without : {A : Type 0} (i : ℕ) (xs : List A) → i < length xs → suc (length (without i xs)) ≡ length xs
-unfolding without
-length-without i [] l = absurd (not-suc-le-zero l)
-length-without zero (x ∷ xs) l = refl
-length-without (suc i) (x ∷ xs) l = ap suc (length-without i xs (le-of-suc-le-suc l))
-
-pub mem-without : {A : Type 0} (i : ℕ) (xs : List A) (j : ℕ) (x : A) → At xs j x → (j ≡ i → ⊥) → Mem x (without i xs)
-unfolding without
-mem-without i [] j x h n = absurd h
-mem-without zero (y ∷ ys) zero x h n = absurd (n refl)
-mem-without zero (y ∷ ys) (suc j) x h n = record { number = j; stands = h }
-mem-without (suc i) (y ∷ ys) zero x h n = record { number = 0; stands = h }
-mem-without (suc i) (y ∷ ys) (suc j) x h n = mem-later y (mem-without i ys j x h (λ e. n (ap suc e)))
 
 module _ {A : Type 0} {same : A → A → Bool} (right : Decides same) where
   pub distinct-append : (xs ys : List A) → Distinct same xs → Distinct same ys → ((x : A) → Mem x xs → there same x ys ≡ false)
@@ -86,17 +66,12 @@ module _ {A : Type 0} {same : A → A → Bool} (right : Decides same) where
   pub place-of-getD : (xs : List A) (i : ℕ) (z : A) → Distinct same xs → i < length xs → place same (getD xs i z) xs ≡ i
   place-of-getD xs i z d l = place-at xs i (getD xs i z) d (getD-at xs i z l)
 
+  -- By elements rather than by the test.
+  distinct-apart : (xs : List A) → Distinct same xs → Apart (λ x. x) xs
+  unfolding Apart
+  distinct-apart [] d = tt
+  distinct-apart (x ∷ xs) d = ((λ y m e. not-there-not-mem right x xs (d .0) (rw (← e) at (in-mem m))), distinct-apart xs (d .1))
+
   -- Pigeonhole: such a list is no longer than a list that holds all its elements.
   pub distinct-length : (ys xs : List A) → Distinct same ys → ((x : A) → Mem x ys → Mem x xs) → length ys ≤ length xs
-  distinct-length [] xs d h = omega arith
-  distinct-length (y ∷ ys) xs d h =
-      let m : Mem y xs = h y (mem-here y ys) in
-      let more = distinct-length ys (without (m .number) xs) (d .1) (λ x l. kept m x l (h x (mem-later y l))) in
-      omega (arith, more, length-without (m .number) xs (at-length xs (m .number) y (m .stands)))
-    where
-      kept : (m : Mem y xs) (x : A) → Mem x ys → Mem x xs → Mem x (without (m .number) xs)
-      kept m x l k =
-          let other : k .number ≡ m .number → ⊥ =
-          λ e. let q : x ≡ y = at-same xs (m .number) x y (rw e at (k .stands)) (m .stands) in
-          not-there-not-mem right y ys (d .0) (rw q at l) in
-          mem-without (m .number) xs (k .number) x (k .stands) other
+  distinct-length ys xs d h = no-longer ys xs (distinct-apart ys d) (λ x m. mem-in (h x (in-mem m)))

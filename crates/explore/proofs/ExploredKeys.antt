@@ -15,7 +15,7 @@ use Rattle.transducer.specs.declared.Arc.{Arc}
 use Rattle.transducer.specs.Format.{weight-good}
 use Rattle.explore.specs.Explore.{Decides, Step, there, place, met, served, numbered, targets, Built, built, arcs-here, arcs-from, steps-from}
 use Rattle.explore.specs.Walk.{Keyed, keyed, all-origins, Sofar, with-key, taken, all-taken, state-served, served-from, begun, explored}
-use Rattle.explore.proofs.Cases.{by-test, clash}
+use Rattle.wire.proofs.Bool.{by-test, clash}
 use Rattle.explore.proofs.Member.{
   Mem,
   at-getD,

@@ -13,7 +13,7 @@ use Rattle.transducer.specs.declared.Final.{Final}
 use Rattle.transducer.specs.Format.{finals-rise}
 use Rattle.transducer.specs.Path.{is-final, final-weight}
 use Rattle.explore.specs.Explore.{finals-from}
-use Rattle.explore.proofs.Cases.{by-test, or-false}
+use Rattle.wire.proofs.Bool.{by-test, or-false}
 use Rattle.explore.proofs.Member.{At}
 
 -- A state that is not final has final weight 0.

@@ -1,6 +1,6 @@
 -- Which of 11, 12 and 13 is given, and laws of `left-behind`. Assumes nothing.
 use mathlib.Core.Path.{_≡_, refl, ap}
-use mathlib.Core.Bool.{Bool, true, false, _&&_, not, cond}
+use mathlib.Core.Bool.{Bool, true, false, _&&_, not, cond, and-false}
 use mathlib.Core.List.{List, []}
 use Prim.Native.Nat.{ℕ, _≤_, _<_}
 use native.Mathlib.Omega.{arith}
@@ -10,11 +10,7 @@ use borrow.Author.Tests.{lt-ltb, le-ltb, le-leb, lt-leb, ne-eqb, leb-true, not-t
 use Rattle.wire.specs.Bytes.{every, filled}
 use Rattle.transducer.specs.Format.{Transducer, weight-good, weights-good}
 use Rattle.explore.specs.Explore.{built-refusal, left-behind}
-use Rattle.explore.proofs.Cases.{by-test, clash}
-
-and-false : (a : Bool) → a && false ≡ false
-and-false true = refl
-and-false false = refl
+use Rattle.wire.proofs.Bool.{by-test, clash}
 
 module _ (t : Transducer) where
   abbrev arcs-light : Bool

@@ -1,6 +1,6 @@
 -- What stands at a place of a list, what is a member of it, and the laws of `there` and `place`. Assumes nothing.
 use mathlib.Core.Path.{_≡_, refl, sym, ap, subst, _∙_}
-use mathlib.Core.Bool.{Bool, true, false, _||_}
+use mathlib.Core.Bool.{Bool, true, false, _||_, or-assoc}
 use mathlib.Core.Logic.{_⊎_, inl, inr}
 use mathlib.Core.List.{List, [], _∷_, _++_, map}
 use mathlib.Core.List.{List·Memᴰ as In, List·Memᴰ·head as first, List·Memᴰ·tail as later}
@@ -8,8 +8,8 @@ use Prim.Native.Nat.{ℕ, zero, suc, _+_, _<_}
 use native.Mathlib.Nat.{not-suc-le-zero, le-of-suc-le-suc, zero-add, suc-add}
 use native.Mathlib.Omega.{arith}
 use lib.ListN.{length, getD, take}
+use Rattle.wire.proofs.Bool.{by-test, never, clash, or-false, or-right}
 use Rattle.explore.specs.Explore.{Decides, there, place}
-use Rattle.explore.proofs.Cases.{by-test, never, clash, or-false, or-right, or-assoc}
 
 -- The element x stands at place i.
 abbrev pub At : {A : Type 0} → List A → (i : ℕ) → A → Type 0

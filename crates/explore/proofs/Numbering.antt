@@ -12,7 +12,7 @@ use lib.Seq.{length-take-le}
 use borrow.Author.Tests.{leb-true, leb-false, ltb-true, ltb-false}
 use Rattle.transducer.specs.Format.{max-states}
 use Rattle.explore.specs.Explore.{Decides, there, met, served, numbered}
-use Rattle.explore.proofs.Cases.{by-test}
+use Rattle.wire.proofs.Bool.{by-test}
 use Rattle.explore.proofs.Member.{At, Mem, at-length, at-getD, mem-getD, mem-take, mem-nil, mem-cons}
 use Rattle.explore.proofs.Distinct.{Distinct, distinct-take, distinct-length}
 use Rattle.explore.proofs.Meeting.{Grows, at-grows, grows-length, grows-getD, grows-mem, met-grows, met-length, met-mem, mem-met}

@@ -11,7 +11,7 @@ use lib.Seq.{take-all, take-suc, take-append-le}
 use borrow.Author.Tests.{leb-true, leb-false}
 use Rattle.transducer.specs.Format.{max-states}
 use Rattle.explore.specs.Explore.{Step, Decides, Built, there, place, met, served, numbered, targets, steps-from, built}
-use Rattle.explore.proofs.Cases.{by-test, clash}
+use Rattle.wire.proofs.Bool.{by-test, clash}
 use Rattle.explore.proofs.Member.{Mem, mem-left, mem-later, place-length, place-left, place-right}
 use Rattle.explore.proofs.Distinct.{Distinct, distinct-snoc, place-of-getD}
 use Rattle.explore.proofs.Meeting.{Grows, grows-length, met-grows, met-append, met-mem}

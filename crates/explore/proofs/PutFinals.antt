@@ -14,7 +14,7 @@ use Rattle.transducer.specs.Encode.{final-record, final-records}
 use Rattle.transducer.proofs.Encode.{sets-then, length-final-records, final-records-append}
 use Rattle.explore.specs.Explore.{finals-from}
 use Rattle.explore.specs.Walk.{Finals-stored}
-use Rattle.explore.proofs.Cases.{not-every-snoc}
+use Rattle.wire.proofs.Places.{not-every-snoc}
 use Rattle.explore.proofs.Finals.{finals-from-append}
 
 -- The finals of the first s keys are written; `final` and `weight` read a key.

@@ -16,7 +16,7 @@ use Rattle.explore.specs.declared.Walk.{Walk}
 use Rattle.explore.specs.Explore.{there, place}
 use Rattle.explore.specs.Chain.{Chained}
 use Rattle.explore.specs.Walk.{with-key, Arcs-held, Origins-held, Recorded, traced-by, Records}
-use Rattle.explore.proofs.Cases.{by-test}
+use Rattle.wire.proofs.Bool.{by-test}
 use Rattle.explore.proofs.Search.{place-new, place-old}
 use Rattle.explore.proofs.Writing.{written-next, written-full, front-next}
 

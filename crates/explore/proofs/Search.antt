@@ -9,7 +9,7 @@ use lib.Dec.{eqb, leb}
 use lib.ListN.{length, getD}
 use Rattle.explore.specs.Explore.{there, place}
 use Rattle.explore.specs.Chain.{bucket-of, last-in, Chained}
-use Rattle.explore.proofs.Cases.{by-test, is-false}
+use Rattle.wire.proofs.Bool.{by-test, is-false}
 use Rattle.explore.proofs.Member.{At, Mem, at-length, at-getD, getD-at, at-there, there-mem, not-there-place, place-length}
 use Rattle.explore.proofs.Distinct.{place-at}
 use Rattle.explore.proofs.Chain.{eqb-decides, bucket-of-lt, last-in-le, last-in-bucket, last-in-last, once-distinct, stored-at}

@@ -9,7 +9,7 @@ use lib.ListN.{length, getD, take}
 use borrow.Author.Tests.{le-leb, lt-leb}
 use Rattle.transducer.specs.Format.{max-states}
 use Rattle.explore.specs.Explore.{Decides, met, served, numbered}
-use Rattle.explore.proofs.Cases.{by-test}
+use Rattle.wire.proofs.Bool.{by-test}
 use Rattle.explore.proofs.Distinct.{Distinct}
 use Rattle.explore.proofs.Meeting.{Grows, grows-same, grows-trans, grows-length, grows-take, met-grows, met-distinct, met-append-length}
 

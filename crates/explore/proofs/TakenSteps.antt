@@ -10,12 +10,13 @@ use lib.Dec.{leb, eqb}
 use lib.ListN.{length, getD, take, length-append}
 use borrow.Author.Tests.{le-leb, lt-leb, eq-eqb}
 use Rattle.wire.specs.Bytes.{every}
+use Rattle.wire.proofs.Bool.{by-test}
 use Rattle.transducer.specs.declared.Arc.{Arc}
 use Rattle.transducer.specs.Format.{weight-good}
 use Rattle.explore.specs.Explore.{there, place, met}
 use Rattle.explore.specs.Chain.{Once}
 use Rattle.explore.specs.Walk.{Keyed, Sofar, with-key, taken, all-taken, state-served, served-from, begun, explored}
-use Rattle.explore.proofs.Cases.{by-test, not-every-snoc}
+use Rattle.wire.proofs.Places.{not-every-snoc}
 use Rattle.explore.proofs.Member.{Mem, mem-here, mem-later, not-there-place, place-right}
 use Rattle.explore.proofs.Meeting.{Grows, grows-same, grows-append, grows-trans, grows-length, grows-take, met-grows, met-distinct}
 use Rattle.explore.proofs.Chain.{eqb-decides, once-distinct, distinct-once}

@@ -30,7 +30,7 @@ use Rattle.explore.specs.Walk.{
   Went,
   Told,
 }
-use Rattle.explore.proofs.Cases.{clash}
+use Rattle.wire.proofs.Bool.{clash}
 use Rattle.explore.proofs.Member.{mem-getD}
 use Rattle.explore.proofs.Chain.{stored-at}
 use Rattle.explore.proofs.Search.{place-new, place-le}

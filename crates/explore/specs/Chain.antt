@@ -5,11 +5,15 @@ use mathlib.Core.List.{List, [], _∷_}
 use Prim.Native.Nat.{ℕ, zero, suc, _+_, _*_, _/_, _%_, _≤_, _<_}
 use lib.Dec.{eqb}
 use lib.ListN.{length, getD, take}
+use Rattle.transducer.specs.Format.{max-states}
 use Rattle.explore.specs.Explore.{there}
+
+abbrev pub buckets : ℕ
+buckets = 1024
 
 -- The bucket of a key: the top ten bits of its product with 2^32 over the golden ratio.
 unfoldable pub bucket-of : ℕ → ℕ
-bucket-of key = key * 2654435761 / 4194304 % 1024
+bucket-of key = key * 2654435761 / 4194304 % buckets
 
 -- One more than the place of the last of the first n keys that is in a bucket; 0 where none is.
 unfoldable pub last-in : (b n : ℕ) → List ℕ → ℕ
@@ -23,10 +27,10 @@ Once xs = (i j : ℕ) → i < length xs → j < length xs → getD xs i 0 ≡ ge
 -- The keys xs are stored at the front of `states`, and heads and links lead through each bucket from the last stored one back.
 pub record Chained (xs states heads links : List ℕ) : Type 0 where
   pub stored : take (length xs) states ≡ xs
-  pub few : length xs ≤ 1024
-  pub room : 1024 ≤ length states
-  pub heads-long : length heads ≡ 1024
-  pub links-long : length links ≡ 1024
+  pub few : length xs ≤ max-states
+  pub room : max-states ≤ length states
+  pub heads-long : length heads ≡ buckets
+  pub links-long : length links ≡ max-states
   pub once : Once xs
-  pub heads-are : (b : ℕ) → b < 1024 → getD heads b 0 ≡ last-in b (length xs) xs
+  pub heads-are : (b : ℕ) → b < buckets → getD heads b 0 ≡ last-in b (length xs) xs
   pub links-are : (i : ℕ) → i < length xs → getD links i 0 ≡ last-in (bucket-of (getD xs i 0)) i xs

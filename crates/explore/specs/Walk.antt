@@ -10,7 +10,7 @@ use lib.Seq.{sets}
 use Rattle.wire.specs.Bytes.{every, places}
 use Rattle.transducer.specs.declared.Arc.{Arc}
 use Rattle.transducer.specs.declared.Final.{Final}
-use Rattle.transducer.specs.Format.{weight-good, arc-at}
+use Rattle.transducer.specs.Format.{max-states, max-arcs, max-bytes, head-bytes, arc-bytes, arcs-at, weight-good, arc-at}
 use Rattle.transducer.specs.Encode.{final-records, arc-records}
 use Rattle.explore.specs.declared.FinalsPut.{FinalsPut}
 use Rattle.explore.specs.declared.Walk.{Walk}
@@ -76,20 +76,20 @@ unfoldable pub begun : (first : ℕ) → Sofar
 begun first = record { keys = first ∷ []; arcs = []; origins = []; dear = false }
 
 unfoldable pub explored : (next : ℕ → List Keyed) → (first : ℕ) → Sofar
-explored next first = served-from next 1025 0 (begun first)
+explored next first = served-from next (max-states + 1) 0 (begun first)
 
 -- How a buffer holds the arcs: their records from 10,252 on (behind room for 1,024 finals), at most 3,072 of them.
 pub record Arcs-held (as' : List Arc) (dear : Bool) (w : Walk) (table : List ℕ) : Type 0 where
-  pub arcs-are : w .arcs ≡ min (length as') 3073
+  pub arcs-are : w .arcs ≡ min (length as') (max-arcs + 1)
   pub dear-is : w .dear ≡ dear
-  pub table-long : 59404 ≤ length table
-  pub written : take (16 * min (length as') 3072) (drop 10252 table) ≡ arc-records (take 3072 as')
+  pub table-long : max-bytes ≤ length table
+  pub written : take (arc-bytes * min (length as') max-arcs) (drop (arcs-at max-states) table) ≡ arc-records (take max-arcs as')
 
 -- How a buffer holds the origins of `count` arcs, `width` for each: those of the first 3,072 arcs from the front on.
 pub record Origins-held (width count : ℕ) (os origins : List ℕ) : Type 0 where
-  pub origins-long : width * 3072 ≤ length origins
+  pub origins-long : width * max-arcs ≤ length origins
   pub paired : length os ≡ width * count
-  pub traced : take (width * min count 3072) origins ≡ take (width * min count 3072) os
+  pub traced : take (width * min count max-arcs) origins ≡ take (width * min count max-arcs) os
 
 pub record Recorded (width : ℕ) (as' : List Arc) (os : List ℕ) (dear : Bool) (w : Walk) (table origins : List ℕ) : Type 0 where
   pub arcs-held : Arcs-held as' dear w table
@@ -97,7 +97,7 @@ pub record Recorded (width : ℕ) (as' : List Arc) (os : List ℕ) (dear : Bool)
 
 -- The origins of the arc of number `count` are written where there is room for that arc.
 unfoldable pub traced-by : (width count : ℕ) → (vs origins : List ℕ) → List ℕ
-traced-by width count vs origins = cond (ltb count 3072) (sets origins (width * count) vs) origins
+traced-by width count vs origins = cond (ltb count max-arcs) (sets origins (width * count) vs) origins
 
 -- An arc is written where there is room, and counted; nothing else changes.
 pub record Records (a : Arc) (w w' : Walk) (table table' : List ℕ) : Type 0 where
@@ -116,17 +116,17 @@ pub record Walked (width : ℕ) (b : Sofar) (w : Walk) (table origins states hea
 -- What a part of the walk leaves: either all of its steps are taken, or more than 1,024 states were met.
 pub record Went (width : ℕ) (after : Sofar) (w : Walk) (table origins states heads links : List ℕ) : Type 0 where
   pub done : w .full ≡ false → Walked width after w table origins states heads links
-  pub full : w .full ≡ true → 1024 < length (after .keys)
+  pub full : w .full ≡ true → max-states < length (after .keys)
 
 -- What the whole walk tells and leaves behind: 11 exactly where more than 1,024 states are met.
 pub record Told (width : ℕ) (b : Sofar) (w : Walk) (table origins states : List ℕ) : Type 0 where
-  pub few : length (b .keys) ≤ 1024
+  pub few : length (b .keys) ≤ max-states
   pub states-are : w .states ≡ length (b .keys)
   pub recorded : Recorded width (b .arcs) (b .origins) (b .dear) w table origins
   pub stored : take (length (b .keys)) states ≡ b .keys
 
 pub record Walk-says (width : ℕ) (b : Sofar) (w : Walk) (table table' origins origins' states states' : List ℕ) : Type 0 where
-  pub full : w .full ≡ true → 1024 < length (b .keys)
+  pub full : w .full ≡ true → max-states < length (b .keys)
   pub done : w .full ≡ false → Told width b w table' origins' states'
   pub table-kept : length table' ≡ length table
   pub origins-kept : length origins' ≡ length origins
@@ -134,7 +134,7 @@ pub record Walk-says (width : ℕ) (b : Sofar) (w : Walk) (table table' origins 
 
 -- The arcs whose records stand from 10,252 on.
 unfoldable pub stored-arc : List ℕ → (i : ℕ) → Arc
-stored-arc table i = arc-at table (10252 + 16 * i)
+stored-arc table i = arc-at table (arcs-at max-states + arc-bytes * i)
 
 unfoldable pub stored-arcs : List ℕ → (count : ℕ) → List Arc
 stored-arcs table count = places count 0 1 (stored-arc table)
@@ -143,4 +143,4 @@ stored-arcs table count = places count 0 1 (stored-arc table)
 pub record Finals-stored (fs : List Final) (r : FinalsPut) (table table' : List ℕ) : Type 0 where
   pub count-is : r .count ≡ length fs
   pub dear-is : r .dear ≡ not (every (λ f. weight-good (f .weight)) fs)
-  pub stored : table' ≡ sets table 12 (final-records fs)
+  pub stored : table' ≡ sets table head-bytes (final-records fs)

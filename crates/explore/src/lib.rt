@@ -6,21 +6,24 @@ ghost use Prim.Native.Nat.{ℕ, _+_, _*_, _≤_, _<_};
 ghost use lib.Dec.{eqb};
 ghost use lib.ListN.{length};
 ghost use lib.Seq.{sets};
+ghost use Rattle.transducer.specs.Format.{max-states, max-bytes, arcs-at, arc-bytes};
 ghost use Rattle.transducer.specs.Encode.{arc-records};
 ghost use Rattle.explore.specs.Explore.{there, place};
-ghost use Rattle.explore.specs.Chain.{bucket-of, Chained};
+ghost use Rattle.explore.specs.Chain.{buckets, bucket-of, Chained};
 ghost use Rattle.explore.specs.Walk.{with-key, Records, stored-arcs};
 use transducer::Arc;
-
-// The most arcs that are written.
-pub const MAX_ARCS: usize = 3072;
+pub use transducer::MAX_ARCS;
+use transducer::MAX_STATES;
 
 // Where the arcs are written until the number of finals is known: behind room for 1,024 finals.
-const ARCS_AT: usize = 10252;
+const ARCS_AT: usize = transducer::HEAD_BYTES + transducer::FINAL_BYTES * MAX_STATES;
+
+// Stored states stand in chains by bucket.
+pub const BUCKETS: usize = 1024;
 
 // The bucket of a key.
 pub fn bucket(key: u32) -> usize
-    ensures { λ r. ⌜ (r ≡ bucket-of key) × (r < 1024) ⌝ }
+    ensures { λ r. ⌜ (r ≡ bucket-of key) × (r < buckets) ⌝ }
 {
     ((key as u64) * 2654435761 / 4194304 % 1024) as usize
 }
@@ -28,12 +31,12 @@ pub fn bucket(key: u32) -> usize
 // Stores a new key under the next number, in front of the chain of its bucket.
 pub fn insert(
     states: &mut [u32],
-    heads: &mut [u16; 1024],
-    links: &mut [u16; 1024],
+    heads: &mut [u16; BUCKETS],
+    links: &mut [u16; MAX_STATES],
     count: usize,
     key: u32,
 )
-    requires { ⌜ (count < 1024) × (1024 ≤ length (now states)) ⌝ }
+    requires { ⌜ (count < max-states) × (max-states ≤ length (now states)) ⌝ }
     ensures { λ _. ⌜ ((xs : List ℕ) → length xs ≡ count → there eqb key xs ≡ false →
         Chained xs (now (states .entry)) (now (heads .entry)) (now (links .entry)) →
         Chained (xs ++ (key ∷ [])) (now (states .exit)) (now (heads .exit)) (now (links .exit))) ⌝ }
@@ -48,8 +51,8 @@ pub fn insert(
 // The number of a stored key, or `count` where it is not stored.
 pub fn find(
     states: &[u32],
-    heads: &[u16; 1024],
-    links: &[u16; 1024],
+    heads: &[u16; BUCKETS],
+    links: &[u16; MAX_STATES],
     count: usize,
     key: u32,
 ) -> usize
@@ -73,13 +76,13 @@ pub fn find(
 // Stores a key that was found under the number of the next one, which is to say not at all; how many are stored then.
 pub fn store_new(
     states: &mut [u32],
-    heads: &mut [u16; 1024],
-    links: &mut [u16; 1024],
+    heads: &mut [u16; BUCKETS],
+    links: &mut [u16; MAX_STATES],
     count: usize,
     key: u32,
     number: usize,
 ) -> usize
-    requires { ⌜ (number < 1024) × (1024 ≤ length (now states)) ⌝ }
+    requires { ⌜ (number < max-states) × (max-states ≤ length (now states)) ⌝ }
     ensures { λ r. ⌜ ((xs : List ℕ) → length xs ≡ count → number ≡ place eqb key xs →
         Chained xs (now (states .entry)) (now (heads .entry)) (now (links .entry)) →
         Chained (with-key key xs) (now (states .exit)) (now (heads .exit)) (now (links .exit)) × (r ≡ length (with-key key xs))) ⌝ }
@@ -107,13 +110,13 @@ pub struct FinalsPut {
 
 // Writes an arc's record where there is room for it, and tells how far the walk has come with it.
 pub fn record_arc(table: &mut [u8], w: Walk, arc: Arc) -> Walk
-    requires { ⌜ 59404 ≤ length (now table) ⌝ }
+    requires { ⌜ max-bytes ≤ length (now table) ⌝ }
     ensures { λ r. ⌜ Records arc w r (now (table .entry)) (now (table .exit)) ⌝ }
 {
     let dear = w.dear | !transducer::weight_ok(arc.weight);
     let arcs = w.arcs;
     if arcs < MAX_ARCS {
-        transducer::put_arc(table, ARCS_AT + 16 * arcs, arc);
+        transducer::put_arc(table, ARCS_AT + transducer::ARC_BYTES * arcs, arc);
         return Walk {
             states: w.states,
             arcs: arcs + 1,
@@ -131,13 +134,13 @@ pub fn record_arc(table: &mut [u8], w: Walk, arc: Arc) -> Walk
 
 // Moves the arcs' records to their place behind the finals.
 pub fn move_arcs(table: &mut [u8], first: usize, arcs: usize)
-    requires { ⌜ (first ≤ 10252) × (10252 + 16 * arcs ≤ length (now table)) ⌝ }
+    requires { ⌜ (first ≤ arcs-at max-states) × (arcs-at max-states + arc-bytes * arcs ≤ length (now table)) ⌝ }
     ensures { λ _. ⌜ now (table .exit) ≡ sets (now (table .entry)) first (arc-records (stored-arcs (now (table .entry)) arcs)) ⌝ }
 {
     let mut j = 0;
     while j < arcs {
-        let a = transducer::load_arc(table, ARCS_AT + 16 * j);
-        transducer::put_arc(table, first + 16 * j, a);
+        let a = transducer::load_arc(table, ARCS_AT + transducer::ARC_BYTES * j);
+        transducer::put_arc(table, first + transducer::ARC_BYTES * j, a);
         j += 1;
     }
 }

@@ -3,7 +3,7 @@
 ghost use mathlib.Core.Path.{_≡_};
 ghost use lib.ListN.{length};
 ghost use Rattle.transducer.specs.Format.{refusal};
-ghost use Rattle.transducer.specs.Entry.{Read-says, read-refusal, Write-says, write-refusal, given};
+ghost use Rattle.codec.specs.Entry.{Read-says, read-refusal, Write-says, write-refusal, given};
 ghost use Rattle.compose.specs.Entry.{Compose-says, compose-refusal};
 ghost use Rattle.lattice.specs.ApplyEntry.{Apply-says, apply-refusal};
 ghost use Rattle.trim.specs.TrimEntry.{Trim-says, trim-refusal};
@@ -38,7 +38,7 @@ pub extern "C" fn forthwn_read(
         (now («final_states» .entry)) (now («final_states» .exit)) (now («final_weights» .entry)) (now («final_weights» .exit))
         (now (fields .entry)) (now (fields .exit)) (now («arc_weights» .entry)) (now («arc_weights» .exit)) ⌝ }
 {
-    let answer = transducer::read(bytes, final_states, final_weights, fields, arc_weights);
+    let answer = codec::read(bytes, final_states, final_weights, fields, arc_weights);
     *head = [answer.states, answer.arcs, answer.finals, answer.start];
     answer.refusal
 }
@@ -62,7 +62,7 @@ pub extern "C" fn forthwn_write(
         (write-refusal n m f start (now («final_states» .entry)) (now («final_weights» .entry)) (now (fields .entry)) (now («arc_weights» .entry)) (length (now (out .entry))))
         (written r (now (len .exit))) (now (out .entry)) (now (out .exit)) ⌝ }
 {
-    let answer = transducer::write(
+    let answer = codec::write(
         n,
         m,
         f,

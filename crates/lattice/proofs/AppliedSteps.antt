@@ -10,7 +10,8 @@ use lib.Dec.{ltb, leb, eqb}
 use lib.ListN.{length, getD}
 use borrow.Author.Tests.{eqb-true, eqb-false, eq-eqb, ne-eqb, ltb-true, lt-ltb, leb-true}
 use Rattle.wire.specs.Bytes.{every}
-use Rattle.wire.proofs.Places.{and-true, every-getD}
+use Rattle.wire.proofs.Bool.{and-true}
+use Rattle.wire.proofs.Places.{every-getD}
 use Rattle.transducer.specs.declared.Arc.{Arc}
 use Rattle.transducer.specs.Format.{Transducer, barred, all-labels-good}
 use Rattle.transducer.specs.Path.{arc}
@@ -20,7 +21,8 @@ use Rattle.transducer.proofs.Each.{FromArc, in-each-arc, each-arc-has, each-arc
 use Rattle.transducer.proofs.Fits.{fits-reads, reads-fits, passed-output}
 use Rattle.transducer.proofs.Labels.{Unbarred, arc-unbarred}
 use Rattle.explore.specs.Explore.{Step}
-use Rattle.lattice.specs.Apply.{State, string-good, step, arc-steps, steps}
+use Rattle.lattice.specs.declared.State.{State}
+use Rattle.lattice.specs.Apply.{max-string, string-good, step, arc-steps, steps}
 
 -- The step by an arc that reads nothing, and by one that reads the symbol at the position.
 unfoldable pub empty-step : State → (i : ℕ) → Arc → Step State ℕ
@@ -134,7 +136,7 @@ pub string-symbol : (cs : List ℕ) (k : ℕ) → string-good cs ≡ true → k 
 unfolding string-good
 string-symbol cs k good below =
     let c : ℕ = getD cs k 0 in
-    let p = and-true (leb (length cs) 64) (every (λ c. leb 1 c && ltb c barred) cs) good in
+    let p = and-true (leb (length cs) max-string) (every (λ c. leb 1 c && ltb c barred) cs) good in
     let q : leb 1 c && ltb c barred ≡ true = every-getD (λ c. leb 1 c && ltb c barred) cs k 0 (p .1) below in
     let r : (leb 1 c ≡ true) × (ltb c barred ≡ true) = and-true (leb 1 c) (ltb c barred) q in
     (leb-true 1 c (r .0), ltb-true c barred (r .1))

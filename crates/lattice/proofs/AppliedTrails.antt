@@ -10,7 +10,7 @@ use lib.Dec.{eqb}
 use lib.ListN.{length, getD, drop, length-drop}
 use lib.Seq.{drop-cons, drop-length}
 use borrow.Author.Tests.{eqb-true, eqb-false, eq-eqb}
-use Rattle.wire.proofs.Places.{and-true, true-and}
+use Rattle.wire.proofs.Bool.{and-true, true-and}
 use Rattle.transducer.specs.Format.{Transducer}
 use Rattle.transducer.specs.Path.{arc, runs, ends, non-empty, read-by, written-by, arcs-cost, path-cost, accepts, is-final, final-weight}
 use Rattle.transducer.specs.Weight.{plus}
@@ -18,7 +18,8 @@ use Rattle.transducer.proofs.Paths.{Runs, runs-cons, cons-runs, empty-passed, s
 use Rattle.explore.specs.Explore.{Step}
 use Rattle.explore.proofs.Member.{mem-in, in-mem}
 use Rattle.explore.proofs.Trails.{Trail, inputs, outputs, weights}
-use Rattle.lattice.specs.Apply.{State, step, steps, final-state}
+use Rattle.lattice.specs.declared.State.{State}
+use Rattle.lattice.specs.Apply.{step, steps, final-state, first-state}
 use Rattle.lattice.proofs.AppliedSteps.{empty-step, symbol-step, OfArc, of-empty, of-symbol, Move, step-move, move-step, same-origin}
 
 -- The arcs that the steps come from, in order.
@@ -27,7 +28,7 @@ numbers ss = map (λ s. s .origin) ss
 
 -- A trail leads to a path
 
-pub record Leads (cs : List ℕ) (t : Transducer) (x : State) (ss : List (Step State ℕ)) (y : State) : Type 0 where
+pub record Trail-path (cs : List ℕ) (t : Transducer) (x : State) (ss : List (Step State ℕ)) (y : State) : Type 0 where
   pub path-runs : runs t (x .state) (numbers ss) ≡ true
   pub path-ends : ends t (x .state) (numbers ss) ≡ y .state
   pub consumes : drop (x .position) cs ≡ read-by t (numbers ss) ++ drop (y .position) cs
@@ -36,7 +37,7 @@ pub record Leads (cs : List ℕ) (t : Transducer) (x : State) (ss : List (Step S
   pub writes : outputs ss ≡ written-by t (numbers ss)
   pub costs : weights ss ≡ arcs-cost t (numbers ss)
 
-leads-none : (cs : List ℕ) (t : Transducer) (x y : State) → x ≡ y → Leads cs t x [] y
+leads-none : (cs : List ℕ) (t : Transducer) (x y : State) → x ≡ y → Trail-path cs t x [] y
 unfolding runs ends written-by read-by arcs-cost inputs outputs weights numbers
 leads-none cs t x y e =
     record {
@@ -50,7 +51,8 @@ leads-none cs t x y e =
     }
 
 leads-empty : (cs : List ℕ) (t : Transducer) (x : State) (i : ℕ) (ss : List (Step State ℕ)) (y : State) → i < length (t .arcs)
-    → arc t i .source ≡ x .state → arc t i .input ≡ 0 → Leads cs t (empty-step x i (arc t i) .target) ss y → Leads cs t x (empty-step x i (arc t i) ∷ ss) y
+    → arc t i .source ≡ x .state → arc t i .input ≡ 0 → Trail-path cs t (empty-step x i (arc t i) .target) ss y
+    → Trail-path cs t x (empty-step x i (arc t i) ∷ ss) y
 unfolding empty-step step ends written-by read-by arcs-cost inputs outputs weights numbers
 leads-empty cs t x i ss y below leaves empty l =
     record {
@@ -65,7 +67,7 @@ leads-empty cs t x i ss y below leaves empty l =
 
 leads-symbol : (cs : List ℕ) (t : Transducer) (x : State) (i : ℕ) (ss : List (Step State ℕ)) (y : State) → i < length (t .arcs)
     → arc t i .source ≡ x .state → (arc t i .input ≡ 0 → ⊥) → x .position < length cs → arc t i .input ≡ getD cs (x .position) 0
-    → Leads cs t (symbol-step cs x i (arc t i) .target) ss y → Leads cs t x (symbol-step cs x i (arc t i) ∷ ss) y
+    → Trail-path cs t (symbol-step cs x i (arc t i) .target) ss y → Trail-path cs t x (symbol-step cs x i (arc t i) ∷ ss) y
 unfolding symbol-step step ends written-by read-by arcs-cost inputs outputs weights numbers
 leads-symbol cs t x i ss y below leaves symbol here fit l =
     let kept : non-empty (arc t i .input) (read-by t (numbers ss)) ≡ arc t i .input ∷ read-by t (numbers ss) =
@@ -82,11 +84,11 @@ leads-symbol cs t x i ss y below leaves symbol here fit l =
     }
 
 leads-step : (cs : List ℕ) (t : Transducer) (x : State) (s : Step State ℕ) (ss : List (Step State ℕ)) (y : State) (i : ℕ) → i < length (t .arcs)
-    → arc t i .source ≡ x .state → OfArc cs x i (arc t i) s → Leads cs t (s .target) ss y → Leads cs t x (s ∷ ss) y
+    → arc t i .source ≡ x .state → OfArc cs x i (arc t i) s → Trail-path cs t (s .target) ss y → Trail-path cs t x (s ∷ ss) y
 leads-step cs t x s ss y i below leaves (of-empty e made) = rw made (leads-empty cs t x i ss y below leaves e)
 leads-step cs t x s ss y i below leaves (of-symbol h here fit made) = rw made (leads-symbol cs t x i ss y below leaves h here fit)
 
-pub trail-leads : (cs : List ℕ) (t : Transducer) (x : State) (ss : List (Step State ℕ)) (y : State) → Trail (steps cs t) x ss y → Leads cs t x ss y
+pub trail-leads : (cs : List ℕ) (t : Transducer) (x : State) (ss : List (Step State ℕ)) (y : State) → Trail (steps cs t) x ss y → Trail-path cs t x ss y
 trail-leads cs t x [] y h = leads-none cs t x y h
 trail-leads cs t x (s ∷ ss) y h =
     let m : Move cs t x s = step-move cs t x s (mem-in (h .0)) in
@@ -94,7 +96,7 @@ trail-leads cs t x (s ∷ ss) y h =
 
 -- Every path that reads what is left of the string has a trail
 
-pub record Followed (cs : List ℕ) (t : Transducer) (x : State) (p : List ℕ) : Type 0 where
+pub record Path-trail (cs : List ℕ) (t : Transducer) (x : State) (p : List ℕ) : Type 0 where
   pub taken : List (Step State ℕ)
   pub last : State
   pub trail : Trail (steps cs t) x taken last
@@ -103,7 +105,7 @@ pub record Followed (cs : List ℕ) (t : Transducer) (x : State) (p : List ℕ) 
   pub in-state : last .state ≡ ends t (x .state) p
 
 followed-step : (cs : List ℕ) (t : Transducer) (x : State) (s : Step State ℕ) (i : ℕ) (p : List ℕ) → Mem s (steps cs t x) → s .origin ≡ i
-    → s .target .state ≡ arc t i .target → Followed cs t (s .target) p → Followed cs t x (i ∷ p)
+    → s .target .state ≡ arc t i .target → Path-trail cs t (s .target) p → Path-trail cs t x (i ∷ p)
 unfolding numbers ends
 followed-step cs t x s i p m o e r =
     record {
@@ -115,7 +117,7 @@ followed-step cs t x s i p m o e r =
       in-state = r .in-state ∙ ap (λ (q : ℕ). ends t q p) e;
     }
 
-followed-none : (cs : List ℕ) (t : Transducer) (x : State) → x .position ≤ length cs → [] ≡ drop (x .position) cs → Followed cs t x []
+followed-none : (cs : List ℕ) (t : Transducer) (x : State) → x .position ≤ length cs → [] ≡ drop (x .position) cs → Path-trail cs t x []
 unfolding numbers ends
 followed-none cs t x h e =
     let l : 0 ≡ length (drop (x .position) cs) = ap length e in
@@ -124,10 +126,10 @@ followed-none cs t x h e =
 
 abbrev Follows : List ℕ → Transducer → List ℕ → Type 0
 Follows cs t p =
-    (x : State) → x .position ≤ length cs → runs t (x .state) p ≡ true → read-by t p ≡ drop (x .position) cs → Followed cs t x p
+    (x : State) → x .position ≤ length cs → runs t (x .state) p ≡ true → read-by t p ≡ drop (x .position) cs → Path-trail cs t x p
 
 followed-empty : (cs : List ℕ) (t : Transducer) (x : State) (i : ℕ) (p : List ℕ) → x .position ≤ length cs → Runs t (x .state) i p
-    → read-by t (i ∷ p) ≡ drop (x .position) cs → arc t i .input ≡ 0 → Follows cs t p → Followed cs t x (i ∷ p)
+    → read-by t (i ∷ p) ≡ drop (x .position) cs → arc t i .input ≡ 0 → Follows cs t p → Path-trail cs t x (i ∷ p)
 unfolding empty-step step read-by
 followed-empty cs t x i p h r e empty rest =
     let s : Step State ℕ = empty-step x i (arc t i) in
@@ -135,7 +137,7 @@ followed-empty cs t x i p h r e empty rest =
     followed-step cs t x s i p m refl refl (rest (s .target) h (r .rest) (sym (empty-passed (arc t i .input) (read-by t p) empty) ∙ e))
 
 followed-symbol : (cs : List ℕ) (t : Transducer) (x : State) (i : ℕ) (p : List ℕ) → x .position ≤ length cs → Runs t (x .state) i p
-    → read-by t (i ∷ p) ≡ drop (x .position) cs → (arc t i .input ≡ 0 → ⊥) → Follows cs t p → Followed cs t x (i ∷ p)
+    → read-by t (i ∷ p) ≡ drop (x .position) cs → (arc t i .input ≡ 0 → ⊥) → Follows cs t p → Path-trail cs t x (i ∷ p)
 unfolding symbol-step step read-by
 followed-symbol cs t x i p h r e symbol rest =
     let s : Step State ℕ = symbol-step cs x i (arc t i) in
@@ -149,7 +151,7 @@ followed-symbol cs t x i p h r e symbol rest =
     followed-step cs t x s i p m refl refl (rest (s .target) (omega arith) (r .rest) (rw add-one more))
 
 pub path-followed : (cs : List ℕ) (t : Transducer) (p : List ℕ) (x : State) → x .position ≤ length cs → runs t (x .state) p ≡ true
-    → read-by t p ≡ drop (x .position) cs → Followed cs t x p
+    → read-by t p ≡ drop (x .position) cs → Path-trail cs t x p
 unfolding read-by
 path-followed cs t [] x h run e = followed-none cs t x h e
 path-followed cs t (i ∷ p) x h run e = on (eqb (arc t i .input) 0) refl (path-followed cs t p)
@@ -157,7 +159,7 @@ path-followed cs t (i ∷ p) x h run e = on (eqb (arc t i .input) 0) refl (path-
     r : Runs t (x .state) i p
     r = runs-cons t (x .state) i p run
 
-    on : (b : Bool) → eqb (arc t i .input) 0 ≡ b → Follows cs t p → Followed cs t x (i ∷ p)
+    on : (b : Bool) → eqb (arc t i .input) 0 ≡ b → Follows cs t p → Path-trail cs t x (i ∷ p)
     on true b rest = followed-empty cs t x i p h r e (eqb-true (arc t i .input) 0 b) rest
     on false b rest = followed-symbol cs t x i p h r e (eqb-false (arc t i .input) 0 b) rest
 
@@ -178,19 +180,16 @@ never-two cs t x (s ∷ ss) (s' ∷ ss') y y' h h' e =
 
 -- Trails from the first state to a final one stand for the accepting paths that read the whole string
 
-abbrev pub first : Transducer → State
-first t = record { position = 0; state = t .start }
-
 pub record Accepted (cs : List ℕ) (t : Transducer) (ss : List (Step State ℕ)) (y : State) : Type 0 where
   pub accepting : accepts t (numbers ss) ≡ true
   pub whole : read-by t (numbers ss) ≡ cs
   pub cost : plus (weights ss) (final-weight (t .finals) (y .state)) ≡ path-cost t (numbers ss)
 
-pub trail-accepted : (cs : List ℕ) (t : Transducer) (ss : List (Step State ℕ)) (y : State) → Trail (steps cs t) (first t) ss y
+pub trail-accepted : (cs : List ℕ) (t : Transducer) (ss : List (Step State ℕ)) (y : State) → Trail (steps cs t) (first-state t) ss y
     → final-state cs t y ≡ true → Accepted cs t ss y
 unfolding final-state accepts path-cost
 trail-accepted cs t ss y h f =
-    let l : Leads cs t (first t) ss y = trail-leads cs t (first t) ss y h in
+    let l : Trail-path cs t (first-state t) ss y = trail-leads cs t (first-state t) ss y h in
     let p : (eqb (y .position) (length cs) ≡ true) × (is-final (t .finals) (y .state) ≡ true) =
     and-true (eqb (y .position) (length cs)) (is-final (t .finals) (y .state)) f in
     let at-end : y .position ≡ length cs = eqb-true (y .position) (length cs) (p .0) in
@@ -203,12 +202,12 @@ trail-accepted cs t ss y h f =
     }
 
 pub accepting-followed : (cs : List ℕ) (t : Transducer) (p : List ℕ) → accepts t p ≡ true → read-by t p ≡ cs
-    → (r : Followed cs t (first t) p) × (final-state cs t (r .last) ≡ true)
+    → (r : Path-trail cs t (first-state t) p) × (final-state cs t (r .last) ≡ true)
 unfolding final-state accepts
 accepting-followed cs t p a e =
     let b : (runs t (t .start) p ≡ true) × (is-final (t .finals) (ends t (t .start) p) ≡ true) =
     and-true (runs t (t .start) p) (is-final (t .finals) (ends t (t .start) p)) a in
-    let r : Followed cs t (first t) p = path-followed cs t p (first t) (omega arith) (b .0) e in
+    let r : Path-trail cs t (first-state t) p = path-followed cs t p (first-state t) (omega arith) (b .0) e in
     let f : is-final (t .finals) (r .last .state) ≡ true = rw (r .in-state) (b .1) in (
       r,
       true-and (eqb (r .last .position) (length cs)) (is-final (t .finals) (r .last .state)) (eq-eqb (r .last .position) (length cs) (r .at-end)) f,

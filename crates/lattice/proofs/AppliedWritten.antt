@@ -11,7 +11,7 @@ use Rattle.wire.proofs.Low.{two-low-front}
 use Rattle.wire.proofs.Places.{length-filled}
 use Rattle.transducer.specs.declared.Arc.{Arc}
 use Rattle.transducer.specs.declared.Written.{Written}
-use Rattle.transducer.specs.Format.{Transducer, Good, refusal, decode}
+use Rattle.transducer.specs.Format.{max-states, max-arcs, max-bytes, arc-bytes, Transducer, Good, refusal, decode}
 use Rattle.transducer.specs.Encode.{head-record, encode}
 use Rattle.transducer.specs.Leaf.{Finals-by-state}
 use Rattle.transducer.proofs.Encode.{length-encode}
@@ -25,18 +25,17 @@ use Rattle.explore.proofs.EncodeStored.{filled-front}
 use Rattle.explore.proofs.LeftBehind.{built-12, built-0}
 use Rattle.explore.proofs.Parts.{built-start, built-states}
 use Rattle.explore.proofs.WalkTold.{told-key-finals}
-use Rattle.lattice.specs.Apply.{string-good, same-state, steps, final-state, applied}
+use Rattle.lattice.specs.Apply.{string-good, same-state, steps, final-state, applied, first-state}
 use Rattle.lattice.specs.ApplyEntry.{Apply-says}
-use Rattle.lattice.specs.Applying.{pack, next, found, key-finals, closed, Closes, Refused-with}
+use Rattle.lattice.specs.Applying.{arcs-from, found, key-finals, closed, Closes, Refused-with}
 use Rattle.lattice.specs.Lattice.{lattice, lattice-origins}
 use Rattle.reach.specs.Reach.{All-accessible}
 use Rattle.trim.specs.Parts.{Trims}
 use Rattle.trim.specs.Trim.{trimmed, origins-kept}
-use Rattle.lattice.proofs.AppliedTrails.{first}
 use Rattle.lattice.proofs.ApplySays.{says-zeroed, says-written}
 use Rattle.lattice.proofs.BuiltAccessible.{built-accessible}
 use Rattle.lattice.proofs.Closing.{told-finals}
-use Rattle.lattice.proofs.FoundBuilt.{found-explored, found-length, found-arcs, found-origins}
+use Rattle.lattice.proofs.FoundBuilt.{found-length, found-arcs, found-origins}
 use Rattle.lattice.proofs.KeyFinals.{key-final, key-weight, pack-final, pack-weight}
 use Rattle.lattice.proofs.KeyParts.{keying}
 use Rattle.lattice.proofs.LatticeGood.{state-weight, applied-light, good-applied}
@@ -65,35 +64,35 @@ module _ (cs bs : List ℕ) (bytes : Bytes bs) (ok : refusal bs ≡ 0) (string :
 
   z-states : z .states ≡ length (applied cs t .states)
   unfolding applied
-  z-states = built-states same-state (steps cs t) (final-state cs t) (state-weight t) (first t)
+  z-states = built-states same-state (steps cs t) (final-state cs t) (state-weight t) (first-state t)
 
   z-start : z .start ≡ 0
   unfolding applied
-  z-start = built-start same-state (steps cs t) (final-state cs t) (state-weight t) (first t)
+  z-start = built-start same-state (steps cs t) (final-state cs t) (state-weight t) (first-state t)
 
-  pub says-11 : {r : Written} {a a' b b' c c₀ c' : List ℕ} → 1024 < length (found cs t .keys) → length c ≡ length c₀
+  pub says-11 : {r : Written} {a a' b b' c c₀ c' : List ℕ} → max-states < length (found cs t .keys) → length c ≡ length c₀
       → Refused-with 11 r a a' b b' c c' → Says r a a' b b' c₀ c'
   says-11 {r} {a} {a'} {b} {b'} {c} {c₀} {c'} over long zeroed =
       let is : built-refusal z ≡ 11 = over-11 z .1 (omega (arith, found-length cs t good, z-states)) in
       says-zeroed cs bs (built-refusal z) 11 r a a' b b' c c₀ c' is (omega arith) long zeroed
 
   module _ {w : Walk} {table arcs states : List ℕ} (told : Told 1 (found cs t) w table arcs states) where
-    few : length (applied cs t .states) ≤ 1024
+    few : length (applied cs t .states) ≤ max-states
     few = omega (arith, found-length cs t good, told .few)
 
-    few-states : z .states ≤ 1024
+    few-states : z .states ≤ max-states
     few-states = omega (arith, z-states, few)
 
     arcs-are : w .arcs ≡ min (length (z .arcs)) 3073
     arcs-are = told .recorded .arcs-held .arcs-are ∙ ap (λ (as' : List Arc). min (length as') 3073) (found-arcs cs t good few)
 
-    pub says-12 : {r : Written} {a a' b b' c₀ c' : List ℕ} → 3072 < w .arcs → length states ≡ length c₀
+    pub says-12 : {r : Written} {a a' b b' c₀ c' : List ℕ} → max-arcs < w .arcs → length states ≡ length c₀
         → Refused-with 12 r a a' b b' states c' → Says r a a' b b' c₀ c'
     says-12 {r} {a} {a'} {b} {b'} {c₀} {c'} over long zeroed =
         let is : built-refusal z ≡ 12 = built-12 z few-states (omega (arith, arcs-are)) in
         says-zeroed cs bs (built-refusal z) 12 r a a' b b' states c₀ c' is (omega arith) long zeroed
 
-    module _ (few-arcs : w .arcs ≤ 3072) where
+    module _ (few-arcs : w .arcs ≤ max-arcs) where
       arcs-long : length (z .arcs) ≡ w .arcs
       arcs-long = omega (arith, arcs-are)
 
@@ -106,7 +105,7 @@ module _ (cs bs : List ℕ) (bytes : Bytes bs) (ok : refusal bs ≡ 0) (string :
       z-accessible : All-accessible z
       unfolding applied
       z-accessible =
-          built-accessible same-state (steps cs t) (final-state cs t) (state-weight t) (first t) same-state-decides few (good-within z z-good)
+          built-accessible same-state (steps cs t) (final-state cs t) (state-weight t) (first-state t) same-state-decides few (good-within z z-good)
 
       -- The lattice before trimming, as bytes
 
@@ -114,9 +113,8 @@ module _ (cs bs : List ℕ) (bytes : Bytes bs) (ok : refusal bs ≡ 0) (string :
         finals-are : key-finals codes (length cs) (found cs t .keys) ≡ z .finals
         unfolding key-finals applied
         finals-are =
-            let told' : Told 1 (explored (next cs t) (pack (first t))) w table arcs states = rw (found-explored cs t) at told in
             sym (told-finals codes (length cs) told)
-            ∙ told-key-finals (keying cs t good) (final-state cs t) (state-weight t) told' (key-final codes (length cs)) (key-weight codes (length cs))
+            ∙ told-key-finals (keying cs t good) (final-state cs t) (state-weight t) told (key-final codes (length cs)) (key-weight codes (length cs))
             (pack-final cs t good codes by-state) (pack-weight cs t good codes by-state)
 
         closed-is : closed codes (length cs) (found cs t) ≡ z
@@ -132,27 +130,27 @@ module _ (cs bs : List ℕ) (bytes : Bytes bs) (ok : refusal bs ≡ 0) (string :
           ended = subst (λ (y : Transducer). Closes y from table table') closed-is done
 
           -- Where its bytes begin and end.
-          pub ends-inside : (from ≤ 10252 + 16 * w .arcs) × (10252 + 16 * w .arcs ≤ length table')
+          pub ends-inside : (from ≤ arcs-from + arc-bytes * w .arcs) × (arcs-from + arc-bytes * w .arcs ≤ length table')
           ends-inside = (omega (arith, ended .begins), omega (arith, ended .kept, told .recorded .arcs-held .table-long))
 
-          pub bytes-are : take (10252 + 16 * w .arcs - from) (drop from table') ≡ encode z
+          pub bytes-are : take (arcs-from + arc-bytes * w .arcs - from) (drop from table') ≡ encode z
           bytes-are =
-              let size : 10252 + 16 * w .arcs - from ≡ length (encode z) = omega (arith, ended .begins, length-encode z, arcs-long) in
+              let size : arcs-from + arc-bytes * w .arcs - from ≡ length (encode z) = omega (arith, ended .begins, length-encode z, arcs-long) in
               ap (λ (n : ℕ). take n (drop from table')) size ∙ ended .stands
 
-          pub bytes-accepted : refusal (take (10252 + 16 * w .arcs - from) (drop from table')) ≡ 0
+          pub bytes-accepted : refusal (take (arcs-from + arc-bytes * w .arcs - from) (drop from table')) ≡ 0
           bytes-accepted = rw bytes-are (refusal-encode z z-good)
 
-          decoded : decode (take (10252 + 16 * w .arcs - from) (drop from table')) ≡ z
+          decoded : decode (take (arcs-from + arc-bytes * w .arcs - from) (drop from table')) ≡ z
           decoded = ap decode bytes-are ∙ decode-encode z z-good
 
-          pub bytes-accessible : All-accessible (decode (take (10252 + 16 * w .arcs - from) (drop from table')))
+          pub bytes-accessible : All-accessible (decode (take (arcs-from + arc-bytes * w .arcs - from) (drop from table')))
           bytes-accessible = subst All-accessible (sym decoded) z-accessible
 
           -- What trimming leaves of it
 
-          module _ {len : ℕ} {out out' origins origins' : List ℕ} (room : 59404 ≤ length out) (room' : 3072 ≤ length origins)
-              (said : Trims (decode (take (10252 + 16 * w .arcs - from) (drop from table'))) len out out' origins origins') where
+          module _ {len : ℕ} {out out' origins origins' : List ℕ} (room : max-bytes ≤ length out) (room' : max-arcs ≤ length origins)
+              (said : Trims (decode (take (arcs-from + arc-bytes * w .arcs - from) (drop from table'))) len out out' origins origins') where
             trims : Trims z len out out' origins origins'
             trims = subst (λ (y : Transducer). Trims y len out out' origins origins') decoded said
 
@@ -162,7 +160,7 @@ module _ (cs bs : List ℕ) (bytes : Bytes bs) (ok : refusal bs ≡ 0) (string :
             trimmed-fine : Good (trimmed z)
             trimmed-fine = trimmed-good z z-good
 
-            pub len-small : len ≤ 59404
+            pub len-small : len ≤ max-bytes
             len-small = omega (arith, trims .len-is, length-encode-below (trimmed z) trimmed-fine)
 
             pub out-long : length out' ≡ length out
@@ -170,7 +168,7 @@ module _ (cs bs : List ℕ) (bytes : Bytes bs) (ok : refusal bs ≡ 0) (string :
                 ap length (trims .table)
                 ∙ length-filled (length out) (encode (trimmed z)) (omega (arith, length-encode-below (trimmed z) trimmed-fine))
 
-            few-kept : length (trimmed z .arcs) ≤ 3072
+            few-kept : length (trimmed z .arcs) ≤ max-arcs
             few-kept = good-range (trimmed z) trimmed-fine .arcs
 
             origins-long : length origins' ≡ length origins
@@ -194,7 +192,7 @@ module _ (cs bs : List ℕ) (bytes : Bytes bs) (ok : refusal bs ≡ 0) (string :
                   ap (λ (l : List ℕ). take kept l) (trims .origins-are)
                   ∙ take-at ks (replicate (length origins - length ks) 0) kept (sym kept-arcs)
 
-              pub traceable : (kept ≤ length origins') × ((i : ℕ) → i < kept → getD origins' i 0 < 3072)
+              pub traceable : (kept ≤ length origins') × ((i : ℕ) → i < kept → getD origins' i 0 < max-arcs)
               traceable = (
                 omega (arith, origins-long, kept-arcs, length-origins z, few-kept),
                 λ i l. let same : getD origins' i 0 ≡ getD ks i 0 = sym (getD-take kept origins' i 0 l) ∙ ap (λ (l : List ℕ). getD l i 0) kept-front in
@@ -204,7 +202,7 @@ module _ (cs bs : List ℕ) (bytes : Bytes bs) (ok : refusal bs ≡ 0) (string :
               -- The arc that an arc came from, before trimming.
               origin-at : (i : ℕ) → i < w .arcs → getD arcs i 0 ≡ getD (map (λ s. s .origin) (applied cs t .steps)) i 0
               origin-at i l =
-                  let n : ℕ = 1 * min (length (found cs t .arcs)) 3072 in
+                  let n : ℕ = 1 * min (length (found cs t .arcs)) max-arcs in
                   let below : i < n = omega (arith, ap length (found-arcs cs t good few), arcs-long) in
                   sym (getD-take n arcs i 0 below)
                   ∙ ap (λ (l : List ℕ). getD l i 0) (told .recorded .origins-held .traced)

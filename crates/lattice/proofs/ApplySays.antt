@@ -10,7 +10,8 @@ use lib.ListN.{length}
 use borrow.Author.Tests.{lt-ltb, le-ltb, ne-eqb}
 use Rattle.wire.specs.Bytes.{filled}
 use Rattle.transducer.specs.declared.Written.{Written}
-use Rattle.transducer.specs.Format.{Transducer, refusal, content-refusal, first-of, decode, framed, kinds-good, records, head-good}
+use Rattle.transducer.specs.Format.{max-states, max-arcs, max-bytes, Transducer, refusal, content-refusal, first-of, decode}
+use Rattle.transducer.specs.Format.{framed, kinds-good, records, head-good}
 use Rattle.transducer.specs.Format.{head-states, head-arcs, head-finals, head-start, states-good, order-good, all-labels-good, weights-good}
 use Rattle.transducer.specs.Encode.{encode}
 use Rattle.transducer.specs.Entry.{or-else, unless}
@@ -19,7 +20,7 @@ use Rattle.explore.specs.Explore.{built-refusal}
 use Rattle.explore.proofs.LeftBehind.{behind-early, behind-zeroed, behind-written}
 use Rattle.lattice.specs.Apply.{string-good, applied}
 use Rattle.lattice.specs.ApplyEntry.{apply-room, apply-refusal, Apply-says}
-use Rattle.lattice.specs.Applying.{Ready, Refused-with}
+use Rattle.lattice.specs.Applying.{Apply-asks, Refused-with}
 use Rattle.lattice.specs.Lattice.{lattice, lattice-origins}
 
 -- Apply-says, by how the buffers are left
@@ -98,25 +99,25 @@ module _ (cs bs a b c : List ℕ) where
       unfolding apply-refusal or-else
       short h = says-early cs bs number 10 a b c (rw (accepted, ← string, h)) (omega arith) (omega arith)
 
-      pub says-table : length a < 59404 → Refused 10
+      pub says-table : length a < max-bytes → Refused 10
       unfolding apply-room
-      says-table h = short (rw (lt-ltb (length a) 59404 h))
+      says-table h = short (rw (lt-ltb (length a) max-bytes h))
 
-      pub says-origins : 59404 ≤ length a → length b < 3072 → Refused 10
+      pub says-origins : max-bytes ≤ length a → length b < max-arcs → Refused 10
       unfolding apply-room
-      says-origins p h = short (rw (le-ltb (length a) 59404 p, lt-ltb (length b) 3072 h))
+      says-origins p h = short (rw (le-ltb (length a) max-bytes p, lt-ltb (length b) max-arcs h))
 
-      pub says-pairs : 59404 ≤ length a → 3072 ≤ length b → length c < 1024 → Refused 10
+      pub says-pairs : max-bytes ≤ length a → max-arcs ≤ length b → length c < max-states → Refused 10
       unfolding apply-room
-      says-pairs p q h = short (rw (le-ltb (length a) 59404 p, le-ltb (length b) 3072 q, lt-ltb (length c) 1024 h))
+      says-pairs p q h = short (rw (le-ltb (length a) max-bytes p, le-ltb (length b) max-arcs q, lt-ltb (length c) max-states h))
 
-      module _ (p : 59404 ≤ length a) (q : 3072 ≤ length b) (s : 1024 ≤ length c) where
-        pub ready : Ready cs bs (length a) (length b) (length c)
+      module _ (p : max-bytes ≤ length a) (q : max-arcs ≤ length b) (s : max-states ≤ length c) where
+        pub ready : Apply-asks cs bs (length a) (length b) (length c)
         ready = record { good = sym string; accepted = accepted; lattice-long = p; origins-long = q; pairs-long = s }
 
         into : number ≡ built-refusal (applied cs (decode bs) .result)
         unfolding apply-refusal or-else apply-room
-        into = rw (accepted, ← string, le-ltb (length a) 59404 p, le-ltb (length b) 3072 q, le-ltb (length c) 1024 s)
+        into = rw (accepted, ← string, le-ltb (length a) max-bytes p, le-ltb (length b) max-arcs q, le-ltb (length c) max-states s)
 
         pub says-into : (r : Written) (a' b' c' : List ℕ)
             → Apply-says cs bs (built-refusal (applied cs (decode bs) .result)) r a a' b b' c c' → Apply-says cs bs number r a a' b b' c c'

@@ -6,7 +6,7 @@ use Prim.Native.Nat.{ℕ, _+_, _≤_, _<_}
 use native.Mathlib.Omega.{arith}
 use lib.ListN.{length, getD}
 use Rattle.transducer.specs.declared.Arc.{Arc}
-use Rattle.transducer.specs.Format.{Transducer}
+use Rattle.transducer.specs.Format.{max-states, Transducer}
 use Rattle.transducer.specs.Path.{arc}
 use Rattle.transducer.proofs.Runs.{Within}
 use Rattle.explore.specs.Explore.{Step, Decides, Built, targets, built}
@@ -18,13 +18,13 @@ use Rattle.explore.proofs.OneArc.{By-step, step-arc, arc-lands}
 use Rattle.explore.proofs.Parts.{built-start, built-some, built-states}
 use Rattle.reach.specs.Reach.{accessible, All-accessible}
 use Rattle.reach.proofs.Reach.{accessible-start}
-use Rattle.reach.proofs.Settled.{accessible-passes}
+use Rattle.reach.proofs.Closure.{accessible-passes}
 
 module _ {A O : Type 0} (same : A → A → Bool) (steps : A → List (Step A O)) (final : A → Bool) (weight : A → ℕ) (first : A) (right : Decides same) where
   abbrev b : Built A O
   b = built same steps final weight first
 
-  module _ (few : length (b .states) ≤ 1024) (w : Within (b .result)) where
+  module _ (few : length (b .states) ≤ max-states) (w : Within (b .result)) where
     numbers : Numbered same steps first (b .states) (first ∷ targets (b .steps))
     numbers = built-numbered same steps final weight first right few
 

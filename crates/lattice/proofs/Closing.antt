@@ -7,14 +7,14 @@ use lib.ListN.{length, take, drop, length-append, length-drop, length-take, take
 use borrow.Rule.Slice.PartAt.{part-to-end}
 use lib.Seq.{sets, sets-eq, length-sets, drop-drop, take-all, take-at, drop-at, take-append-le, length-take-le}
 use Rattle.transducer.specs.declared.Final.{Final}
-use Rattle.transducer.specs.Format.{Transducer}
+use Rattle.transducer.specs.Format.{max-states, max-arcs, max-bytes, head-bytes, arc-bytes, arcs-at, Transducer}
 use Rattle.transducer.specs.Encode.{head-record, final-records, arc-records, encode}
 use Rattle.transducer.proofs.Encode.{length-final-records, length-arc-records, length-encode}
 use Rattle.explore.specs.declared.Walk.{Walk}
 use Rattle.explore.specs.Walk.{Sofar, Told}
 use Rattle.explore.proofs.EncodeStored.{encode-stored}
 use Rattle.explore.proofs.MovedArcs.{drop-sets-before}
-use Rattle.lattice.specs.Applying.{key-finals, closed, Closes}
+use Rattle.lattice.specs.Applying.{arcs-from, key-finals, closed, Closes}
 
 -- Storing what stands there changes nothing.
 sets-same : (l xs : List ℕ) (k : ℕ) → k + length xs ≤ length l → take (length xs) (drop k l) ≡ xs → l ≡ sets l k xs
@@ -43,34 +43,34 @@ module _ (codes : List ℕ) (last : ℕ) {b : Sofar} {w : Walk} {table origins s
   told-finals = ap (λ (ks : List ℕ). key-finals codes last ks) told-keys
 
   -- They are all there.
-  pub told-room : (w .states ≤ length states) × (w .states ≤ 1024)
+  pub told-room : (w .states ≤ length states) × (w .states ≤ max-states)
   told-room =
       let n : w .states ≡ length (b .keys) = told .states-are in
       (omega (arith, ap length (told .stored), length-take (length (b .keys)) states), omega (arith, told .few))
 
   -- There is room for head and finals in front of the arcs.
-  pub part-room : (finals : ℕ) → finals ≡ length (key-finals codes last (take (w .states) states)) → finals ≤ w .states
-      → 12 + 10 * length (key-finals codes last (take (w .states) states))
-      ≤ length (take (length table - (10252 - 12 - 10 * finals)) (drop (10252 - 12 - 10 * finals) table))
-  part-room finals count few =
-      let from : ℕ = 10252 - 12 - 10 * finals in
+  pub part-room : (finals place : ℕ) → finals ≡ length (key-finals codes last (take (w .states) states)) → finals ≤ w .states → place ≡ arcs-at finals
+      → arcs-at (length (key-finals codes last (take (w .states) states)))
+      ≤ length (take (length table - (arcs-from - place)) (drop (arcs-from - place) table))
+  part-room finals place count few there =
+      let from : ℕ = arcs-from - place in
       omega (arith, ap length (part-to-end table from), length-drop from table, told-room .1, told .recorded .arcs-held .table-long)
 
-  module _ (few-arcs : w .arcs ≤ 3072) where
+  module _ (few-arcs : w .arcs ≤ max-arcs) where
     told-arcs : length (b .arcs) ≡ w .arcs
     told-arcs = omega (arith, told .recorded .arcs-held .arcs-are)
 
     -- The records of the arcs stand from 10,252 on.
-    arcs-stand : take (length (arc-records (b .arcs))) (drop 10252 table) ≡ arc-records (b .arcs)
+    arcs-stand : take (length (arc-records (b .arcs))) (drop arcs-from table) ≡ arc-records (b .arcs)
     arcs-stand =
-        let m : 16 * min (length (b .arcs)) 3072 ≡ length (arc-records (b .arcs)) = omega (arith, told-arcs, length-arc-records (b .arcs)) in
-        ap (λ (n : ℕ). take n (drop 10252 table)) (sym m)
+        let m : arc-bytes * min (length (b .arcs)) max-arcs ≡ length (arc-records (b .arcs)) = omega (arith, told-arcs, length-arc-records (b .arcs)) in
+        ap (λ (n : ℕ). take n (drop arcs-from table)) (sym m)
         ∙ told .recorded .arcs-held .written
-        ∙ ap arc-records (take-all 3072 (b .arcs) (omega (arith, told-arcs)))
+        ∙ ap arc-records (take-all max-arcs (b .arcs) (omega (arith, told-arcs)))
 
     pub closes : (finals from : ℕ) (part part1 part2 table' : List ℕ) → finals ≡ length (key-finals codes last (take (w .states) states)) → finals ≤ w .states
-        → from ≡ 10252 - 12 - 10 * finals → part ≡ take (length table - from) (drop from table)
-        → part1 ≡ sets part 12 (final-records (key-finals codes last (take (w .states) states)))
+        → from ≡ arcs-from - arcs-at finals → part ≡ take (length table - from) (drop from table)
+        → part1 ≡ sets part head-bytes (final-records (key-finals codes last (take (w .states) states)))
         → part2 ≡ sets part1 0 (head-record (w .states) (w .arcs) finals 0)
         → table' ≡ take from table ++ (part2 ++ drop (length table - from) (drop from table))
         → Closes (closed codes last b) from table table'
@@ -78,26 +78,26 @@ module _ (codes : List ℕ) (last : ℕ) {b : Sofar} {w : Walk} {table origins s
     closes finals from part part1 part2 table' count few from-is lent put headed whole =
         let z : Transducer = closed codes last b in
         let fs : List Final = key-finals codes last (b .keys) in
-        let long : 59404 ≤ length table = told .recorded .arcs-held .table-long in
+        let long : max-bytes ≤ length table = told .recorded .arcs-held .table-long in
         let f-is : finals ≡ length fs = count ∙ ap length told-finals in
-        let small : finals ≤ 1024 = omega (arith, told .states-are, told .few) in
-        let place : from + (12 + 10 * length fs) ≡ 10252 = omega arith in
+        let small : finals ≤ max-states = omega (arith, told .states-are, told .few) in
+        let place : from + (arcs-at (length fs)) ≡ arcs-from = omega arith in
         let part-is : part ≡ drop from table = lent ∙ part-to-end table from in
         let size : length part ≡ length table - from = ap length part-is ∙ length-drop from table in
-        let h1 : part1 ≡ sets part 12 (final-records fs) = put ∙ ap (λ (l : List Final). sets part 12 (final-records l)) told-finals in
-        let size1 : length part1 ≡ length part = ap length h1 ∙ length-sets part 12 (final-records fs) in
-        let behind : drop (12 + 10 * length fs) part1 ≡ drop 10252 table =
-        ap (λ (l : List ℕ). drop (12 + 10 * length fs) l) h1
-        ∙ drop-sets-before (12 + 10 * length fs) part 12 (final-records fs) (omega (arith, length-final-records fs))
-        ∙ ap (λ (l : List ℕ). drop (12 + 10 * length fs) l) part-is
-        ∙ drop-drop (12 + 10 * length fs) from table
+        let h1 : part1 ≡ sets part head-bytes (final-records fs) = put ∙ ap (λ (l : List Final). sets part head-bytes (final-records l)) told-finals in
+        let size1 : length part1 ≡ length part = ap length h1 ∙ length-sets part head-bytes (final-records fs) in
+        let behind : drop (arcs-at (length fs)) part1 ≡ drop arcs-from table =
+        ap (λ (l : List ℕ). drop (arcs-at (length fs)) l) h1
+        ∙ drop-sets-before (arcs-at (length fs)) part head-bytes (final-records fs) (omega (arith, length-final-records fs))
+        ∙ ap (λ (l : List ℕ). drop (arcs-at (length fs)) l) part-is
+        ∙ drop-drop (arcs-at (length fs)) from table
         ∙ ap (λ (n : ℕ). drop n table) place in
-        let h2 : part1 ≡ sets part1 (12 + 10 * length fs) (arc-records (b .arcs)) =
-        sets-same part1 (arc-records (b .arcs)) (12 + 10 * length fs) (omega (arith, length-arc-records (b .arcs), told-arcs))
+        let h2 : part1 ≡ sets part1 (arcs-at (length fs)) (arc-records (b .arcs)) =
+        sets-same part1 (arc-records (b .arcs)) (arcs-at (length fs)) (omega (arith, length-arc-records (b .arcs), told-arcs))
         (ap (λ (l : List ℕ). take (length (arc-records (b .arcs))) l) behind ∙ arcs-stand) in
         let h3 : part2 ≡ sets part1 0 (head-record (length (b .keys)) (length (b .arcs)) (length fs) 0) =
         headed ∙ (rw (told .states-are, ← told-arcs, f-is)) in
-        let fits : 12 + 10 * length fs + 16 * length (b .arcs) ≤ length part = omega (arith, told-arcs) in
+        let fits : arcs-at (length fs) + arc-bytes * length (b .arcs) ≤ length part = omega (arith, told-arcs) in
         let all : part2 ≡ sets part 0 (encode z) = encode-stored z part fits h1 h2 h3 in
         let front : length (take from table) ≡ from = length-take-le from table (omega arith) in
         let rest : List ℕ = drop (length table - from) (drop from table) in

@@ -1,24 +1,20 @@
 -- The walk by keys finds the lattice before trimming: its keys are those of the lattice's states, and where these are at most 1,024 its arcs and
 -- origins are the lattice's. Assumes nothing.
-use mathlib.Core.Path.{_≡_, refl, sym, ap, _∙_}
+use mathlib.Core.Path.{_≡_, refl, ap, _∙_}
 use mathlib.Core.Logic.{_↔_}
 use mathlib.Core.List.{List, [], _∷_, map}
 use Prim.Native.Nat.{ℕ, _≤_, _<_}
 use lib.ListN.{length, getD}
-use Rattle.transducer.specs.Format.{Transducer, Good}
+use Rattle.transducer.specs.Format.{max-states, Transducer, Good}
 use Rattle.explore.specs.Explore.{Step}
-use Rattle.explore.specs.Walk.{all-origins, explored}
+use Rattle.explore.specs.Walk.{all-origins}
 use Rattle.explore.proofs.ExploredKeys.{explored-keys, explored-length, explored-key, explored-over, explored-arcs, explored-origins}
-use Rattle.lattice.specs.Apply.{State, final-state, applied}
-use Rattle.lattice.specs.Applying.{pack, one, next, found}
-use Rattle.lattice.proofs.AppliedTrails.{first}
-use Rattle.lattice.proofs.KeyParts.{pack-first, State-in, keying}
+use Rattle.lattice.specs.declared.State.{State}
+use Rattle.lattice.specs.Apply.{final-state, applied}
+use Rattle.lattice.specs.Applying.{one, found, State-in}
+use Rattle.lattice.specs.Pack.{pack}
+use Rattle.lattice.proofs.KeyParts.{keying}
 use Rattle.lattice.proofs.LatticeGood.{state-weight}
-
--- The walk begins at the key of the first state.
-pub found-explored : (cs : List ℕ) (t : Transducer) → found cs t ≡ explored (next cs t) (pack (first t))
-unfolding found
-found-explored cs t = ap (λ (k : ℕ). explored (next cs t) k) (sym (pack-first t))
 
 -- Each step has one origin.
 pub origins-one : {A : Type 0} (ss : List (Step A ℕ)) → all-origins one ss ≡ map (λ s. s .origin) ss
@@ -29,29 +25,27 @@ origins-one (s ∷ ss) = ap (λ (os : List ℕ). s .origin ∷ os) (origins-one 
 module _ (cs : List ℕ) (t : Transducer) (good : Good t) where
   pub found-keys : found cs t .keys ≡ map pack (applied cs t .states)
   unfolding applied
-  found-keys = rw (found-explored cs t) (explored-keys (keying cs t good) (final-state cs t) (state-weight t))
+  found-keys = explored-keys (keying cs t good) (final-state cs t) (state-weight t)
 
   pub found-length : length (found cs t .keys) ≡ length (applied cs t .states)
   unfolding applied
-  found-length = rw (found-explored cs t) (explored-length (keying cs t good) (final-state cs t) (state-weight t))
+  found-length = explored-length (keying cs t good) (final-state cs t) (state-weight t)
 
-  pub found-over : (1024 < length (found cs t .keys)) ↔ (1024 < length (applied cs t .states))
+  pub found-over : (max-states < length (found cs t .keys)) ↔ (max-states < length (applied cs t .states))
   unfolding applied
-  found-over = rw (found-explored cs t) (explored-over (keying cs t good) (final-state cs t) (state-weight t))
+  found-over = explored-over (keying cs t good) (final-state cs t) (state-weight t)
 
   -- The key of each state by number, which is one of the lattice's.
   pub found-key : (i : ℕ) (d : State) → i < length (applied cs t .states)
       → (getD (found cs t .keys) i 0 ≡ pack (getD (applied cs t .states) i d)) × State-in cs t (getD (applied cs t .states) i d)
   unfolding applied
-  found-key i d l = rw (found-explored cs t) (explored-key (keying cs t good) (final-state cs t) (state-weight t) i d l)
+  found-key i d l = explored-key (keying cs t good) (final-state cs t) (state-weight t) i d l
 
-  module _ (few : length (applied cs t .states) ≤ 1024) where
+  module _ (few : length (applied cs t .states) ≤ max-states) where
     pub found-arcs : found cs t .arcs ≡ applied cs t .result .arcs
     unfolding applied
-    found-arcs = rw (found-explored cs t) (explored-arcs (keying cs t good) (final-state cs t) (state-weight t) few)
+    found-arcs = explored-arcs (keying cs t good) (final-state cs t) (state-weight t) few
 
     pub found-origins : found cs t .origins ≡ map (λ s. s .origin) (applied cs t .steps)
     unfolding applied
-    found-origins =
-        rw (found-explored cs t)
-        (explored-origins (keying cs t good) (final-state cs t) (state-weight t) few ∙ origins-one (applied cs t .steps))
+    found-origins = explored-origins (keying cs t good) (final-state cs t) (state-weight t) few ∙ origins-one (applied cs t .steps)

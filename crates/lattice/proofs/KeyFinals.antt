@@ -3,35 +3,39 @@
 use mathlib.Core.Path.{_≡_, refl, sym, ap, _∙_}
 use mathlib.Core.Bool.{Bool, true, false, _&&_, not, cond}
 use mathlib.Core.List.{List, [], _∷_, _++_, append-nil}
-use Prim.Native.Nat.{ℕ, _+_, _*_, _-_, _/_, _%_, _≤_, _<_}
+use Prim.Native.Nat.{ℕ, _+_, _*_, _-_, _≤_, _<_}
 use native.Mathlib.Numerals.{add-one}
 use native.Mathlib.Omega.{arith}
 use lib.Dec.{eqb}
 use lib.ListN.{length, getD, take, drop, length-append, take-append-drop}
 use lib.Seq.{sets, take-suc, length-take-le, take-take}
 use borrow.Author.Tests.{eq-eqb, ne-eqb}
-use Rattle.wire.proofs.Places.{and-true}
+use Rattle.wire.proofs.Bool.{and-true}
 use Rattle.transducer.specs.declared.Final.{Final}
-use Rattle.transducer.specs.Format.{Transducer, Good, weight-good}
+use Rattle.transducer.specs.Format.{max-states, head-bytes, final-bytes, arcs-at, Transducer, Good, weight-good}
 use Rattle.transducer.specs.Encode.{final-record, final-records}
 use Rattle.transducer.specs.Leaf.{Finals-by-state, final-code}
 use Rattle.transducer.specs.Path.{is-final, final-weight}
 use Rattle.explore.specs.Explore.{finals-from}
 use Rattle.explore.proofs.Finals.{finals-from-append}
 use Rattle.explore.proofs.PutFinals.{Finishing, finishing-first, finishing-none, finishing-more, finishing-stop}
-use Rattle.lattice.specs.Apply.{State, final-state}
-use Rattle.lattice.specs.Applying.{pack, unpacked, key-code, key-finals}
-use Rattle.lattice.proofs.KeyParts.{unpacked-pack, State-in, state-small}
+use Rattle.lattice.specs.declared.State.{State}
+use Rattle.lattice.specs.Apply.{final-state}
+use Rattle.lattice.specs.Applying.{key-code, key-finals, State-in}
+use Rattle.lattice.specs.Pack.{pack, unpacked}
+use Rattle.lattice.proofs.KeyParts.{state-small}
+use Rattle.lattice.proofs.Pack.{unpacked-pack}
 
 -- The code of a key
 
-pub code-at-last : (codes : List ℕ) (last k : ℕ) → k / 1024 ≡ last → key-code codes last k ≡ getD codes (k % 1024) 0
-unfolding key-code
-code-at-last codes last k e = rw (eq-eqb (k / 1024) last e)
+module _ (codes : List ℕ) (last k : ℕ) (x : State) (is : x ≡ unpacked k) where
+  pub code-at-last : x .position ≡ last → key-code codes last k ≡ getD codes (x .state) 0
+  unfolding key-code
+  code-at-last e = rw (← is, eq-eqb (x .position) last e)
 
-pub code-elsewhere : (codes : List ℕ) (last k : ℕ) → (k / 1024 ≡ last → ⊥) → key-code codes last k ≡ 0
-unfolding key-code
-code-elsewhere codes last k h = rw (ne-eqb (k / 1024) last h)
+  pub code-elsewhere : (x .position ≡ last → ⊥) → key-code codes last k ≡ 0
+  unfolding key-code
+  code-elsewhere h = rw (← is, ne-eqb (x .position) last h)
 
 -- Whether the state of a key is final, and its weight, by its code.
 abbrev pub key-final : (codes : List ℕ) → (last k : ℕ) → Bool
@@ -47,7 +51,7 @@ is-key-final : (codes : List ℕ) (last k code : ℕ) → code ≡ key-code code
 is-key-final codes last k code is z = rw (ne-eqb (key-code codes last k) 0 (λ e. z (is ∙ e)))
 
 -- The finals of the first s keys are counted.
-pub record Counting (codes : List ℕ) (last : ℕ) (states : List ℕ) (count finals s : ℕ) : Type 0 where
+pub record Finals-counted (codes : List ℕ) (last : ℕ) (states : List ℕ) (count finals s : ℕ) : Type 0 where
   pub within : s ≤ count
   pub few : finals ≤ s
   pub count-is : finals ≡ length (key-finals codes last (take s states))
@@ -93,11 +97,11 @@ module _ (codes : List ℕ) (last : ℕ) (states : List ℕ) where
       ap fs (sym (take-append-drop n ks)) ∙ finals-from-append (key-final codes last) (key-weight codes last) 0 (take n ks) (drop n ks) in
       omega (arith, ap length whole, length-append (fs (take n ks)) rest, ap length front)
 
-  pub counting-first : (count : ℕ) → Counting codes last states count 0 0
+  pub counting-first : (count : ℕ) → Finals-counted codes last states count 0 0
   unfolding key-finals finals-from
   counting-first count = record { within = omega arith; few = omega arith; count-is = refl }
 
-  pub counting-stop : (count finals s : ℕ) → count ≤ s → Counting codes last states count finals s
+  pub counting-stop : (count finals s : ℕ) → count ≤ s → Finals-counted codes last states count finals s
       → (finals ≡ length (key-finals codes last (take count states))) × (finals ≤ count)
   counting-stop count finals s stop inv =
       let all : s ≡ count = omega (arith, inv .within) in (rw all at (inv .count-is), omega (arith, inv .few))
@@ -106,13 +110,13 @@ module _ (codes : List ℕ) (last : ℕ) (states : List ℕ) where
   putting-first count table = (false, finishing-first (key-final codes last) (key-weight codes last) states count table)
 
   pub putting-stop : (count finals s : ℕ) (table₀ table : List ℕ) → count ≤ s → Putting codes last states count table₀ table finals s
-      → table ≡ sets table₀ 12 (final-records (key-finals codes last (take count states)))
+      → table ≡ sets table₀ head-bytes (final-records (key-finals codes last (take count states)))
   unfolding key-finals
   putting-stop count finals s table₀ table stop inv =
       finishing-stop (key-final codes last) (key-weight codes last) states (inv .1) stop .stored
 
   module _ (count finals s code : ℕ) (less : s < count) (room : count ≤ length states) (is : code ≡ key-code codes last (getD states s 0)) where
-    pub counting-none : Counting codes last states count finals s → code ≡ 0 → Counting codes last states count finals (s + 1)
+    pub counting-none : Finals-counted codes last states count finals s → code ≡ 0 → Finals-counted codes last states count finals (s + 1)
     unfolding finals-from
     counting-none inv z =
         let same : key-finals codes last (take (s + 1) states) ≡ key-finals codes last (take s states) =
@@ -120,41 +124,42 @@ module _ (codes : List ℕ) (last : ℕ) (states : List ℕ) where
         ∙ (rw (not-final codes last (getD states s 0) code is z) (append-nil (key-finals codes last (take s states)))) in
         record { within = omega arith; few = omega (arith, inv .few); count-is = rw same (inv .count-is) }
 
-    pub counting-more : Counting codes last states count finals s → (code ≡ 0 → ⊥) → Counting codes last states count (finals + 1) (s + 1)
+    pub counting-more : Finals-counted codes last states count finals s → (code ≡ 0 → ⊥) → Finals-counted codes last states count (finals + 1) (s + 1)
     counting-more inv z =
         record { within = omega arith; few = omega (arith, inv .few); count-is = omega (arith, inv .count-is, longer s code (omega arith) is z) }
 
     module _ (table₀ table : List ℕ) (inv : Putting codes last states count table₀ table finals s) where
       -- There is room for the final of this key.
-      pub putting-room : (code ≡ 0 → ⊥) → 12 + 10 * length (key-finals codes last (take count states)) ≤ length table₀
-          → 12 + 10 * finals + 10 ≤ length table
+      pub putting-room : (code ≡ 0 → ⊥) → arcs-at (length (key-finals codes last (take count states))) ≤ length table₀
+          → {place : ℕ} → place ≡ arcs-at finals → place + final-bytes ≤ length table
       unfolding key-finals
-      putting-room z fits =
+      putting-room z fits there =
           omega (arith, inv .1 .count-is, inv .1 .kept, longer s code (omega arith) is z, front-finals (s + 1) count (omega arith))
 
       pub putting-none : code ≡ 0 → Putting codes last states count table₀ table finals (s + 1)
       putting-none z =
           (inv .0, finishing-none (key-final codes last) (key-weight codes last) states (inv .1) less room (not-final codes last (getD states s 0) code is z))
 
-      pub putting-more : (table' : List ℕ) → (code ≡ 0 → ⊥)
-          → table' ≡ sets table (12 + 10 * finals) (final-record (record { state = s; weight = code - 1 })) → length table' ≡ length table
+      pub putting-more : (table' : List ℕ) → (code ≡ 0 → ⊥) → {place : ℕ} → place ≡ arcs-at finals
+          → table' ≡ sets table place (final-record (record { state = s; weight = code - 1 })) → length table' ≡ length table
           → Putting codes last states count table₀ table' (finals + 1) (s + 1)
-      putting-more table' z put long = (
-        _,
-        finishing-more (key-final codes last) (key-weight codes last) states (inv .1) less room table' (code - 1) (weight-good (code - 1))
-            (is-key-final codes last (getD states s 0) code is z) (ap (λ (n : ℕ). n - 1) is) put long refl,
-      )
+      putting-more table' z there put-there long =
+          let put : table' ≡ sets table (arcs-at finals) (final-record (record { state = s; weight = code - 1 })) = rw there at put-there in (
+            _,
+            finishing-more (key-final codes last) (key-weight codes last) states (inv .1) less room table' (code - 1) (weight-good (code - 1))
+                (is-key-final codes last (getD states s 0) code is z) (ap (λ (n : ℕ). n - 1) is) put long refl,
+          )
 
 -- The finals of the states met
 
 module _ (cs : List ℕ) (t : Transducer) (good : Good t) (codes : List ℕ) (by-state : Finals-by-state t codes) where
   code-pack : (x : State) → State-in cs t x
       → key-code codes (length cs) (pack x) ≡ cond (eqb (x .position) (length cs)) (final-code (t .finals) (x .state)) 0
-  unfolding key-code unpacked
+  unfolding key-code
   code-pack x w =
-      let small : x .state < 1024 = state-small cs t good x w in
+      let small : x .state < max-states = state-small cs t good x w in
       let e : unpacked (pack x) ≡ x = unpacked-pack x small in
-      rw (ap (λ (y : State). y .position) e, ap (λ (y : State). y .state) e, by-state .at-state (x .state) small)
+      rw (e, by-state .at-state (x .state) small)
 
   pub pack-final : (x : State) → State-in cs t x → key-final codes (length cs) (pack x) ≡ final-state cs t x
   unfolding final-state final-code

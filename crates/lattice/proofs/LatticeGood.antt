@@ -9,22 +9,22 @@ use native.Mathlib.Omega.{arith}
 use lib.Dec.{ltb, eqb}
 use lib.ListN.{length}
 use Rattle.wire.specs.Bytes.{every}
-use Rattle.wire.proofs.Places.{and-true, true-and, every-getD}
+use Rattle.wire.proofs.Bool.{by-test, and-true, true-and}
+use Rattle.wire.proofs.Places.{every-getD}
 use Rattle.transducer.specs.declared.Final.{Final}
-use Rattle.transducer.specs.Format.{Transducer, Good, weight-good, weights-good, refusal, decode}
+use Rattle.transducer.specs.Format.{max-states, max-arcs, Transducer, Good, weight-good, weights-good, refusal, decode}
 use Rattle.transducer.specs.Encode.{encode}
 use Rattle.transducer.specs.Path.{arc, no-arc, final-weight}
 use Rattle.transducer.proofs.GoodParts.{good-parts}
 use Rattle.transducer.proofs.Labels.{Unbarred}
 use Rattle.transducer.proofs.RoundTrip.{refusal-encode, decode-encode}
 use Rattle.explore.specs.Explore.{Step, built, built-refusal, finals-from}
-use Rattle.explore.proofs.Cases.{by-test}
 use Rattle.explore.proofs.Member.{Mem, mem-in}
 use Rattle.explore.proofs.Built.{Labelled, every-arc, good-built}
-use Rattle.lattice.specs.Apply.{State, string-good, same-state, step, steps, final-state, applied}
+use Rattle.lattice.specs.declared.State.{State}
+use Rattle.lattice.specs.Apply.{string-good, same-state, step, steps, final-state, applied, first-state}
 use Rattle.lattice.specs.Lattice.{lattice}
 use Rattle.lattice.proofs.AppliedSteps.{empty-step, symbol-step, OfArc, of-empty, of-symbol, Move, step-move, step-unbarred}
-use Rattle.lattice.proofs.AppliedTrails.{first}
 use Rattle.lattice.proofs.SameState.{same-state-decides}
 use Rattle.trim.proofs.TrimmedGood.{trimmed-good}
 
@@ -77,7 +77,7 @@ applied-light cs t g =
 -- 13 is never given: no weight of a lattice is a sum.
 pub never-13 : (cs : List ℕ) (t : Transducer) → Good t → built-refusal (applied cs t .result) ≡ 13 → ⊥
 unfolding built-refusal
-never-13 cs t g h = on (ltb 1024 (z .states)) (ltb 3072 (length (z .arcs))) (rw (applied-light cs t g) at h)
+never-13 cs t g h = on (ltb max-states (z .states)) (ltb max-arcs (length (z .arcs))) (rw (applied-light cs t g) at h)
   where
     z : Transducer
     z = applied cs t .result
@@ -97,7 +97,7 @@ module _ (cs : List ℕ) (t : Transducer) (good : Good t) (string : string-good 
 
   pub good-applied : Good (applied cs t .result) ↔ (built-refusal (applied cs t .result) ≡ 0)
   unfolding applied
-  good-applied = good-built same-state (steps cs t) (final-state cs t) (state-weight t) (first t) same-state-decides steps-labelled
+  good-applied = good-built same-state (steps cs t) (final-state cs t) (state-weight t) (first-state t) same-state-decides steps-labelled
 
   module _ (fine : built-refusal (applied cs t .result) ≡ 0) where
     pub lattice-good : Good (lattice cs t)

@@ -9,7 +9,7 @@ use native.Mathlib.Omega.{arith}
 use lib.ListN.{length, getD, List·getD-map}
 use Rattle.wire.specs.Bytes.{filled}
 use Rattle.wire.proofs.Places.{getD-filled}
-use Rattle.transducer.specs.Format.{Transducer, Good}
+use Rattle.transducer.specs.Format.{max-states, Transducer, Good}
 use Rattle.transducer.specs.Path.{arc, runs, accepts, read-by, written-by, path-cost}
 use Rattle.transducer.specs.Weight.{plus}
 use Rattle.transducer.proofs.Members.{distinct-places}
@@ -20,15 +20,16 @@ use Rattle.explore.proofs.Member.{at-length, at-getD}
 use Rattle.explore.proofs.Trails.{inputs, outputs, weights, along, Once}
 use Rattle.explore.proofs.Accepting.{Accepting, accepts-read, accepts-written, accepts-once, accepts-trail, trail-accepts}
 use Rattle.explore.proofs.Built.{unrefused-few}
-use Rattle.lattice.specs.Apply.{State, string-good, same-state, steps, final-state, applied}
-use Rattle.trim.specs.Trim.{useful, trimmed, origins-kept, through}
+use Rattle.lattice.specs.declared.State.{State}
+use Rattle.lattice.specs.Apply.{string-good, same-state, steps, final-state, applied, first-state}
+use Rattle.trim.specs.Trim.{trimmed, origins-kept, through}
 use Rattle.lattice.specs.Lattice.{lattice, lattice-origins, Reads-as, Reads-one-to-one}
 use Rattle.lattice.proofs.AppliedSteps.{steps-distinct}
-use Rattle.lattice.proofs.AppliedTrails.{numbers, first, Leads, trail-leads, Accepted, trail-accepted, accepting-followed, never-two}
-use Rattle.trim.proofs.Kept.{length-kept}
+use Rattle.lattice.proofs.AppliedTrails.{numbers, Trail-path, trail-leads, Accepted, trail-accepted, accepting-followed, never-two}
 use Rattle.lattice.proofs.LatticeGood.{state-weight, good-applied}
 use Rattle.lattice.proofs.SameState.{same-state-decides}
-use Rattle.trim.proofs.Trimmed.{kept, lone, trimmed-kept, trimmed-lone, origins-some, origins-none, Led, trimmed-led, led-injective, LedBy, led-onto}
+use Rattle.trim.proofs.Trimmed.{Led, trimmed-led, led-injective, LedBy, led-onto}
+use Rattle.trim.proofs.TrimmedKeeps.{length-origins}
 
 -- The step that is read where there is none; its origin is 0, as what is read behind a list's end is.
 abbrev no-step : Step State ℕ
@@ -50,9 +51,9 @@ module _ (cs : List ℕ) (t : Transducer) (fine : built-refusal (applied cs t .r
   abbrev arc-origins : List ℕ
   arc-origins = map (λ s. s .origin) (applied cs t .steps)
 
-  few : length (applied cs t .states) ≤ 1024
+  few : length (applied cs t .states) ≤ max-states
   unfolding applied
-  few = unrefused-few same-state (steps cs t) (final-state cs t) (state-weight t) (first t) same-state-decides fine
+  few = unrefused-few same-state (steps cs t) (final-state cs t) (state-weight t) (first-state t) same-state-decides fine
 
   through-numbers : (p : List ℕ) → through arc-origins p ≡ numbers (taken p)
   unfolding through numbers
@@ -62,7 +63,7 @@ module _ (cs : List ℕ) (t : Transducer) (fine : built-refusal (applied cs t .r
   -- The steps of an accepting path.
   record Steps-of (p : List ℕ) : Type 0 where
     last : State
-    accepting : Accepting (steps cs t) (final-state cs t) (first t) (taken p) last
+    accepting : Accepting (steps cs t) (final-state cs t) (first-state t) (taken p) last
     reads : read-by (applied cs t .result) p ≡ inputs (taken p)
     writes : written-by (applied cs t .result) p ≡ outputs (taken p)
     costs : path-cost (applied cs t .result) p ≡ plus (weights (taken p)) (state-weight t last)
@@ -70,19 +71,19 @@ module _ (cs : List ℕ) (t : Transducer) (fine : built-refusal (applied cs t .r
   steps-of : (p : List ℕ) → accepts (applied cs t .result) p ≡ true → Steps-of p
   unfolding applied
   steps-of p h =
-      let r = accepts-trail same-state (steps cs t) (final-state cs t) (state-weight t) (first t) no-step same-state-decides few p h in
+      let r = accepts-trail same-state (steps cs t) (final-state cs t) (state-weight t) (first-state t) no-step same-state-decides few p h in
       record {
         last = r .0;
         accepting = r .1;
-        reads = accepts-read same-state (steps cs t) (final-state cs t) (state-weight t) (first t) no-step p h;
-        writes = accepts-written same-state (steps cs t) (final-state cs t) (state-weight t) (first t) no-step p h;
+        reads = accepts-read same-state (steps cs t) (final-state cs t) (state-weight t) (first-state t) no-step p h;
+        writes = accepts-written same-state (steps cs t) (final-state cs t) (state-weight t) (first-state t) no-step p h;
         costs = r .2;
       }
 
   applied-leads : (p : List ℕ) → accepts (applied cs t .result) p ≡ true → Reads-as cs t (applied cs t .result) p (through arc-origins p)
   applied-leads p h =
       let r : Steps-of p = steps-of p h in
-      let l : Leads cs t (first t) (taken p) (r .last) = trail-leads cs t (first t) (taken p) (r .last) (r .accepting .trail) in
+      let l : Trail-path cs t (first-state t) (taken p) (r .last) = trail-leads cs t (first-state t) (taken p) (r .last) (r .accepting .trail) in
       let a : Accepted cs t (taken p) (r .last) = trail-accepted cs t (taken p) (r .last) (r .accepting .trail) (r .accepting .final-end) in
       rw (through-numbers p)
       (record {
@@ -100,9 +101,9 @@ module _ (cs : List ℕ) (t : Transducer) (fine : built-refusal (applied cs t .r
       let r : Steps-of p = steps-of p h in
       let s : Steps-of q = steps-of q k in
       let same : taken p ≡ taken q =
-      never-two cs t (first t) (taken p) (taken q) (r .last) (s .last) (r .accepting .trail) (s .accepting .trail)
+      never-two cs t (first-state t) (taken p) (taken q) (r .last) (s .last) (r .accepting .trail) (s .accepting .trail)
       (sym (through-numbers p) ∙ e ∙ through-numbers q) in
-      accepts-once same-state (steps cs t) (final-state cs t) (state-weight t) (first t) no-step (steps-once cs t) p q h k same
+      accepts-once same-state (steps cs t) (final-state cs t) (state-weight t) (first-state t) no-step (steps-once cs t) p q h k same
 
   applied-every : (x : List ℕ) → accepts t x ≡ true → read-by t x ≡ cs
       → (p : List ℕ) × (accepts (applied cs t .result) p ≡ true) × (through arc-origins p ≡ x)
@@ -110,7 +111,7 @@ module _ (cs : List ℕ) (t : Transducer) (fine : built-refusal (applied cs t .r
   applied-every x a e =
       let f = accepting-followed cs t x a e in
       let r =
-      trail-accepts same-state (steps cs t) (final-state cs t) (state-weight t) (first t) no-step same-state-decides few (f .0 .taken) (f .0 .last)
+      trail-accepts same-state (steps cs t) (final-state cs t) (state-weight t) (first-state t) no-step same-state-decides few (f .0 .taken) (f .0 .last)
       (record { trail = f .0 .trail; final-end = f .1 }) in
       (r .0, r .1, through-numbers (r .0) ∙ ap numbers (r .2) ∙ f .0 .path)
 
@@ -140,19 +141,10 @@ unfolding through
 through-filled room os [] = refl
 through-filled room os (i ∷ p) = ap₂ _∷_ (getD-filled room os i) (through-filled room os p)
 
--- An origin for each arc that is kept.
-pub length-origins-kept : (z : Transducer) → length (origins-kept z) ≡ length (trimmed z .arcs)
-unfolding kept lone
-length-origins-kept z = on (useful z (z .start)) refl
-  where
-    on : (b : Bool) → useful z (z .start) ≡ b → length (origins-kept z) ≡ length (trimmed z .arcs)
-    on true u = rw (origins-some z u, trimmed-kept z u) (length-kept z 0 (z .arcs))
-    on false u = rw (origins-none z u, trimmed-lone z u)
-
 module _ (cs : List ℕ) (t z : Transducer) (os : List ℕ) (within : Within z) (one : Reads-one-to-one cs t z os) where
   through-kept : (p : List ℕ) → accepts (trimmed z) p ≡ true → through (through os (origins-kept z)) p ≡ through os (through (origins-kept z) p)
   through-kept p h =
-      through-twice (trimmed z) os (origins-kept z) (trimmed z .start) p (omega (arith, length-origins-kept z)) (accepts-accepting (trimmed z) p h .goes)
+      through-twice (trimmed z) os (origins-kept z) (trimmed z .start) p (omega (arith, length-origins z)) (accepts-accepting (trimmed z) p h .goes)
 
   trimmed-leads : (p : List ℕ) → accepts (trimmed z) p ≡ true → Reads-as cs t (trimmed z) p (through (through os (origins-kept z)) p)
   trimmed-leads p h =

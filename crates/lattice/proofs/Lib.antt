@@ -1,16 +1,23 @@
-pub mod AppliedNumbered
+-- Packing a lattice state
+pub mod Pack
+-- Lattice states and their steps, and the trails of steps that stand for paths of the transducer
+pub mod SameState
 pub mod AppliedSteps
 pub mod AppliedTrails
+-- The lattice before trimming, and the lattice: it can be written, its states are accessible, its paths are those that read the string
+pub mod LatticeGood
+pub mod AppliedNumbered
+pub mod BuiltAccessible
+pub mod LatticeLaw
+-- The walk by packed states: it finds the lattice before trimming
+pub mod KeyParts
+pub mod FoundBuilt
+-- The loops: the test of the string, the arcs of a state, the finals, the origins
+pub mod Symbols
+pub mod ServedArcs
+pub mod KeyFinals
+pub mod Tracing
+-- What the calls leave and answer
+pub mod Closing
 pub mod AppliedWritten
 pub mod ApplySays
-pub mod BuiltAccessible
-pub mod Closing
-pub mod FoundBuilt
-pub mod KeyFinals
-pub mod KeyParts
-pub mod LatticeGood
-pub mod LatticeLaw
-pub mod SameState
-pub mod ServedArcs
-pub mod Symbols
-pub mod Tracing

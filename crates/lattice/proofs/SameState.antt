@@ -3,9 +3,10 @@ use mathlib.Core.Path.{_≡_, refl}
 use mathlib.Core.Bool.{true}
 use lib.Dec.{eqb}
 use borrow.Author.Tests.{eqb-true, eq-eqb}
-use Rattle.wire.proofs.Places.{and-true}
+use Rattle.wire.proofs.Bool.{and-true}
 use Rattle.explore.specs.Explore.{Decides}
-use Rattle.lattice.specs.Apply.{State, same-state}
+use Rattle.lattice.specs.declared.State.{State}
+use Rattle.lattice.specs.Apply.{same-state}
 
 same-state-sound : (x y : State) → same-state x y ≡ true → x ≡ y
 unfolding same-state

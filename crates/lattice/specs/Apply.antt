@@ -10,15 +10,15 @@ use Rattle.transducer.specs.Format.{Transducer, barred}
 use Rattle.transducer.specs.Path.{is-final, final-weight}
 use Rattle.transducer.specs.Each.{each-arc, fits, passed}
 use Rattle.explore.specs.Explore.{Step, Built, built}
+use Rattle.lattice.specs.declared.State.{State}
+
+-- The most symbols of a string.
+abbrev pub max-string : ℕ
+max-string = 64
 
 -- 9: at most 64 symbols, none of them empty or barred
 unfoldable pub string-good : List ℕ → Bool
-string-good cs = leb (length cs) 64 && every (λ c. leb 1 c && ltb c barred) cs
-
--- A lattice state: a position in the string (paper 01: a place) and a state of the transducer.
-pub record State : Type 0 where
-  pub position : ℕ
-  pub state : ℕ
+string-good cs = leb (length cs) max-string && every (λ c. leb 1 c && ltb c barred) cs
 
 unfoldable pub same-state : State → State → Bool
 same-state x y = eqb (x .position) (y .position) && eqb (x .state) (y .state)
@@ -42,7 +42,9 @@ steps cs t x = each-arc t (x .state) (arc-steps cs t x)
 unfoldable pub final-state : (string : List ℕ) → Transducer → State → Bool
 final-state cs t x = eqb (x .position) (length cs) && is-final (t .finals) (x .state)
 
+abbrev pub first-state : Transducer → State
+first-state t = record { position = 0; state = t .start }
+
 -- The lattice before trimming.
 unfoldable pub applied : (string : List ℕ) → Transducer → Built State ℕ
-applied cs t =
-    built same-state (steps cs t) (final-state cs t) (λ x. final-weight (t .finals) (x .state)) (record { position = 0; state = t .start })
+applied cs t = built same-state (steps cs t) (final-state cs t) (λ x. final-weight (t .finals) (x .state)) (first-state t)

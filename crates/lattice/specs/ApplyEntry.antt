@@ -6,7 +6,7 @@ use Prim.Native.Nat.{ℕ}
 use lib.Dec.{ltb}
 use lib.ListN.{length}
 use Rattle.transducer.specs.declared.Written.{Written}
-use Rattle.transducer.specs.Format.{refusal, decode}
+use Rattle.transducer.specs.Format.{max-states, max-arcs, max-bytes, refusal, decode}
 use Rattle.transducer.specs.Encode.{encode}
 use Rattle.transducer.specs.Entry.{or-else, unless}
 use Rattle.explore.specs.Explore.{built-refusal, left-behind}
@@ -15,7 +15,7 @@ use Rattle.lattice.specs.Lattice.{lattice, lattice-origins}
 
 -- 10: a lent buffer is too short
 unfoldable pub apply-room : (table origins pairs : ℕ) → ℕ
-apply-room a b c = cond (ltb a 59404 || (ltb b 3072 || ltb c 1024)) 10 0
+apply-room a b c = cond (ltb a max-bytes || (ltb b max-arcs || ltb c max-states)) 10 0
 
 -- 1 to 8, 9 for the string, 10, then 11 and 12; 13 never holds of a lattice.
 unfoldable pub apply-refusal : (string bytes : List ℕ) → (table origins pairs : ℕ) → ℕ

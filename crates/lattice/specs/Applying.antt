@@ -3,27 +3,22 @@
 use mathlib.Core.Path.{_≡_}
 use mathlib.Core.Bool.{Bool, true, false, not, cond}
 use mathlib.Core.List.{List, [], _∷_, map}
-use Prim.Native.Nat.{ℕ, _+_, _*_, _-_, _/_, _%_, _≤_, _<_}
+use Prim.Native.Nat.{ℕ, _+_, _-_, _≤_, _<_}
 use lib.Dec.{eqb}
 use lib.ListN.{length, getD, take, drop}
 use Rattle.wire.specs.Bytes.{filled}
 use Rattle.transducer.specs.declared.Arc.{Arc}
 use Rattle.transducer.specs.declared.Final.{Final}
 use Rattle.transducer.specs.declared.Written.{Written}
-use Rattle.transducer.specs.Format.{Transducer, refusal, decode}
+use Rattle.transducer.specs.Format.{Transducer, max-states, max-arcs, max-bytes, arcs-at, refusal, decode}
 use Rattle.transducer.specs.Encode.{encode}
 use Rattle.transducer.specs.Leaf.{Opened, Indexed}
 use Rattle.explore.specs.Explore.{finals-from}
 use Rattle.explore.specs.Walk.{Keyed, Sofar, keyed, explored, Told}
 use Rattle.explore.specs.declared.Walk.{Walk}
-use Rattle.lattice.specs.Apply.{State, string-good, steps}
-
--- A lattice state as one number, and its parts again.
-unfoldable pub pack : State → ℕ
-pack x = x .position * 1024 + x .state
-
-unfoldable pub unpacked : (key : ℕ) → State
-unpacked k = record { position = k / 1024; state = k % 1024 }
+use Rattle.lattice.specs.declared.State.{State}
+use Rattle.lattice.specs.Apply.{string-good, steps, first-state}
+use Rattle.lattice.specs.Pack.{pack, unpacked}
 
 -- The steps of a key. A step has one origin.
 unfoldable pub one : ℕ → List ℕ
@@ -36,8 +31,8 @@ next cs t k = map (keyed pack one) (steps cs t (unpacked k))
 unfoldable pub arc-keyed : Arc → (i key : ℕ) → Keyed
 arc-keyed a i key = record { target = key; input = a .input; output = a .output; weight = a .weight; origins = i ∷ [] }
 
-unfoldable pub found : (string : List ℕ) → Transducer → Sofar
-found cs t = explored (next cs t) (t .start)
+abbrev pub found : (string : List ℕ) → Transducer → Sofar
+found cs t = explored (next cs t) (pack (first-state t))
 
 -- A good string, and an accepted transducer with its first-arc index.
 pub record Applicable (cs bs : List ℕ) (first : ℕ) (index : List ℕ) : Type 0 where
@@ -45,14 +40,14 @@ pub record Applicable (cs bs : List ℕ) (first : ℕ) (index : List ℕ) : Type
   pub opened : Opened bs first
   pub indexed : Indexed (decode bs) index
 
--- The state of a key is one of the lattice's.
-pub record Key-in (cs : List ℕ) (t : Transducer) (key : ℕ) : Type 0 where
-  pub position-in : key / 1024 ≤ length cs
-  pub state-in : key % 1024 < t .states
+-- The states that a lattice may have.
+pub record State-in (cs : List ℕ) (t : Transducer) (x : State) : Type 0 where
+  pub position-in : x .position ≤ length cs
+  pub state-in : x .state < t .states
 
 -- The final code of the state of a key: that of its state where its position is the last, else 0.
 unfoldable pub key-code : (codes : List ℕ) → (last key : ℕ) → ℕ
-key-code codes last k = cond (eqb (k / 1024) last) (getD codes (k % 1024) 0) 0
+key-code codes last k = cond (eqb (unpacked k .position) last) (getD codes (unpacked k .state) 0) 0
 
 -- The finals of the states of some keys, by their final codes.
 unfoldable pub key-finals : (codes : List ℕ) → (last : ℕ) → (keys : List ℕ) → List Final
@@ -63,19 +58,23 @@ unfoldable pub closed : (codes : List ℕ) → (last : ℕ) → Sofar → Transd
 closed codes last b =
     record { states = length (b .keys); start = 0; finals = key-finals codes last (b .keys); arcs = b .arcs }
 
+-- Where the walk writes the arcs: behind room for the head and as many finals as there can be.
+abbrev pub arcs-from : ℕ
+arcs-from = arcs-at max-states
+
 -- Its bytes stand from a place on, where there are at most 3,072 arcs.
 pub record Closes (t : Transducer) (from : ℕ) (table table' : List ℕ) : Type 0 where
-  pub begins : from + 12 + 10 * length (t .finals) ≡ 10252
+  pub begins : from + arcs-at (length (t .finals)) ≡ arcs-from
   pub kept : length table' ≡ length table
   pub stands : take (length (encode t)) (drop from table') ≡ encode t
 
 -- A good string, an accepted transducer, and buffers that are long enough.
-pub record Ready (cs bs : List ℕ) (lattice origins pairs : ℕ) : Type 0 where
+pub record Apply-asks (cs bs : List ℕ) (lattice origins pairs : ℕ) : Type 0 where
   pub good : string-good cs ≡ true
   pub accepted : refusal bs ≡ 0
-  pub lattice-long : 59404 ≤ lattice
-  pub origins-long : 3072 ≤ origins
-  pub pairs-long : 1024 ≤ pairs
+  pub lattice-long : max-bytes ≤ lattice
+  pub origins-long : max-arcs ≤ origins
+  pub pairs-long : max-states ≤ pairs
 
 -- A refusal once the buffers have been written to.
 pub record Refused-with (number : ℕ) (r : Written) (a a' b b' c c' : List ℕ) : Type 0 where

@@ -2,42 +2,51 @@
 ghost use mathlib.Core.Path.{_≡_};
 ghost use mathlib.Core.Bool.{cond};
 ghost use mathlib.Core.List.{List, map};
-ghost use Prim.Native.Nat.{ℕ, _+_, _*_, _≤_, _<_};
+ghost use Prim.Native.Nat.{ℕ, _≤_, _<_};
 ghost use lib.Dec.{ltb};
 ghost use lib.ListN.{length, getD, take};
 ghost use lib.Seq.{sets};
-ghost use Rattle.transducer.specs.Format.{decode};
+ghost use Rattle.transducer.specs.Format.{max-states, max-arcs, max-bytes, head-bytes, arcs-at, decode};
 ghost use Rattle.transducer.specs.Encode.{final-records};
 ghost use Rattle.explore.specs.Explore.{built-refusal};
 ghost use Rattle.explore.specs.Walk.{Sofar, taken, state-served, Walked, Went, Walk-says, Told};
 ghost use Rattle.lattice.specs.Apply.{string-good, applied};
 ghost use Rattle.lattice.specs.ApplyEntry.{Apply-says, apply-refusal};
-ghost use Rattle.lattice.specs.Applying.{next, arc-keyed, found, Applicable, Key-in, key-code, key-finals, closed, Closes, Ready, Refused-with};
+ghost use Rattle.lattice.specs.Pack.{unpacked};
+ghost use Rattle.lattice.specs.Applying.{next, arc-keyed, found, Applicable, State-in, key-code, key-finals, closed, Closes};
+ghost use Rattle.lattice.specs.Applying.{Apply-asks, Refused-with};
+use crate::packing;
 use explore::Walk;
+use transducer::ARC_BYTES;
 use transducer::Arc;
 use transducer::Final;
+use transducer::MAX_ARCS;
+use transducer::MAX_BYTES;
+use transducer::MAX_STATES;
 use transducer::Written;
 
-const MAX_STATES: usize = 1024;
+// The most symbols of a string.
+const MAX_STRING: usize = 64;
 
-const MAX_ARCS: usize = 3072;
+// The label that no arc may bear.
+const BARRED: u16 = 65535;
 
-// Where the arcs are written: behind room for the head and 1,024 finals.
-const ARCS_AT: usize = 10252;
+// Where the walk writes the arcs: behind room for the head and as many finals as there can be.
+const ARCS_FROM: usize = MAX_BYTES - ARC_BYTES * MAX_ARCS;
 
 // Whether a string has at most 64 symbols, none of them empty or barred.
 fn string_ok(string: &[u16]) -> bool
     ensures { λ r. ⌜ r ≡ string-good (now (string .entry)) ⌝ }
 {
     let n = string.len();
-    if 64 < n {
+    if MAX_STRING < n {
         return false;
     }
     let mut good = true;
     let mut i = 0;
     while i < n {
         let c = string[i];
-        good = good & (1 <= c) & (c < 65535);
+        good = good & (1 <= c) & (c < BARRED);
         i += 1;
     }
     good
@@ -62,13 +71,14 @@ fn take_step(
     table: &mut [u8],
     origins: &mut [u16],
     states: &mut [u32],
-    heads: &mut [u16; 1024],
-    links: &mut [u16; 1024],
+    heads: &mut [u16; MAX_STATES],
+    links: &mut [u16; MAX_STATES],
 ) -> Walk
-    requires { ⌜ i < 65536 ⌝ }
+    requires { ⌜ i < max-arcs ⌝ }
     requires { ⌜ ((b : Sofar) × Walked 1 b w (now table) (now origins) (now states) (now heads) (now links)) ⌝ }
     ensures { λ z. ⌜ ((b : Sofar) → Walked 1 b w (now (table .entry)) (now (origins .entry)) (now (states .entry)) (now (heads .entry)) (now (links .entry)) →
-        Went 1 (taken (a .source) (arc-keyed a i key) b) z (now (table .exit)) (now (origins .exit)) (now (states .exit)) (now (heads .exit)) (now (links .exit))) ⌝ }
+        Went 1 (taken (a .source) (arc-keyed a i key) b) z
+        (now (table .exit)) (now (origins .exit)) (now (states .exit)) (now (heads .exit)) (now (links .exit))) ⌝ }
 {
     let count = w.states;
     let number = explore::find(states, heads, links, count, key);
@@ -97,24 +107,26 @@ fn serve(
     string: &[u16],
     bytes: &[u8],
     first: usize,
-    index: &[u16; 1025],
+    index: &[u16; MAX_STATES + 1],
     source: usize,
     w: Walk,
     table: &mut [u8],
     origins: &mut [u16],
     states: &mut [u32],
-    heads: &mut [u16; 1024],
-    links: &mut [u16; 1024],
+    heads: &mut [u16; MAX_STATES],
+    links: &mut [u16; MAX_STATES],
 ) -> Walk
-    requires { ⌜ Applicable (now string) (now bytes) first (now index) × (source < w .states) × Key-in (now string) (decode (now bytes)) (getD (now states) source 0) ⌝ }
+    requires { ⌜ Applicable (now string) (now bytes) first (now index) × (source < w .states)
+        × State-in (now string) (decode (now bytes)) (unpacked (getD (now states) source 0)) ⌝ }
     requires { ⌜ ((b : Sofar) × Walked 1 b w (now table) (now origins) (now states) (now heads) (now links)) ⌝ }
     ensures { λ z. ⌜ ((b : Sofar) → Walked 1 b w (now (table .entry)) (now (origins .entry)) (now (states .entry)) (now (heads .entry)) (now (links .entry)) →
         Went 1 (state-served (next (now (string .entry)) (decode (now (bytes .entry)))) source b) z
         (now (table .exit)) (now (origins .exit)) (now (states .exit)) (now (heads .exit)) (now (links .exit))) ⌝ }
 {
     let key = states[source];
-    let q = (key % 1024) as usize;
-    let position = key / 1024;
+    let x = packing::unpack(key);
+    let q = x.state as usize;
+    let position = x.position;
     let symbol = symbol_at(string, position as usize);
     let end = index[q + 1] as usize;
     let mut i = index[q] as usize;
@@ -138,7 +150,7 @@ fn serve(
             target: a.target,
             weight: a.weight,
         };
-        let to = (position + moved) * 1024 + (a.target as u32);
+        let to = packing::pack(position + moved, a.target as u32);
         walk = take_step(step, at, to, walk, table, origins, states, heads, links);
         if walk.full {
             return walk;
@@ -152,20 +164,21 @@ fn walk_all(
     string: &[u16],
     bytes: &[u8],
     first: usize,
-    index: &[u16; 1025],
+    index: &[u16; MAX_STATES + 1],
     start: u32,
     table: &mut [u8],
     origins: &mut [u16],
     states: &mut [u32],
 ) -> Walk
     requires { ⌜ Applicable (now string) (now bytes) first (now index) × (start ≡ decode (now bytes) .start) ⌝ }
-    requires { ⌜ (59404 ≤ length (now table)) × (3072 ≤ length (now origins)) × (1024 ≤ length (now states)) ⌝ }
+    requires { ⌜ (max-bytes ≤ length (now table)) × (max-arcs ≤ length (now origins)) × (max-states ≤ length (now states)) ⌝ }
     ensures { λ r. ⌜ Walk-says 1 (found (now (string .entry)) (decode (now (bytes .entry)))) r (now (table .entry)) (now (table .exit))
         (now (origins .entry)) (now (origins .exit)) (now (states .entry)) (now (states .exit)) ⌝ }
 {
-    let mut heads = [0u16; 1024];
-    let mut links = [0u16; 1024];
-    explore::insert(states, &mut heads, &mut links, 0, start);
+    let mut heads = [0u16; MAX_STATES];
+    let mut links = [0u16; MAX_STATES];
+    let first_key = packing::pack(0, start);
+    explore::insert(states, &mut heads, &mut links, 0, first_key);
     let mut walk = Walk {
         states: 1,
         arcs: 0,
@@ -196,19 +209,20 @@ fn walk_all(
 }
 
 // The final code of the state of a key: that of its state where its position is the last, else 0.
-fn code_of(codes: &[u32; 1024], last: u32, key: u32) -> u32
+fn code_of(codes: &[u32; MAX_STATES], last: u32, key: u32) -> u32
     ensures { λ r. ⌜ r ≡ key-code (now (codes .entry)) last key ⌝ }
 {
-    if key / 1024 == last {
-        let q = (key % 1024) as usize;
+    let x = packing::unpack(key);
+    if x.position == last {
+        let q = x.state as usize;
         return codes[q];
     }
     0
 }
 
 // How many of the first `count` states are final.
-fn final_count(codes: &[u32; 1024], last: u32, states: &[u32], count: usize) -> usize
-    requires { ⌜ (count ≤ length (now states)) × (count ≤ 1024) ⌝ }
+fn final_count(codes: &[u32; MAX_STATES], last: u32, states: &[u32], count: usize) -> usize
+    requires { ⌜ (count ≤ length (now states)) × (count ≤ max-states) ⌝ }
     ensures { λ r. ⌜ (r ≡ length (key-finals (now (codes .entry)) last (take count (now (states .entry))))) × (r ≤ count) ⌝ }
 {
     let mut finals = 0;
@@ -223,11 +237,12 @@ fn final_count(codes: &[u32; 1024], last: u32, states: &[u32], count: usize) -> 
     finals
 }
 
-// Writes the finals of the first `count` states, in order, from 12 on.
-fn put_finals(codes: &[u32; 1024], last: u32, states: &[u32], count: usize, table: &mut [u8])
-    requires { ⌜ (count ≤ length (now states)) × (count ≤ 1024)
-        × (12 + 10 * length (key-finals (now codes) last (take count (now states))) ≤ length (now table)) ⌝ }
-    ensures { λ _. ⌜ now (table .exit) ≡ sets (now (table .entry)) 12 (final-records (key-finals (now (codes .entry)) last (take count (now (states .entry))))) ⌝ }
+// Writes the finals of the first `count` states, in order, behind the head.
+fn put_finals(codes: &[u32; MAX_STATES], last: u32, states: &[u32], count: usize, table: &mut [u8])
+    requires { ⌜ (count ≤ length (now states)) × (count ≤ max-states)
+        × (arcs-at (length (key-finals (now codes) last (take count (now states)))) ≤ length (now table)) ⌝ }
+    ensures { λ _. ⌜ now (table .exit) ≡ sets (now (table .entry)) head-bytes
+        (final-records (key-finals (now (codes .entry)) last (take count (now (states .entry))))) ⌝ }
 {
     let mut finals = 0;
     let mut s = 0;
@@ -240,22 +255,22 @@ fn put_finals(codes: &[u32; 1024], last: u32, states: &[u32], count: usize, tabl
                 state: state,
                 weight: code - 1,
             };
-            transducer::put_final(table, 12 + 10 * finals, f);
+            transducer::put_final(table, transducer::arcs_at(finals), f);
             finals += 1;
         }
     }
 }
 
 // Writes head and finals in front of the arcs. Answers where the head begins.
-fn close(codes: &[u32; 1024], last: u32, states: &[u32], w: Walk, table: &mut [u8]) -> usize
-    requires { ⌜ ((b : Sofar) × (origins : List ℕ) × Told 1 b w (now table) origins (now states)) × (w .arcs ≤ 3072) ⌝ }
+fn close(codes: &[u32; MAX_STATES], last: u32, states: &[u32], w: Walk, table: &mut [u8]) -> usize
+    requires { ⌜ ((b : Sofar) × (origins : List ℕ) × Told 1 b w (now table) origins (now states)) × (w .arcs ≤ max-arcs) ⌝ }
     ensures { λ r. ⌜ ((b : Sofar) (origins : List ℕ) → Told 1 b w (now (table .entry)) origins (now (states .entry)) →
         Closes (closed (now (codes .entry)) last b) r (now (table .entry)) (now (table .exit))) ⌝ }
 {
     let count = w.states;
     let arcs = w.arcs;
     let finals = final_count(codes, last, states, count);
-    let from = ARCS_AT - 12 - 10 * finals;
+    let from = ARCS_FROM - transducer::arcs_at(finals);
     let part = &mut table[from..];
     put_finals(codes, last, states, count, part);
     transducer::put_head(part, count as u16, arcs as u16, finals as u16, 0);
@@ -263,8 +278,8 @@ fn close(codes: &[u32; 1024], last: u32, states: &[u32], w: Walk, table: &mut [u
 }
 
 // Each of the first `count` origins, an arc of the lattice before trimming, becomes the arc that this one came from.
-fn trace(origins: &mut [u16], count: usize, arcs: &[u16; 3072])
-    requires { ⌜ (count ≤ length (now origins)) × ((i : ℕ) → i < count → getD (now origins) i 0 < 3072) ⌝ }
+fn trace(origins: &mut [u16], count: usize, arcs: &[u16; MAX_ARCS])
+    requires { ⌜ (count ≤ length (now origins)) × ((i : ℕ) → i < count → getD (now origins) i 0 < max-arcs) ⌝ }
     ensures { λ _. ⌜ now (origins .exit) ≡ sets (now (origins .entry)) 0 (map (λ i. getD (now (arcs .entry)) i 0) (take count (now (origins .entry)))) ⌝ }
 {
     let mut i = 0;
@@ -277,7 +292,8 @@ fn trace(origins: &mut [u16], count: usize, arcs: &[u16; 3072])
 
 // Refuses with 11 or 12: every buffer is all zeros.
 fn refuse(lattice: &mut [u8], origins: &mut [u16], pairs: &mut [u32], number: u32) -> Written
-    ensures { λ r. ⌜ Refused-with number r (now (lattice .entry)) (now (lattice .exit)) (now (origins .entry)) (now (origins .exit)) (now (pairs .entry)) (now (pairs .exit)) ⌝ }
+    ensures { λ r. ⌜ Refused-with number r
+        (now (lattice .entry)) (now (lattice .exit)) (now (origins .entry)) (now (origins .exit)) (now (pairs .entry)) (now (pairs .exit)) ⌝ }
 {
     wire::clear8(lattice, 0);
     wire::clear16(origins, 0);
@@ -293,21 +309,21 @@ fn apply_into(
     origins: &mut [u16],
     pairs: &mut [u32],
 ) -> Written
-    requires { ⌜ Ready (now string) (now bytes) (length (now lattice)) (length (now origins)) (length (now pairs)) ⌝ }
+    requires { ⌜ Apply-asks (now string) (now bytes) (length (now lattice)) (length (now origins)) (length (now pairs)) ⌝ }
     ensures { λ r. ⌜ Apply-says (now (string .entry)) (now (bytes .entry)) (built-refusal (applied (now (string .entry)) (decode (now (bytes .entry))) .result))
         r (now (lattice .entry)) (now (lattice .exit)) (now (origins .entry)) (now (origins .exit)) (now (pairs .entry)) (now (pairs .exit)) ⌝ }
 {
     let head = transducer::head_of(bytes);
     let f = head.finals as usize;
-    let first = 12 + 10 * f;
+    let first = transducer::arcs_at(f);
     let index = transducer::first_arcs_by_blocks(
         bytes,
         first,
         head.states as usize,
         head.arcs as usize,
     );
-    let mut table = [0u8; 59404];
-    let mut arcs = [0u16; 3072];
+    let mut table = [0u8; MAX_BYTES];
+    let mut arcs = [0u16; MAX_ARCS];
     let w = walk_all(
         string,
         bytes,
@@ -327,7 +343,7 @@ fn apply_into(
     }
     let codes = transducer::final_codes(bytes, f);
     let from = close(&codes, string.len() as u32, pairs, w, &mut table);
-    let end = ARCS_AT + 16 * m;
+    let end = ARCS_FROM + ARC_BYTES * m;
     let len = trim::trim_into(&table[from..end], true, lattice, origins);
     let kept = wire::u16_at(lattice, 6) as usize;
     trace(origins, kept, &arcs);
@@ -357,13 +373,13 @@ pub fn apply(
     if !string_ok(string) {
         return transducer::refused(9);
     }
-    if lattice.len() < 59404 {
+    if lattice.len() < MAX_BYTES {
         return transducer::refused(10);
     }
-    if origins.len() < 3072 {
+    if origins.len() < MAX_ARCS {
         return transducer::refused(10);
     }
-    if pairs.len() < 1024 {
+    if pairs.len() < MAX_STATES {
         return transducer::refused(10);
     }
     apply_into(string, table, lattice, origins, pairs)

@@ -1,4 +1,11 @@
 // Applying an input string to a transducer.
 mod applying;
+mod packing;
 
 pub use applying::apply;
+
+// A lattice state: a position in the string (paper 01: a place) and a state of the transducer.
+pub struct State {
+    pub position: u32,
+    pub state: u32,
+}

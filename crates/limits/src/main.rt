@@ -4,12 +4,12 @@
 ghost use Prim.Native.Nat.{_<_};
 ghost use lib.ListN.{length};
 
-mod codec;
 mod composing;
 mod latticing;
 mod lent;
 mod load;
 mod show;
+mod tables;
 mod telling;
 
 // The bytes that all cases take at most.
@@ -18,9 +18,9 @@ const INPUT: usize = 524288;
 // Makes the call that a case names by number.
 fn call(number: u8, case: &[u8], room: u8) {
     match number {
-        1 => codec::read(case, room),
-        2 => codec::write(case, room),
-        3 => codec::round_trip(case),
+        1 => tables::read(case, room),
+        2 => tables::write(case, room),
+        3 => tables::round_trip(case),
         4 => composing::compose(case, room),
         5 => latticing::apply(case, room),
         6 => latticing::trim(case, room),

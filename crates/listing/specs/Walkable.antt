@@ -8,10 +8,10 @@ use Rattle.transducer.specs.Format.{decode}
 use Rattle.transducer.specs.Prepare.{Prepared}
 use Rattle.paths.specs.declared.Count.{Count}
 use Rattle.paths.specs.Count.{endless}
-use Rattle.paths.specs.Sweep.{Settled}
+use Rattle.paths.specs.Sweep.{Path-counts}
 
 -- Bytes that are prepared, with finitely many accepting paths, and the counts by state.
 pub record Walkable (bs : List ℕ) (shape : Shape) (index codes : List ℕ) (counts : List Count) : Type 0 where
   pub prepared : Prepared bs shape index codes
-  pub settled : Settled (decode bs) counts
+  pub settled : Path-counts (decode bs) counts
   pub finite : endless (decode bs) ≡ false

@@ -9,6 +9,7 @@ ghost use Rattle.listing.specs.Walkable.{Walkable};
 use crate::Listed;
 use crate::text;
 use paths::Count;
+use transducer::INDEX_LEN;
 use transducer::MAX_STATES;
 use transducer::Shape;
 
@@ -18,7 +19,7 @@ const NEWLINE: u8 = 10;
 fn put_path(
     table: &[u8],
     shape: Shape,
-    index: &[u16; MAX_STATES + 1],
+    index: &[u16; INDEX_LEN],
     codes: &[u32; MAX_STATES],
     counts: [Count; MAX_STATES],
     k: u32,
@@ -58,7 +59,7 @@ fn put_path(
 fn put_paths(
     table: &[u8],
     shape: Shape,
-    index: &[u16; MAX_STATES + 1],
+    index: &[u16; INDEX_LEN],
     codes: &[u32; MAX_STATES],
     counts: [Count; MAX_STATES],
     count: u32,
@@ -82,7 +83,7 @@ fn put_paths(
 fn put_counted(
     table: &[u8],
     shape: Shape,
-    index: &[u16; MAX_STATES + 1],
+    index: &[u16; INDEX_LEN],
     codes: &[u32; MAX_STATES],
     counts: [Count; MAX_STATES],
     out: &mut [u8],
@@ -108,7 +109,7 @@ fn put_listing(table: &[u8], out: &mut [u8]) -> usize
     requires { ⌜ (refusal (now table) ≡ 0) × (least-room ≤ length (now out)) ⌝ }
     ensures { λ r. ⌜ Wrote (now (out .entry)) (now (out .exit)) 0 r (listing-text (decode (now (table .entry)))) ⌝ }
 {
-    let mut index = [0u16; MAX_STATES + 1];
+    let mut index = [0u16; INDEX_LEN];
     let mut codes = [0u32; MAX_STATES];
     let shape = transducer::prepare(table, &mut index, &mut codes);
     let totals = paths::counts_by_state(

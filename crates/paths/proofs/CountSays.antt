@@ -9,7 +9,7 @@ use Rattle.transducer.specs.Format.{decode, refusal}
 use Rattle.transducer.specs.Entry.{or-else, unless}
 use Rattle.paths.specs.declared.Count.{Count}
 use Rattle.paths.specs.Count.{endless}
-use Rattle.paths.specs.Sweep.{at-state, Settled}
+use Rattle.paths.specs.Sweep.{at-state, Path-counts}
 use Rattle.paths.specs.Entry.{count-refusal, Count-says}
 use Rattle.paths.proofs.Sweep.{settled-path-count}
 use Rattle.paths.proofs.Ready.{Sized}
@@ -31,7 +31,7 @@ count-endless {bs} {n} e h l q =
     rw (ok, ends) (record { refusal-is = refl; count-is = refl })
 
 pub count-found : {bs : List ℕ} {n : ℕ} {b : Bool} {cs : List Count} {start : ℕ} → Sized (decode bs) → n ≡ refusal bs → n ≡ 0 → b ≡ endless (decode bs) → b ≡ false
-    → Settled (decode bs) cs → start ≡ decode bs .start → Count-says bs (count-refusal bs) (record { refusal = 0; count = at-state cs start })
+    → Path-counts (decode bs) cs → start ≡ decode bs .start → Count-says bs (count-refusal bs) (record { refusal = 0; count = at-state cs start })
 unfolding count-refusal or-else unless
 count-found {bs} {n} {b} {cs} {start} z e h l q k s =
     let ok : refusal bs ≡ 0 = sym e ∙ h in

@@ -2,7 +2,7 @@
 -- goes on the stack. Assumes nothing.
 use mathlib.Core.Path.{_≡_, refl, sym, ap, _∙_}
 use mathlib.Core.Bool.{Bool, true, false, _&&_, not, cond}
-use mathlib.Core.List.{List, _∷_}
+use mathlib.Core.List.{List}
 use Prim.Native.Nat.{ℕ, zero, suc, _+_, _-_, _≤_, _<_}
 use native.Mathlib.Nat.{not-suc-le-zero}
 use native.Mathlib.Numerals.{add-one}
@@ -11,21 +11,18 @@ use native.Mathlib.Decide.{ℕ-discrete}
 use lib.Dec.{ltb, eqb}
 use lib.ListN.{length, getD, set, replicate, length-set, length-replicate, getD-replicate}
 use lib.Seq.{getD-set-same, getD-set-other}
-use borrow.Author.Tests.{eqb-true, eqb-false, eq-eqb, ne-eqb, ltb-true, ltb-false, lt-ltb, le-ltb, not-true, not-false}
-use Rattle.wire.proofs.Places.{and-true, true-and}
+use borrow.Author.Tests.{eqb-true, eq-eqb, ne-eqb, lt-ltb, le-ltb, not-true}
+use Rattle.wire.proofs.Bool.{clash, is-false, and-true, true-and}
 use Rattle.transducer.specs.Format.{Transducer}
 use Rattle.transducer.specs.Path.{arc}
 use Rattle.reach.specs.Counted.{count}
-use Rattle.reach.specs.Index.{into-below, place, By-target}
 use Rattle.reach.proofs.Counted.{count-wider, count-before, count-onto, count-none, count-most}
-use Rattle.reach.proofs.ByTarget.{place-low, place-high, place-injective, stands-at}
-use Rattle.paths.specs.Count.{some-arc, can-accept}
-use Rattle.paths.specs.Sweep.{marked, Dead, leads-on}
+use Rattle.reach.specs.Reach.{some-arc}
+use Rattle.reach.proofs.Reach.{SomeAt, some-arc-at, at-some-arc}
+use Rattle.paths.specs.Sweep.{marked, leads-on}
 use Rattle.paths.specs.Counting.{open-at, by-marks, Opened-arcs, is-open, Not-on, Stacked, Counting}
-use Rattle.transducer.proofs.Runs.{cons-accepting}
-use Rattle.paths.proofs.GoesOn.{Some, some-arc-true, true-some-arc, can-accept-some}
 use Rattle.paths.proofs.Ready.{Sized}
-use Rattle.paths.proofs.MarksInPlace.{clash, not-so, marked-set-same, marked-set-other}
+use Rattle.paths.proofs.MarksInPlace.{shut-marked, marked-set-same, marked-set-other}
 
 -- Counts of numbers with a property
 
@@ -50,7 +47,7 @@ count-less (suc n) i f g b p q h = on (λ l. count-less n i f g l p q (λ k m. h
         rw (h n (omega arith) m) (omega arith)
 
 count-zero : (n : ℕ) (f : ℕ → Bool) → count n f ≡ 0 → (k : ℕ) → k < n → f k ≡ false
-count-zero n f e k h = not-so (f k) (λ q. omega (arith, count-before f k n h q))
+count-zero n f e k h = is-false (f k) (λ q. omega (arith, count-before f k n h q))
 
 -- Open arcs, while they are counted
 
@@ -182,29 +179,22 @@ counting-same t d e ms left stack top h w =
       stacked = w .stacked;
     }
 
--- At first the marked states are the dead ones.
-pub counting-first : (t : Transducer) → Sized t → (ms : List Bool) (left stack : List ℕ) (top : ℕ) → Dead t ms
-    → Opened-arcs t (by-marks t ms) (length (t .arcs)) left
+-- At first no arc leads from a marked state to an unmarked one.
+pub counting-first : (t : Transducer) → Sized t → (ms : List Bool) (left stack : List ℕ) (top : ℕ) → length ms ≡ 1024
+    → ((u : ℕ) → u < t .states → marked ms u ≡ true → leads-on t ms u ≡ false) → Opened-arcs t (by-marks t ms) (length (t .arcs)) left
     → Stacked (t .states) ms left stack top → Counting t (by-marks t ms) ms left stack top
 unfolding open-at by-marks
-counting-first t z ms left stack top d o k = record { marks-long = d .long; opened = o; shut = shut; stacked = k }
+counting-first t z ms left stack top long closed o k = record { marks-long = long; opened = o; shut = shut; stacked = k }
   where
-    -- An arc of a dead state leads to a dead one.
     led : (u : ℕ) → u < t .states → marked ms u ≡ true → (i : ℕ) → i < length (t .arcs) → eqb (arc t i .source) u && not (marked ms (arc t i .target)) ≡ false
     led u b m i l =
-        not-so (eqb (arc t i .source) u && not (marked ms (arc t i .target)))
+        is-false (eqb (arc t i .source) u && not (marked ms (arc t i .target)))
         (λ q. on (and-true (eqb (arc t i .source) u) (not (marked ms (arc t i .target))) q))
       where
         on : (eqb (arc t i .source) u ≡ true) × (not (marked ms (arc t i .target)) ≡ true) → ⊥
         on (leaves, free) =
-            let v : ℕ = arc t i .target in
-            let is : arc t i .source ≡ u = eqb-true (arc t i .source) u leaves in
-            let live : can-accept (t .states) t v ≡ true = not-false (can-accept (t .states) t v)
-            (sym (d .dead v (z .within .arrives i l)) ∙ not-true (marked ms v) free) in
-            let p = can-accept-some t (z .within) v (z .within .arrives i l) .0 live in
-            let alive : can-accept (t .states) t u ≡ true = can-accept-some t (z .within) u b .1
-            (i ∷ p .0, cons-accepting t u i (p .0) (record { below = l; leaves = is; rest = p .1 })) in
-            clash (can-accept (t .states) t u) alive (not-true (can-accept (t .states) t u) (sym (d .dead u b) ∙ m))
+            clash (shut-marked t ms u (closed u b m) i l (eqb-true (arc t i .source) u leaves))
+            (not-true (marked ms (arc t i .target)) free)
 
     shut : (u : ℕ) → u < t .states → marked ms u ≡ true → getD left u 0 ≡ 0
     shut u b m = o .lefts u (omega (arith, z .states)) ∙ count-none (length (t .arcs)) (open-at t (by-marks t ms) u) (led u b m)
@@ -220,7 +210,20 @@ counting-rest t z ms left stack w s b m = on (ℕ-discrete (getD left s 0) 0)
     on (no n) =
         let some = count-onto (open-at t (by-marks t ms) s) (length (t .arcs)) 0 (omega (arith, w .opened .lefts s (omega (arith, z .states)), n)) in
         let both = and-true (eqb (arc t (some .place) .source) s) (not (marked ms (arc t (some .place) .target))) (some .has) in
-        true-some-arc (t .arcs) s (λ v. not (marked ms v)) (some .place) (some .below) (eqb-true (arc t (some .place) .source) s (both .0)) (both .1)
+        at-some-arc (t .arcs) s (λ v. not (marked ms v)) (some .place) (some .below) (eqb-true (arc t (some .place) .source) s (both .0)) (both .1)
+
+-- No arc of a state without open arcs leads to an unmarked one.
+pub none-open : (t : Transducer) → Sized t → (ms : List Bool) (left : List ℕ) (s : ℕ) → Opened-arcs t (by-marks t ms) (length (t .arcs)) left
+    → s < t .states → getD left s 0 ≡ 0 → leads-on t ms s ≡ false
+unfolding leads-on open-at by-marks arc
+none-open t z ms left s o b e = is-false (some-arc (t .arcs) s (λ v. not (marked ms v))) (λ q. none (some-arc-at (t .arcs) s (λ v. not (marked ms v)) q))
+  where
+    none : SomeAt (t .arcs) s (λ v. not (marked ms v)) → ⊥
+    none a =
+        let zero' : count (length (t .arcs)) (open-at t (by-marks t ms) s) ≡ 0 = sym (o .lefts s (omega (arith, b, z .states))) ∙ e in
+        clash (true-and (eqb (arc t (a .place) .source) s) (not (marked ms (arc t (a .place) .target))) (eq-eqb (arc t (a .place) .source) s (a .leaves))
+        (a .for))
+        (count-zero (length (t .arcs)) (open-at t (by-marks t ms) s) zero' (a .place) (a .below))
 
 -- The state on top
 
@@ -230,17 +233,7 @@ module _ (t : Transducer) (z : Sized t) (ms : List Bool) (left stack : List ℕ)
   top-state = rw is (w .stacked .held top (omega arith))
 
   pub top-shut : leads-on t ms s ≡ false
-  unfolding leads-on open-at by-marks arc
-  top-shut = not-so (some-arc (t .arcs) s (λ v. not (marked ms v))) (λ q. none (some-arc-true (t .arcs) s (λ v. not (marked ms v)) q))
-    where
-      none : Some (t .arcs) s (λ v. not (marked ms v)) → ⊥
-      none a =
-          let zero' : count (length (t .arcs)) (open-at t (by-marks t ms) s) ≡ 0 = sym (w .opened .lefts s (omega (arith, top-state .0, z .states))) ∙
-          top-state .2 in
-          clash (open-at t (by-marks t ms) s (a .number))
-          (true-and (eqb (arc t (a .number) .source) s) (not (marked ms (arc t (a .number) .target))) (eq-eqb (arc t (a .number) .source) s (a .leaves))
-          (a .given))
-          (count-zero (length (t .arcs)) (open-at t (by-marks t ms) s) zero' (a .number) (a .below))
+  top-shut = none-open t z ms left s (w .opened) (top-state .0) (top-state .2)
 
   -- Taken off and marked.
   pub counting-pop : Counting t (by-marks t ms) (set ms s true) left stack top
@@ -265,72 +258,12 @@ module _ (t : Transducer) (z : Sized t) (ms : List Bool) (left stack : List ℕ)
       shut u b m (no n) = w .shut u b (sym (marked-set-other ms s true u n) ∙ m)
 
       all : (u : ℕ) → u < t .states → marked (set ms s true) u ≡ false → getD left u 0 ≡ 0 → Dec (u ≡ s) → Not-on stack top u → ⊥
-      all u b m e (yes y) off = clash (marked (set ms s true) s) (marked-set-same ms s true (omega (arith, top-state .0, w .marks-long, z .states))) (rw y at m)
+      all u b m e (yes y) off = clash (marked-set-same ms s true (omega (arith, top-state .0, w .marks-long, z .states))) (rw y at m)
       all u b m e (no n) off = w .stacked .all u b (sym (marked-set-other ms s true u n) ∙ m) e (λ j h q. last j h q (ℕ-discrete j top))
         where
           last : (j : ℕ) → j < top + 1 → getD stack j 0 ≡ u → Dec (j ≡ top) → ⊥
           last j h q (yes y) = n (sym q ∙ (ap (λ (i : ℕ). getD stack i 0) y ∙ sym is))
           last j h q (no o) = off j (omega arith) q
-
--- The arcs into the state that was on top, those before place j done.
-
-unfoldable pub done-before : Transducer → List Bool → (s j : ℕ) → (k : ℕ) → Bool
-done-before t ms s j k = cond (eqb (arc t k .target) s) (ltb (place t k) j) (marked ms (arc t k .target))
-
-pub before-first : (t : Transducer) (ms : List Bool) (s j : ℕ) → marked ms s ≡ false → j ≡ into-below t s → (k : ℕ) → k < length (t .arcs)
-    → by-marks t ms k ≡ done-before t (set ms s true) s j k
-unfolding by-marks done-before
-before-first t ms s j free is k b = on (eqb (arc t k .target) s) refl
-  where
-    on : (c : Bool) → eqb (arc t k .target) s ≡ c → marked ms (arc t k .target) ≡ cond c (ltb (place t k) j) (marked (set ms s true) (arc t k .target))
-    on true q =
-        let e : arc t k .target ≡ s = eqb-true (arc t k .target) s q in
-        ap (marked ms) e ∙ (free ∙ sym (le-ltb (place t k) j (omega (arith, is, place-low t k s e))))
-    on false q = sym (marked-set-other ms s true (arc t k .target) (eqb-false (arc t k .target) s q))
-
-pub before-last : (t : Transducer) (ms : List Bool) (s j : ℕ) → marked ms s ≡ true → j ≡ into-below t (suc s) → (k : ℕ) → k < length (t .arcs)
-    → done-before t ms s j k ≡ by-marks t ms k
-unfolding by-marks done-before
-before-last t ms s j set' is k b = on (eqb (arc t k .target) s) refl
-  where
-    on : (c : Bool) → eqb (arc t k .target) s ≡ c → cond c (ltb (place t k) j) (marked ms (arc t k .target)) ≡ marked ms (arc t k .target)
-    on true q =
-        let e : arc t k .target ≡ s = eqb-true (arc t k .target) s q in
-        lt-ltb (place t k) j (omega (arith, is, place-high t k s b e)) ∙ sym (ap (marked ms) e ∙ set')
-    on false q = refl
-
-pub before-here : (t : Transducer) (ms : List Bool) (s j i : ℕ) → arc t i .target ≡ s → place t i ≡ j
-    → (done-before t ms s j i ≡ false) × (done-before t ms s (j + 1) i ≡ true)
-unfolding done-before
-before-here t ms s j i e p =
-    let here : eqb (arc t i .target) s ≡ true = eq-eqb (arc t i .target) s e in
-    (rw here (le-ltb (place t i) j (omega arith)), rw here (lt-ltb (place t i) (j + 1) (omega arith)))
-
-pub before-other : (t : Transducer) (ms : List Bool) (s j i : ℕ) → i < length (t .arcs) → place t i ≡ j → (k : ℕ) → k < length (t .arcs) → (k ≡ i → ⊥)
-    → done-before t ms s j k ≡ done-before t ms s (j + 1) k
-unfolding done-before
-before-other t ms s j i b p k l n = ap (λ (x : Bool). cond (eqb (arc t k .target) s) x (marked ms (arc t k .target))) (on (ltb (place t k) j) refl)
-  where
-    on : (c : Bool) → ltb (place t k) j ≡ c → ltb (place t k) j ≡ ltb (place t k) (j + 1)
-    on true q = q ∙ sym (lt-ltb (place t k) (j + 1) (omega (arith, ltb-true (place t k) j q)))
-    on false q =
-        let apart : place t k ≡ j → ⊥ = λ e. n (place-injective t k i l b (e ∙ sym p)) in
-        q ∙ sym (le-ltb (place t k) (j + 1) (omega (arith, ltb-false (place t k) j q, apart)))
-
--- The arc that stands at a place.
-pub record Into (t : Transducer) (s j i : ℕ) : Type 0 where
-  pub below : i < length (t .arcs)
-  pub leads : arc t i .target ≡ s
-  pub place-is : place t i ≡ j
-
-pub into-at : (t : Transducer) (heads into : List ℕ) (s j : ℕ) → By-target t heads into → s < t .states → getD heads s 0 ≤ j → j < getD heads (s + 1) 0
-    → Into t s j (getD into j 0)
-into-at t heads into s j b h low high =
-    let first : getD heads s 0 ≡ into-below t s = b .head-at s (omega arith) in
-    let last : getD heads (s + 1) 0 ≡ into-below t (suc s) = rw (add-one s) (b .head-at (suc s) h) in
-    let a = stands-at t s j (omega (arith, first, low)) (omega (arith, last, high)) in
-    let is : getD into j 0 ≡ a .number = ap (λ (p : ℕ). getD into p 0) (sym (a .there)) ∙ b .stands (a .number) (a .below) in
-    rw is (record { below = a .below; leads = a .leads; place-is = a .there })
 
 -- One arc taken off its source's number
 
@@ -376,14 +309,14 @@ module _ (t : Transducer) (z : Sized t) (d e : ℕ → Bool) (ms : List Bool) (l
           (w .opened .lefts v l ∙ count-congruent (length (t .arcs)) (open-at t d v) (open-at t e v) (λ k b. same v n k b (ℕ-discrete k i)))
 
   -- A state with an open arc is not marked, and not on the stack.
-  unmarked : marked ms u ≡ false
-  unmarked = not-so (marked ms u) (λ q. omega (arith, w .shut u is-state q, off-some))
+  pub off-unmarked : marked ms u ≡ false
+  off-unmarked = is-false (marked ms u) (λ q. omega (arith, w .shut u is-state q, off-some))
 
   not-held : (a : ℕ) → a < top → getD stack a 0 ≡ u → ⊥
   not-held a l q = omega (arith, off-some, ap (λ (v : ℕ). getD left v 0) q, w .stacked .held a l .2)
 
   off-shut : (v : ℕ) → v < t .states → marked ms v ≡ true → getD (set left u (getD left u 0 - 1)) v 0 ≡ 0
-  off-shut v b m = off-other v (λ q. clash (marked ms v) m (ap (marked ms) q ∙ unmarked)) ∙ w .shut v b m
+  off-shut v b m = off-other v (λ q. clash m (ap (marked ms) q ∙ off-unmarked)) ∙ w .shut v b m
 
   off-held : (a : ℕ) → a < top
       → (getD stack a 0 < t .states) × (marked ms (getD stack a 0) ≡ false) × (getD (set left u (getD left u 0 - 1)) (getD stack a 0) 0 ≡ 0)
@@ -453,7 +386,7 @@ module _ (t : Transducer) (z : Sized t) (d e : ℕ → Bool) (ms : List Bool) (l
       held : (a : ℕ) → a < top + 1 → Dec (a ≡ top)
           → (getD (set stack top u) a 0 < t .states) × (marked ms (getD (set stack top u) a 0) ≡ false)
           × (getD (set left u (getD left u 0 - 1)) (getD (set stack top u) a 0) 0 ≡ 0)
-      held a l (yes y) = rw (y, here) (is-state, unmarked, off-here ∙ q)
+      held a l (yes y) = rw (y, here) (is-state, off-unmarked, off-here ∙ q)
       held a l (no n) = rw (other a n) (off-held a (omega arith))
 
       apart : (a b : ℕ) → a < b → b < top + 1 → Dec (b ≡ top) → getD (set stack top u) a 0 ≡ getD (set stack top u) b 0 → ⊥
@@ -480,27 +413,6 @@ unmarked-less n ms s b l free =
 pub by-target-mark : (t : Transducer) (ms : List Bool) (i u : ℕ) (b : Bool) → u ≡ arc t i .target → marked ms u ≡ b → by-marks t ms i ≡ b
 unfolding by-marks
 by-target-mark t ms i u b e m = ap (marked ms) (sym e) ∙ m
-
--- What taking the arc at place j off its source's number leaves.
-pub record Taken-off (t : Transducer) (done : ℕ → Bool) (ms : List Bool) (left stack : List ℕ) (top u : ℕ) : Type 0 where
-  pub some : 0 < getD left u 0
-  pub kept : (getD left u 0 - 1 ≡ 0 → ⊥) → Counting t done ms (set left u (getD left u 0 - 1)) stack top
-  pub room : getD left u 0 - 1 ≡ 0 → top < 1024
-  pub pushed : getD left u 0 - 1 ≡ 0 → Counting t done ms (set left u (getD left u 0 - 1)) (set stack top u) (top + 1)
-
-pub take-off : (t : Transducer) → Sized t → (ms : List Bool) (left stack : List ℕ) (top s j i u : ℕ) → Counting t (done-before t ms s j) ms left stack top
-    → Into t s j i → u ≡ arc t i .source → Taken-off t (done-before t ms s (j + 1)) ms left stack top u
-take-off t z ms left stack top s j i u w a e =
-    let d : ℕ → Bool = done-before t ms s j in
-    let d' : ℕ → Bool = done-before t ms s (j + 1) in
-    let here = before-here t ms s j i (a .leads) (a .place-is) in
-    let others = before-other t ms s j i (a .below) (a .place-is) in
-    record {
-      some = off-some t z d d' ms left stack top i u w (a .below) e (here .0) (here .1) others;
-      kept = off-kept t z d d' ms left stack top i u w (a .below) e (here .0) (here .1) others;
-      room = off-room t z d d' ms left stack top i u w (a .below) e (here .0) (here .1) others;
-      pushed = off-pushed t z d d' ms left stack top i u w (a .below) e (here .0) (here .1) others;
-    }
 
 -- All arcs, and all states.
 pub opened-all : (t : Transducer) (done : ℕ → Bool) (i : ℕ) (left : List ℕ) → i ≡ length (t .arcs) → Opened-arcs t done i left

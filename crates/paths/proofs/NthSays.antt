@@ -16,7 +16,7 @@ use Rattle.transducer.specs.Entry.{or-else}
 use Rattle.paths.specs.declared.Count.{Count}
 use Rattle.paths.specs.declared.Told.{Told}
 use Rattle.paths.specs.Count.{endless, path-count, nth-path}
-use Rattle.paths.specs.Sweep.{at-state, Settled}
+use Rattle.paths.specs.Sweep.{at-state, Path-counts}
 use Rattle.paths.specs.Entry.{nth-refusal, Nth-says, Tells}
 use Rattle.paths.proofs.Sweep.{settled-path-count}
 use Rattle.paths.proofs.NthPath.{nth-path-accepts, path-count-listed, nth-path-short}
@@ -86,7 +86,7 @@ module _ (bs : List ℕ) (k : ℕ) {a b : List ℕ} {n : ℕ} {r : Told} where
         (rw (ok, le-ltb (length a) 1023 la, le-ltb (length b) 1023 lb, off, lt-leb (path-count (decode bs)) k there)) put told
 
 -- The count that was found at the start.
-pub start-count : (t : Transducer) → Sized t → (cs : List Count) (start : ℕ) {is : Bool} → Settled t cs → start ≡ t .start → is ≡ endless t → is ≡ false
+pub start-count : (t : Transducer) → Sized t → (cs : List Count) (start : ℕ) {is : Bool} → Path-counts t cs → start ≡ t .start → is ≡ endless t → is ≡ false
     → at-state cs start ≡ path-count t
 start-count t z cs start k e l q = rw e (settled-path-count t (z .within) cs k (sym l ∙ q))
 

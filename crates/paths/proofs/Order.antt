@@ -11,7 +11,7 @@ use native.Mathlib.Omega.{arith}
 use lib.Dec.{ltb, eqb}
 use lib.ListN.{length, getD}
 use borrow.Author.Tests.{ltb-true, lt-ltb, le-ltb, eqb-true, eq-eqb, ltb-false}
-use Rattle.wire.proofs.Places.{and-true}
+use Rattle.wire.proofs.Bool.{and-true}
 use Rattle.transducer.proofs.Members.{getD-in, Distinct}
 use Rattle.paths.specs.Count.{before}
 

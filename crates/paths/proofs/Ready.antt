@@ -7,39 +7,17 @@ use native.Mathlib.Omega.{arith}
 use lib.Dec.{eqb}
 use lib.ListN.{length, getD}
 use borrow.Author.Tests.{eq-eqb, ne-eqb}
-use Rattle.wire.specs.Bytes.{Bytes}
-use Rattle.transducer.specs.Format.{Transducer, decode, refusal}
+use Rattle.transducer.specs.Format.{Transducer}
 use Rattle.transducer.specs.Path.{arc, is-final, final-weight}
 use Rattle.transducer.specs.Leaf.{arcs-below, Indexed, final-code, Finals-by-state}
 use Rattle.transducer.proofs.Good.{Content}
 use Rattle.transducer.proofs.Index.{arcs-below-length, arcs-below-mono, arcs-of-state, state-of-arcs, arcs-below-states}
-use Rattle.transducer.proofs.Offsets.{accepted-within, accepted-good, decode-states, decode-start, length-arcs}
-use Rattle.transducer.proofs.Runs.{Within, states-good-within}
 pub use Rattle.transducer.proofs.Headed.{Headed, headed, headed-opened}
+pub use Rattle.reach.proofs.Sized.{Sized, sized}
 use Rattle.transducer.specs.declared.preparing.Shape.{Shape}
 use Rattle.transducer.specs.Prepare.{Prepared}
 use Rattle.paths.specs.Sweep.{Ready}
 use Rattle.paths.specs.Tally.{own}
-
--- The states and arcs of accepted bytes.
-pub record Sized (t : Transducer) : Type 0 where
-  pub content : Content t
-  pub within : Within t
-  pub states : t .states ≤ 1024
-  pub arcs : length (t .arcs) ≤ 3072
-
-pub sized : (bs : List ℕ) → Bytes bs → refusal bs ≡ 0 → Sized (decode bs)
-sized bs bytes ok =
-    let head = accepted-within bs bytes ok in
-    let n = decode-states bs bytes ok in
-    let s = decode-start bs bytes ok in
-    let content = accepted-good bs bytes ok in
-    record {
-      content = content;
-      within = states-good-within (decode bs) (content .states) (omega (arith, head .start, n, s));
-      states = omega (arith, head .states, n);
-      arcs = omega (arith, head .arcs, length-arcs bs bytes ok);
-    }
 
 -- What is prepared has where the arcs begin, the states and the index.
 pub prepared-ready : {bs index codes : List ℕ} {shape : Shape} → Prepared bs shape index codes → Ready bs (shape .first) (shape .states) index

@@ -13,7 +13,7 @@ use Rattle.transducer.specs.Path.{arc}
 use Rattle.paths.specs.declared.Count.{Count}
 use Rattle.paths.specs.Count.{endless, path-count, nth-path}
 use Rattle.paths.specs.Tally.{own}
-use Rattle.paths.specs.Sweep.{at-state, Settled}
+use Rattle.paths.specs.Sweep.{at-state, Path-counts}
 use Rattle.paths.proofs.Sweep.{Counts, settled-counts}
 use Rattle.paths.proofs.NthPath.{nth-path-short}
 use Rattle.paths.proofs.Walk.{Walking, Choosing, walking-first, walking-length, walking-done, walking-on, choosing-below, choosing-skip, choosing-past, choosing-by}
@@ -22,7 +22,7 @@ use Rattle.paths.proofs.Ready.{Sized, Range, range-leaves, before-range
 -- What is walked for: a path that is there, with the counts to find it by, and room for it.
 pub record Sought (t : Transducer) (k : ℕ) (cs : List Count) (room : ℕ) : Type 0 where
   pub size : Sized t
-  pub settled : Settled t cs
+  pub settled : Path-counts t cs
   pub finite : endless t ≡ false
   pub there : k < path-count t
   pub enough : 1023 ≤ room

@@ -14,7 +14,7 @@ use Rattle.transducer.proofs.Runs.{Within, Accepting}
 use Rattle.paths.specs.declared.Count.{Count}
 use Rattle.paths.specs.Count.{paths-from, paths, endless, path-count, most-counted}
 use Rattle.paths.specs.Tally.{tally}
-use Rattle.paths.specs.Sweep.{total, at-state, Settled}
+use Rattle.paths.specs.Sweep.{total, at-state, Path-counts}
 use Rattle.paths.proofs.Listed.{in-paths-from}
 use Rattle.paths.proofs.Endless.{all-from, Finite, finite-same, endless-false-finite}
 use Rattle.paths.proofs.Tally.{tally-length}
@@ -38,11 +38,11 @@ dead-tally k t s h =
 unfoldable pub Counts : Transducer → (count : ℕ → ℕ) → Type 0
 Counts t c = (s : ℕ) → Finite t s → c s ≡ min most-counted (length (all-from t s))
 
-pub settled-counts : (t : Transducer) (cs : List Count) → Settled t cs → Counts t (at-state cs)
+pub settled-counts : (t : Transducer) (cs : List Count) → Path-counts t cs → Counts t (at-state cs)
 unfolding Counts
 settled-counts t cs e s f = e .counts s (f .below) (f .stops)
 
-pub settled-path-count : (t : Transducer) → Within t → (cs : List Count) → Settled t cs → endless t ≡ false → at-state cs (t .start) ≡ path-count t
+pub settled-path-count : (t : Transducer) → Within t → (cs : List Count) → Path-counts t cs → endless t ≡ false → at-state cs (t .start) ≡ path-count t
 unfolding Counts path-count paths
 settled-path-count t w cs e h = settled-counts t cs e (t .start) (endless-false-finite t w h)
 

@@ -11,6 +11,7 @@ use lib.Dec.{eqb}
 use lib.ListN.{length, getD, set, take, drop, replicate, length-set, length-replicate, length-drop}
 use lib.Seq.{drop-cons, drop-length, getD-drop, getD-set-same, getD-set-other, take-suc, take-length}
 use borrow.Author.Tests.{eqb-true, eqb-false, eq-eqb, ne-eqb}
+use Rattle.wire.proofs.Bool.{clash, is-false}
 use Rattle.transducer.specs.declared.Arc.{Arc}
 use Rattle.transducer.specs.declared.Final.{Final}
 use Rattle.wire.specs.Bytes.{Bytes}
@@ -22,16 +23,16 @@ use Rattle.transducer.proofs.Offsets.{decode-states, length-finals, final-offse
 use Rattle.transducer.proofs.Index.{stay-rises}
 use Rattle.transducer.proofs.Finals.{is-final-append}
 use Rattle.paths.specs.declared.Count.{Count}
-use Rattle.paths.specs.Count.{some-arc, goes-on, endless}
+use Rattle.reach.specs.Reach.{some-arc}
+use Rattle.reach.proofs.Reach.{SomeAt, some-arc-at}
+use Rattle.paths.specs.Count.{goes-on, endless}
 use Rattle.paths.specs.Tally.{add, own, add-all, tally}
-use Rattle.paths.specs.Sweep.{at-state, Settled, Totals-say}
+use Rattle.paths.specs.Sweep.{at-state, Path-counts, Totals-say}
 use Rattle.paths.specs.TopSorted.{Top-sorted, Empty-paths}
-use Rattle.paths.proofs.GoesOn.{Some, some-arc-true}
 use Rattle.paths.proofs.Tally.{sum-arcs, sum-arcs-monotone, add-all-sum, add-all-same, own-small}
 use Rattle.paths.proofs.Sweep.{finite-tally}
 use Rattle.paths.proofs.Ready.{Sized, own-code}
 use Rattle.paths.proofs.StoredCounts.{at-set-same, at-set-other, zeros}
-use Rattle.paths.proofs.MarksInPlace.{clash, not-so}
 
 -- The counts of the empty paths, by finals: of the first i.
 pub record Finding-finals (t : Transducer) (i : ℕ) (cs : List Count) : Type 0 where
@@ -214,13 +215,13 @@ module _ (t : Transducer) (z : Sized t) (cs : List Count) (p : Passed t 0 cs) wh
   stops : (k s : ℕ) → s < t .states → t .states ≤ s + k → goes-on k t s ≡ false
   unfolding goes-on arc
   stops zero s b h = absurd (omega arith)
-  stops (suc k) s b h = not-so (some-arc (t .arcs) s (goes-on k t)) (λ q. found (λ u l m. stops k u l m) (some-arc-true (t .arcs) s (goes-on k t) q))
+  stops (suc k) s b h = is-false (some-arc (t .arcs) s (goes-on k t)) (λ q. found (λ u l m. stops k u l m) (some-arc-at (t .arcs) s (goes-on k t) q))
     where
-      found : ((u : ℕ) → u < t .states → t .states ≤ u + k → goes-on k t u ≡ false) → Some (t .arcs) s (goes-on k t) → ⊥
+      found : ((u : ℕ) → u < t .states → t .states ≤ u + k → goes-on k t u ≡ false) → SomeAt (t .arcs) s (goes-on k t) → ⊥
       found below a =
-          let u : ℕ = arc t (a .number) .target in
-          let up : s < u = omega (arith, higher (a .number) (a .below), a .leaves) in
-          clash (goes-on k t u) (a .given) (below u (z .within .arrives (a .number) (a .below)) (omega arith))
+          let u : ℕ = arc t (a .place) .target in
+          let up : s < u = omega (arith, higher (a .place) (a .below), a .leaves) in
+          clash (a .for) (below u (z .within .arrives (a .place) (a .below)) (omega arith))
 
   is-tally : (k s : ℕ) → s < t .states → t .states ≤ s + k → at-state cs s ≡ tally k t s
   unfolding tally

@@ -5,10 +5,10 @@ use mathlib.Core.List.{List, [], _∷_, _++_, map}
 use Prim.Native.Nat.{ℕ, zero, suc, _+_, min}
 use lib.Dec.{ltb, eqb}
 use lib.ListN.{length, getD}
-use Rattle.transducer.specs.declared.Arc.{Arc}
 use Rattle.transducer.specs.Format.{Transducer}
 use Rattle.transducer.specs.Path.{is-final}
 use Rattle.transducer.specs.Each.{each-arc}
+use Rattle.reach.specs.Reach.{some-arc, coaccessible}
 
 -- Path order: arc numbers compared from the front, a path before its extensions.
 unfoldable pub before : (p q : List ℕ) → Bool
@@ -27,19 +27,9 @@ paths-from (suc most) t s =
 unfoldable pub paths : Transducer → List (List ℕ)
 paths t = paths-from (t .states) t (t .start)
 
--- Whether some arc of a run leaves a state for a state with a property.
-unfoldable pub some-arc : List Arc → (s : ℕ) → (ℕ → Bool) → Bool
-some-arc [] s f = false
-some-arc (a ∷ as') s f = (eqb (a .source) s && f (a .target)) || some-arc as' s f
-
--- Whether some accepting path of at most so many arcs goes from a state.
-unfoldable pub can-accept : (most : ℕ) → Transducer → (s : ℕ) → Bool
-can-accept zero t s = is-final (t .finals) s
-can-accept (suc most) t s = is-final (t .finals) s || some-arc (t .arcs) s (can-accept most t)
-
 -- Whether so many arcs lead from a state to one from which a final state can be reached.
 unfoldable pub goes-on : (arcs : ℕ) → Transducer → (s : ℕ) → Bool
-goes-on zero t s = can-accept (t .states) t s
+goes-on zero t s = coaccessible (t .states) t s
 goes-on (suc n) t s = some-arc (t .arcs) s (goes-on n t)
 
 -- Infinitely many accepting paths (paper 01: endless): some accepting path has at least as many arcs as there are states.

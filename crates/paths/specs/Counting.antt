@@ -1,15 +1,18 @@
 -- States that wait to be counted: for each the number of its open arcs, those to states that are not counted, and a stack of those without any.
 -- Assumes nothing: these are definitions.
 use mathlib.Core.Path.{_≡_}
-use mathlib.Core.Bool.{Bool, true, false, _&&_, not}
+use mathlib.Core.Bool.{Bool, true, false, _&&_, _||_, not, cond}
 use mathlib.Core.List.{List}
-use Prim.Native.Nat.{ℕ, _+_, _≤_, _<_}
+use Prim.Native.Nat.{ℕ, zero, suc, _+_, _-_, _≤_, _<_, min}
 use lib.Dec.{ltb, eqb}
 use lib.ListN.{length, getD, set}
 use Rattle.transducer.specs.Format.{Transducer}
 use Rattle.transducer.specs.Path.{arc}
 use Rattle.reach.specs.Counted.{count}
-use Rattle.paths.specs.Sweep.{marked}
+use Rattle.paths.specs.declared.Count.{Count}
+use Rattle.paths.specs.Count.{most-counted}
+use Rattle.paths.specs.Tally.{own}
+use Rattle.paths.specs.Sweep.{marked, leads-on, at-state, Stopping, Tallied}
 
 -- Whether an arc leaves a state and is not done.
 unfoldable pub open-at : Transducer → (done : ℕ → Bool) → (u : ℕ) → (k : ℕ) → Bool
@@ -47,7 +50,43 @@ pub record Counting (t : Transducer) (done : ℕ → Bool) (ms : List Bool) (lef
   pub shut : (u : ℕ) → u < t .states → marked ms u ≡ true → getD left u 0 ≡ 0
   pub stacked : Stacked (t .states) ms left stack top
 
--- The state that stood at `top` is marked, and its sources that have no other open arc are on the stack from there on.
-pub record Released (t : Transducer) (top : ℕ) (ms : List Bool) (stack : List ℕ) (ms' : List Bool) (left' stack' : List ℕ) (top' : ℕ) : Type 0 where
-  pub marks : ms' ≡ set ms (getD stack top 0) true
-  pub counting : Counting t (by-marks t ms') ms' left' stack' top'
+-- One open arc fewer at a state, which goes on the stack where that was the last.
+pub record Closed-arc (left stack : List ℕ) (u top : ℕ) (left' stack' : List ℕ) (top' : ℕ) : Type 0 where
+  pub left-is : left' ≡ set left u (getD left u 0 - 1)
+  pub kept : (getD left u 0 - 1 ≡ 0 → ⊥) → (stack' ≡ stack) × (top' ≡ top)
+  pub pushed : getD left u 0 - 1 ≡ 0 → (stack' ≡ set stack top u) × (top' ≡ top + 1)
+
+-- The sum of the counts where the done arcs of a state lead, of the first n arcs.
+unfoldable pub sum-done : (n : ℕ) → Transducer → (done : ℕ → Bool) → (u : ℕ) → (count : ℕ → ℕ) → ℕ
+sum-done zero t done u c = 0
+sum-done (suc n) t done u c = sum-done n t done u c + cond (eqb (arc t n .source) u && done n) (c (arc t n .target)) 0
+
+-- A count has that of the empty path and those where the done arcs lead.
+pub record Partial-sums (t : Transducer) (done : ℕ → Bool) (cs : List Count) : Type 0 where
+  pub long : length cs ≡ 1024
+  pub sums : (u : ℕ) → u < t .states → at-state cs u ≡ min most-counted (own t u + sum-done (length (t .arcs)) t done u (at-state cs))
+
+-- The marked states are counted, and those without an open arc wait on the stack.
+pub record Underway (t : Transducer) (ms : List Bool) (left stack : List ℕ) (top : ℕ) (cs : List Count) : Type 0 where
+  pub counting : Counting t (by-marks t ms) ms left stack top
+  pub stopping : Stopping t (marked ms)
+  pub tallied : Tallied t ms cs
+  pub parts : Partial-sums t (by-marks t ms) cs
+
+-- None waits any more: an arc leads from each unmarked state to an unmarked one, and from no marked one.
+pub record Rested (t : Transducer) (ms : List Bool) (cs : List Count) : Type 0 where
+  pub marks-long : length ms ≡ 1024
+  pub shut : (s : ℕ) → s < t .states → marked ms s ≡ true → leads-on t ms s ≡ false
+  pub rest : (s : ℕ) → s < t .states → marked ms s ≡ false → leads-on t ms s ≡ true
+  pub stopping : Stopping t (marked ms)
+  pub tallied : Tallied t ms cs
+  pub parts : Partial-sums t (by-marks t ms) cs
+
+-- Marked states stay marked.
+abbrev pub Grown : (ms ms' : List Bool) → Type 0
+Grown ms ms' = (s : ℕ) → marked ms s ≡ true → marked ms' s ≡ true
+
+-- Of the first n states those that are not live are marked too.
+pub record With-dead (n : ℕ) (live ms ms' : List Bool) : Type 0 where
+  pub long : length ms' ≡ length ms
+  pub at-state : (s : ℕ) → s < n → marked ms' s ≡ marked ms s || not (marked live s)

@@ -1,17 +1,19 @@
-// One running count for each state, set once only finitely many accepting paths are known to go from there.
+// One running count for each state, complete once all its arcs lead to states whose counts are.
 ghost use mathlib.Core.Path.{_≡_};
-ghost use mathlib.Core.Bool.{cond};
-ghost use Prim.Native.Nat.{_+_, _≤_};
+ghost use mathlib.Core.Bool.{true, false, cond};
+ghost use Prim.Native.Nat.{_-_, _≤_, _<_};
 ghost use lib.Dec.{eqb};
-ghost use lib.ListN.{length, replicate};
-ghost use Rattle.transducer.specs.Format.{decode};
-ghost use Rattle.transducer.specs.Leaf.{Opened, Indexed, Finals-by-state};
-ghost use Rattle.reach.specs.Index.{By-target};
+ghost use lib.ListN.{length, getD, replicate};
+ghost use Rattle.transducer.specs.Format.{refusal, decode};
+ghost use Rattle.transducer.specs.Leaf.{Opened};
+ghost use Rattle.reach.specs.Stack.{Chained};
 ghost use Rattle.paths.specs.Tally.{add};
-ghost use Rattle.paths.specs.Sweep.{Ready, Dead, Totals-say};
-ghost use Rattle.paths.specs.Counting.{by-marks, Opened-arcs, Stacked, Counting, Released};
+ghost use Rattle.paths.specs.Sweep.{Totals-say};
+ghost use Rattle.paths.specs.TopSorted.{Empty-paths};
+ghost use Rattle.paths.specs.Counting.{by-marks, Opened-arcs, Stacked, Closed-arc, Underway, Rested, Grown};
 use crate::Count;
 use crate::Totals;
+use crate::marks;
 
 pub const MOST: u8 = 99;
 
@@ -40,6 +42,31 @@ pub fn own(code: u32) -> Count
         return Count { value: 0 };
     }
     Count { value: 1 }
+}
+
+// Puts the arcs in chains by their targets and counts those of each state, `heads` and `left` being zeros.
+fn link_arcs(
+    table: &[u8],
+    first: usize,
+    arcs: usize,
+    heads: &mut [u32; 1024],
+    next: &mut [u32; 3072],
+    left: &mut [u16; 1024],
+)
+    requires { ⌜ Opened (now table) first × (arcs ≡ length (decode (now table) .arcs)) × (now heads ≡ replicate 1024 0) × (length (now next) ≡ 3072)
+        × (now left ≡ replicate 1024 0) ⌝ }
+    ensures { λ _. ⌜ Chained (decode (now (table .entry))) true (now (heads .exit)) (now (next .exit))
+        × Opened-arcs (decode (now (table .entry))) (by-marks (decode (now (table .entry))) (replicate 1024 false)) arcs (now (left .exit)) ⌝ }
+{
+    let mut i = 0;
+    while i < arcs {
+        let s = reach::source(table, first, i);
+        let to = reach::target(table, first, i);
+        next[i] = heads[to];
+        left[s] = left[s] + 1;
+        i += 1;
+        heads[to] = reach::LINKS * s as u32 + i as u32;
+    }
 }
 
 // Counts the open arcs of each state, those to states that are not marked, in an array of zeros.
@@ -86,120 +113,149 @@ fn push_shut(
     top
 }
 
-// Marks the state at `top`, which goes off the stack: its arcs are no longer open at their sources, and a source that has no other goes on the
-// stack. Where the stack ends.
-fn release(
-    table: &[u8],
-    first: usize,
-    heads: &[u16; 1025],
-    into: &[u16; 3072],
-    top: usize,
-    marks: &mut [bool; 1024],
-    left: &mut [u16; 1024],
-    stack: &mut [u16; 1024],
-) -> usize
-    requires { ⌜ Opened (now table) first × By-target (decode (now table)) (now heads) (now into)
-        × Counting (decode (now table)) (by-marks (decode (now table)) (now marks)) (now marks) (now left) (now stack) (top + 1) ⌝ }
-    ensures { λ r. ⌜ Released (decode (now (table .entry))) top (now (marks .entry)) (now (stack .entry)) (now (marks .exit)) (now (left .exit))
-        (now (stack .exit)) r ⌝ }
+// Takes one off the open arcs of a state, which goes on the stack where that was the last. Where the stack ends.
+fn close_arc(u: usize, top: usize, left: &mut [u16; 1024], stack: &mut [u16; 1024]) -> usize
+    requires { ⌜ (u < 1024) × (length (now left) ≡ 1024) × (length (now stack) ≡ 1024) × (0 < getD (now left) u 0)
+        × (getD (now left) u 0 - 1 ≡ 0 → top < 1024) ⌝ }
+    ensures { λ r. ⌜ Closed-arc (now (left .entry)) (now (stack .entry)) u top (now (left .exit)) (now (stack .exit)) r ⌝ }
 {
-    let s = stack[top] as usize;
-    marks[s] = true;
-    let end = heads[s + 1] as usize;
-    let mut j = heads[s] as usize;
-    let mut last = top;
-    while j < end {
-        let i = into[j] as usize;
-        let u = reach::source(table, first, i);
-        j += 1;
-        let fewer = left[u] - 1;
-        left[u] = fewer;
-        if fewer != 0 {
-            continue;
-        }
-        stack[last] = u as u16;
-        last += 1;
+    let fewer = left[u] - 1;
+    left[u] = fewer;
+    if fewer != 0 {
+        return top;
     }
-    last
+    stack[top] = u as u16;
+    top + 1
 }
 
-// Counts the states on the stack, and those that come on it, until none is left: from a state that stays unmarked paths lead on for ever.
+// Takes each state off the stack, marks it, and adds its count, which is complete, to those of the sources of its arcs: a source without an open arc
+// goes on the stack. From a state that stays unmarked arcs lead on to unmarked ones.
 fn count_all(
     table: &[u8],
-    first: usize,
-    start: usize,
-    index: &[u16; 1025],
-    codes: &[u32; 1024],
-    heads: &[u16; 1025],
-    into: &[u16; 3072],
-    count: usize,
+    heads: &[u32; 1024],
+    next: &[u32; 3072],
+    waiting: usize,
+    parts: [Count; 1024],
     marks: &mut [bool; 1024],
     left: &mut [u16; 1024],
     stack: &mut [u16; 1024],
-) -> Totals
-    requires { ⌜ Opened (now table) first × Indexed (decode (now table)) (now index) × (start ≡ decode (now table) .start)
-        × Finals-by-state (decode (now table)) (now codes) × By-target (decode (now table)) (now heads) (now into) × Dead (decode (now table)) (now marks)
-        × Counting (decode (now table)) (by-marks (decode (now table)) (now marks)) (now marks) (now left) (now stack) count ⌝ }
-    ensures { λ r. ⌜ Totals-say (decode (now (table .entry))) r ⌝ }
+) -> [Count; 1024]
+    requires { ⌜ (refusal (now table) ≡ 0) × Chained (decode (now table)) true (now heads) (now next)
+        × Underway (decode (now table)) (now marks) (now left) (now stack) waiting parts ⌝ }
+    ensures { λ r. ⌜ Rested (decode (now (table .entry))) (now (marks .exit)) r × Grown (now (marks .entry)) (now (marks .exit)) ⌝ }
 {
-    let mut counts = [Count { value: 0 }; 1024];
-    let mut top = count;
+    let mut counts = parts;
+    let mut top = waiting;
     while 0 < top {
         top -= 1;
         let s = stack[top] as usize;
-        let end = index[s + 1] as usize;
-        let mut i = index[s] as usize;
-        let mut sum = own(codes[s]);
-        while i < end {
-            let to = reach::target(table, first, i);
-            sum = sum.add(counts[to]);
-            i += 1;
+        marks[s] = true;
+        let whole = counts[s];
+        let mut cell = heads[s];
+        while cell != 0 {
+            let u = (cell / reach::LINKS) as usize;
+            let link = (cell % reach::LINKS) as usize;
+            cell = next[link - 1];
+            counts[u] = counts[u].add(whole);
+            top = close_arc(u, top, left, stack);
         }
-        counts[s] = sum;
-        top = release(table, first, heads, into, top, marks, left, stack);
     }
-    let finite = marks[start];
+    counts
+}
+
+// What is left to count where there are cycles: the dead states count 0, and those that led only to them and to counted ones are counted then.
+fn counts_with_cycles(
+    table: &[u8],
+    first: usize,
+    states: usize,
+    arcs: usize,
+    start: usize,
+    heads: &[u32; 1024],
+    next: &[u32; 3072],
+    parts: [Count; 1024],
+    marks: &mut [bool; 1024],
+) -> Totals
+    requires { ⌜ Opened (now table) first × (states ≡ decode (now table) .states) × (arcs ≡ length (decode (now table) .arcs))
+        × (start ≡ decode (now table) .start) × Chained (decode (now table)) true (now heads) (now next) × Rested (decode (now table)) (now marks) parts ⌝ }
+    ensures { λ r. ⌜ Totals-say (decode (now (table .entry))) r ⌝ }
+{
+    let finals = (first - 12) / 10;
+    let live = reach::coaccessible_chained(table, first, states, arcs, finals, heads, next);
+    if !marks::dead_unmarked(states, &live, marks) {
+        let counted = marks[start];
+        return Totals {
+            counts: parts,
+            endless: !counted,
+        };
+    }
+    marks::mark_dead(states, &live, marks);
+    let mut left = [0u16; 1024];
+    let mut stack = [0u16; 1024];
+    count_open(table, first, arcs, marks, &mut left);
+    let waiting = push_shut(states, marks, &left, &mut stack);
+    let counts = count_all(
+        table,
+        heads,
+        next,
+        waiting,
+        parts,
+        marks,
+        &mut left,
+        &mut stack,
+    );
+    let counted = marks[start];
     Totals {
         counts,
-        endless: !finite,
+        endless: !counted,
     }
 }
 
-// The counts of the accepting paths from each state, and whether those from the start are infinitely many. The dead states are marked first, with
-// the count 0; then each state is counted once none of its arcs leads to an unmarked one, which takes time in proportion to states and arcs.
+// The counts of the accepting paths from each state, and whether those from the start are infinitely many: each state is counted once all its arcs
+// lead to counted ones, which takes time in proportion to states and arcs. Where no cycle keeps a state waiting, nothing else is to be known.
 pub fn counts_of(
     table: &[u8],
     first: usize,
     states: usize,
     arcs: usize,
     start: usize,
-    index: &[u16; 1025],
-    codes: &[u32; 1024],
-    dead: [bool; 1024],
+    empty: [Count; 1024],
 ) -> Totals
-    requires { ⌜ Ready (now table) first states (now index) × (arcs ≡ length (decode (now table) .arcs)) × (start ≡ decode (now table) .start)
-        × Finals-by-state (decode (now table)) (now codes) × Dead (decode (now table)) dead ⌝ }
+    requires { ⌜ Opened (now table) first × (states ≡ decode (now table) .states) × (arcs ≡ length (decode (now table) .arcs))
+        × (start ≡ decode (now table) .start) × Empty-paths (decode (now table)) (decode (now table) .states) empty ⌝ }
     ensures { λ r. ⌜ Totals-say (decode (now (table .entry))) r ⌝ }
 {
-    let mut marks = dead;
+    let mut heads = [0u32; 1024];
+    let mut next = [0u32; 3072];
+    let mut marks = [false; 1024];
     let mut left = [0u16; 1024];
     let mut stack = [0u16; 1024];
-    let mut heads = [0u16; 1025];
-    let mut into = [0u16; 3072];
-    count_open(table, first, arcs, &marks, &mut left);
-    reach::by_target(table, first, states, arcs, &mut heads, &mut into);
-    let count = push_shut(states, &marks, &left, &mut stack);
-    count_all(
+    link_arcs(table, first, arcs, &mut heads, &mut next, &mut left);
+    let waiting = push_shut(states, &marks, &left, &mut stack);
+    let counts = count_all(
         table,
-        first,
-        start,
-        index,
-        codes,
         &heads,
-        &into,
-        count,
+        &next,
+        waiting,
+        empty,
         &mut marks,
         &mut left,
         &mut stack,
+    );
+    if marks::all_marked(states, &marks) {
+        return Totals {
+            counts,
+            endless: false,
+        };
+    }
+    counts_with_cycles(
+        table,
+        first,
+        states,
+        arcs,
+        start,
+        &heads,
+        &next,
+        counts,
+        &mut marks,
     )
 }

@@ -11,27 +11,8 @@ use crate::Counted;
 use crate::Told;
 use crate::Totals;
 use crate::counts;
-use crate::marks;
 use crate::path;
 use crate::sorted;
-
-// The counts for states in any order.
-fn counts_unsorted(
-    table: &[u8],
-    first: usize,
-    states: usize,
-    arcs: usize,
-    start: usize,
-    index: &[u16; 1025],
-    codes: &[u32; 1024],
-) -> Totals
-    requires { ⌜ Ready (now table) first states (now index) × (arcs ≡ length (decode (now table) .arcs)) × (start ≡ decode (now table) .start)
-        × Finals-by-state (decode (now table)) (now codes) ⌝ }
-    ensures { λ r. ⌜ Totals-say (decode (now (table .entry))) r ⌝ }
-{
-    let dead = marks::dead_states(table, first, states, arcs);
-    counts::counts_of(table, first, states, arcs, start, index, codes, dead)
-}
 
 // The counts of the accepting paths from each state, and whether those from the start are infinitely many: what the k-th path and the listing
 // share.
@@ -56,7 +37,7 @@ pub fn counts_by_state(
             endless: false,
         };
     }
-    counts_unsorted(table, first, states, arcs, start, index, codes)
+    counts::counts_of(table, first, states, arcs, start, empty)
 }
 
 fn counted(all: Count) -> Counted
@@ -91,9 +72,7 @@ pub fn count(table: &[u8]) -> Counted
         let all = pass.counts[start];
         return counted(all);
     }
-    let index = transducer::first_arcs_by_blocks(table, first, n, m);
-    let codes = transducer::final_codes(table, f);
-    let totals = counts_unsorted(table, first, n, m, start, &index, &codes);
+    let totals = counts::counts_of(table, first, n, m, start, empty);
     if totals.endless {
         return Counted {
             refusal: 14,
@@ -132,7 +111,7 @@ pub fn nth(table: &[u8], k: u32, arcs: &mut [u16], labels: &mut [u16]) -> Told
     if labels.len() < transducer::MAX_PATH {
         return refused(10);
     }
-    let mut index = [0u16; transducer::MAX_STATES + 1];
+    let mut index = [0u16; transducer::INDEX_LEN];
     let mut codes = [0u32; transducer::MAX_STATES];
     let shape = transducer::prepare(table, &mut index, &mut codes);
     let start = shape.start;

@@ -1,22 +1,49 @@
-// The dead states.
+// Marks of counted states beside those of live ones.
 ghost use mathlib.Core.Path.{_≡_};
-ghost use lib.ListN.{length};
-ghost use Rattle.transducer.specs.Format.{decode};
-ghost use Rattle.transducer.specs.Leaf.{Opened};
-ghost use Rattle.paths.specs.Sweep.{Dead};
+ghost use mathlib.Core.Bool.{true, false};
+ghost use Prim.Native.Nat.{ℕ, _≤_, _<_};
+ghost use lib.ListN.{length, getD};
+ghost use Rattle.paths.specs.Sweep.{marked};
+ghost use Rattle.paths.specs.Counting.{With-dead};
 
-// The states from which nothing accepts: those that are not coaccessible.
-pub fn dead_states(table: &[u8], first: usize, states: usize, arcs: usize) -> [bool; 1024]
-    requires { ⌜ Opened (now table) first × (states ≡ decode (now table) .states) × (arcs ≡ length (decode (now table) .arcs)) ⌝ }
-    ensures { λ r. ⌜ Dead (decode (now (table .entry))) r ⌝ }
+// Whether all states are marked.
+pub fn all_marked(states: usize, marks: &[bool; 1024]) -> bool
+    requires { ⌜ states ≤ 1024 ⌝ }
+    ensures { λ r. ⌜ (r ≡ true → (s : ℕ) → s < states → marked (now (marks .entry)) s ≡ true) ⌝ }
 {
-    let finals = (first - 12) / 10;
-    let live = reach::coaccessible(table, first, states, arcs, finals);
-    let mut dead = [false; 1024];
     let mut s = 0;
     while s < states {
-        dead[s] = !live[s];
+        if !marks[s] {
+            return false;
+        }
         s += 1;
     }
-    dead
+    true
+}
+
+// Whether some state is neither live nor marked.
+pub fn dead_unmarked(states: usize, live: &[bool; 1024], marks: &[bool; 1024]) -> bool
+    requires { ⌜ states ≤ 1024 ⌝ }
+    ensures { λ r. ⌜ (r ≡ false → (s : ℕ) → s < states → marked (now (live .entry)) s ≡ false → marked (now (marks .entry)) s ≡ true) ⌝ }
+{
+    let mut s = 0;
+    while s < states {
+        if !(live[s] | marks[s]) {
+            return true;
+        }
+        s += 1;
+    }
+    false
+}
+
+// Marks the states that are not live.
+pub fn mark_dead(states: usize, live: &[bool; 1024], marks: &mut [bool; 1024])
+    requires { ⌜ (states ≤ 1024) × (length (now marks) ≡ 1024) ⌝ }
+    ensures { λ _. ⌜ With-dead states (now (live .entry)) (now (marks .entry)) (now (marks .exit)) ⌝ }
+{
+    let mut s = 0;
+    while s < states {
+        marks[s] = marks[s] | !live[s];
+        s += 1;
+    }
 }

@@ -8,7 +8,7 @@ ghost use Rattle.transducer.specs.Format.{decode};
 ghost use Rattle.transducer.specs.Path.{accepts};
 ghost use Rattle.transducer.specs.Leaf.{Opened, Finals-by-state};
 ghost use Rattle.paths.specs.Count.{endless, path-count, nth-path};
-ghost use Rattle.paths.specs.Sweep.{Ready, Settled};
+ghost use Rattle.paths.specs.Sweep.{Ready, Path-counts};
 ghost use Rattle.paths.specs.Entry.{Tells};
 use crate::Count;
 use crate::Told;
@@ -26,7 +26,7 @@ pub fn walk(
     all: [Count; 1024],
     arcs: &mut [u16],
 ) -> usize
-    requires { ⌜ Ready (now table) first states (now index) × Finals-by-state (decode (now table)) (now codes) × Settled (decode (now table)) all
+    requires { ⌜ Ready (now table) first states (now index) × Finals-by-state (decode (now table)) (now codes) × Path-counts (decode (now table)) all
         × (start ≡ decode (now table) .start) × (endless (decode (now table)) ≡ false) × (k < path-count (decode (now table))) × (1023 ≤ length (now arcs)) ⌝ }
     ensures { λ r. ⌜ (now (arcs .exit) ≡ filled (length (now (arcs .entry))) (nth-path (decode (now (table .entry))) k))
         × (r ≡ length (nth-path (decode (now (table .entry))) k)) ⌝ }

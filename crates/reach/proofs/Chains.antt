@@ -1,15 +1,16 @@
--- Chains of arcs by the state that they lead from: the last arc from a state, cells, and the loop that makes the chains. Assumes nothing.
+-- Chains of arcs by the state that they lead from: the last arc from a state, cells, the loop that makes the chains, and a walk along one.
+-- Assumes nothing.
 use mathlib.Core.Path.{_≡_, refl, sym, ap, _∙_}
 use mathlib.Core.Bool.{Bool, true, false, cond}
 use mathlib.Core.List.{List}
-use Prim.Native.Nat.{ℕ, zero, suc, _+_, _*_, _/_, _%_, _≤_, _<_}
+use Prim.Native.Nat.{ℕ, zero, suc, _+_, _*_, _-_, _/_, _%_, _≤_, _<_}
 use native.Mathlib.Numerals.{add-one}
 use native.Mathlib.Decide.{ℕ-discrete}
 use native.Mathlib.Omega.{arith}
-use lib.Dec.{eqb}
+use lib.Dec.{ltb, eqb}
 use lib.ListN.{length, getD, set, replicate, length-set, length-replicate, getD-replicate}
 use lib.Seq.{getD-set-same, getD-set-other}
-use borrow.Author.Tests.{eq-eqb, ne-eqb}
+use borrow.Author.Tests.{eq-eqb, ne-eqb, ltb-true, ltb-false}
 use Rattle.transducer.specs.Format.{Transducer}
 use Rattle.transducer.specs.Path.{arc}
 use Rattle.reach.specs.Marks.{from-end, to-end}
@@ -136,3 +137,79 @@ chaining-stop {t} {back} e m =
       head-at = λ s l. m .head-at s l ∙ ap (λ (k : ℕ). cell t back (last t back s k)) e;
       next-at = λ j l. m .next-at j (omega arith);
     }
+
+-- A walk along the chain of a state
+
+-- A cell on the chain of a state: of its arcs those from number `link` on are passed.
+pub record On-chain (t : Transducer) (back : Bool) (s link c : ℕ) : Type 0 where
+  pub cell-is : c ≡ cell t back link
+  pub last-is : last t back s link ≡ link
+  pub link-most : link ≤ length (t .arcs)
+
+pub chain-first : {t : Transducer} {back : Bool} {heads next : List ℕ} (s : ℕ) → s < 1024 → Chained t back heads next
+    → On-chain t back s (last t back s (length (t .arcs))) (getD heads s 0)
+chain-first {t} {back} s h ch =
+    record { cell-is = ch .head-at s h; last-is = last-last t back s (length (t .arcs)); link-most = last-most t back s (length (t .arcs)) }
+
+-- The arc of a cell that is not 0.
+pub record ArcHere (t : Transducer) (back : Bool) (s c link : ℕ) : Type 0 where
+  pub number : ℕ
+  pub below : number < length (t .arcs)
+  pub from : from-end back (arc t number) ≡ s
+  pub to : c / 4096 ≡ to-end back (arc t number)
+  pub link-is : c % 4096 ≡ suc number
+  pub is : link ≡ suc number
+
+module _ {t : Transducer} {back : Bool} {s link c : ℕ} (few : length (t .arcs) ≤ 3072) (w : On-chain t back s link c) where
+  pub chain-arc : (c ≡ 0 → ⊥) → ArcHere t back s c link
+  chain-arc some = on link refl
+    where
+      on : (k : ℕ) → link ≡ k → ArcHere t back s c link
+      on zero e = absurd (some (w .cell-is ∙ ap (cell t back) e ∙ cell-zero t back))
+      on (suc i) e =
+          let c-is : c ≡ cell t back (suc i) = w .cell-is ∙ ap (cell t back) e in
+          let low : i < 4095 = omega (arith, e, w .link-most) in
+          let here : last t back s (suc i) ≡ suc i = rw e at (w .last-is) in
+          record {
+            number = i;
+            below = omega (arith, e, w .link-most);
+            from = last-from t back s i here;
+            to = ap (λ (x : ℕ). x / 4096) c-is ∙ cell-state t back i low;
+            link-is = ap (λ (x : ℕ). x % 4096) c-is ∙ cell-link t back i low;
+            is = e;
+          }
+
+  -- The next cell is that of the last arc before this one from the same state.
+  pub chain-next : {heads next : List ℕ} → Chained t back heads next → (a : ArcHere t back s c link)
+      → On-chain t back s (last t back s (a .number)) (getD next (c % 4096 - 1) 0)
+  chain-next {next = next} ch a =
+      let at : c % 4096 - 1 ≡ a .number = omega (arith, a .link-is) in
+      record {
+        cell-is = ap (λ (k : ℕ). getD next k 0) at ∙ ch .next-at (a .number) (a .below)
+            ∙ ap (λ (u : ℕ). cell t back (last t back u (a .number))) (a .from);
+        last-is = last-last t back s (a .number);
+        link-most = omega (arith, last-most t back s (a .number), a .below);
+      }
+
+  pub chain-link : (c ≡ 0 → ⊥) → (0 < c % 4096) × (c % 4096 ≤ 3072)
+  chain-link some = let a = chain-arc some in (omega (arith, a .link-is), omega (arith, a .link-is, a .below))
+
+  -- The chain goes on to lower numbers.
+  pub chain-less : {heads next : List ℕ} → Chained t back heads next → (c ≡ 0 → ⊥) → getD next (c % 4096 - 1) 0 % 4096 < c % 4096
+  chain-less ch some =
+      let a = chain-arc some in
+      let n = chain-next ch a in
+      let most = last-most t back s (a .number) in
+      let link' = cell-number t back (last t back s (a .number)) (omega (arith, most, a .below)) in
+      rw (n .cell-is) (omega (arith, link', most, a .link-is))
+
+pub chain-end : {t : Transducer} {back : Bool} {s link c : ℕ} → On-chain t back s link c → c ≡ 0 → link ≡ 0
+chain-end {t} {back} {link = link} w e = cell-none t back link (sym (w .cell-is) ∙ e)
+
+-- Between an arc and the one that its chain goes on to none is from the same state.
+pub none-between : (t : Transducer) (back : Bool) (s i j : ℕ) → from-end back (arc t j) ≡ s → (j ≡ i → ⊥) → last t back s i ≤ j → suc i ≤ j
+none-between t back s i j f n h = on (ltb j i) refl
+  where
+    on : (b : Bool) → ltb j i ≡ b → suc i ≤ j
+    on true l = absurd (none-behind t back s i j h (ltb-true j i l) f)
+    on false l = omega (arith, ltb-false j i l, n)

@@ -11,6 +11,7 @@ use lib.ListN.{length, getD, set, replicate, length-set, length-replicate}
 use lib.Seq.{getD-set-same, getD-set-other}
 use borrow.Author.Tests.{eq-eqb, ne-eqb}
 use Rattle.wire.specs.Bytes.{Bytes, places}
+use Rattle.wire.proofs.Bool.{or-right}
 use Rattle.wire.proofs.Places.{places-snoc}
 use Rattle.transducer.specs.declared.Final.{Final}
 use Rattle.transducer.specs.Format.{decode, refusal, head-finals, final-at}
@@ -19,8 +20,7 @@ use Rattle.transducer.proofs.Offsets.{decode-finals}
 use Rattle.transducer.proofs.Finals.{is-final-append}
 use Rattle.reach.specs.Marks.{Marked}
 use Rattle.reach.proofs.Ends.{final-state}
-use Rattle.reach.proofs.Reach.{or-right}
-use Rattle.reach.proofs.Settled.{getD-none}
+use Rattle.reach.proofs.Closure.{getD-none}
 
 pub record Marking (bs : List ℕ) (i place : ℕ) (ms : List Bool) : Type 0 where
   pub within : i ≤ head-finals bs

@@ -9,7 +9,7 @@ use native.Mathlib.Omega.{arith}
 use lib.Dec.{eqb}
 use lib.ListN.{length, getD, length-append}
 use borrow.Author.Tests.{eqb-true, eq-eqb}
-use Rattle.wire.proofs.Places.{and-true, true-and}
+use Rattle.wire.proofs.Bool.{and-true, true-and, or-true, or-left, or-right}
 use Rattle.transducer.specs.declared.Arc.{Arc}
 use Rattle.transducer.specs.Format.{Transducer}
 use Rattle.transducer.specs.Path.{arc, no-arc, is-final, runs, ends}
@@ -18,17 +18,6 @@ use Rattle.transducer.proofs.Runs.{Accepting, AcceptingBy, nil-accepting, accep
 use Rattle.transducer.proofs.Runs.{runs-append, ends-append, Within, ends-below}
 use Rattle.reach.specs.Reach.{entered, some-arc, accessible, coaccessible}
 use Rattle.reach.proofs.Counted.{Chain, Wider, chain-rests}
-
-pub or-true : (a b : Bool) → a || b ≡ true → (a ≡ true) ⊎ (b ≡ true)
-or-true true b h = inl refl
-or-true false b h = inr h
-
-pub or-left : (a b : Bool) → a ≡ true → a || b ≡ true
-or-left a b e = rw e
-
-pub or-right : (a b : Bool) → b ≡ true → a || b ≡ true
-or-right true b e = refl
-or-right false b e = e
 
 -- One arc more
 

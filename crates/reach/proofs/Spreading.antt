@@ -8,15 +8,13 @@ use native.Mathlib.Decide.{ℕ-discrete}
 use native.Mathlib.Omega.{arith}
 use lib.ListN.{length, getD, set, length-set}
 use lib.Seq.{getD-set-same, getD-set-other}
+use Rattle.wire.proofs.Bool.{clash}
 use Rattle.transducer.specs.declared.Arc.{Arc}
 use Rattle.transducer.specs.Format.{Transducer}
 use Rattle.transducer.specs.Path.{arc}
 use Rattle.reach.specs.Counted.{count}
 use Rattle.reach.specs.Marks.{number, Spread, from-end, to-end, Passes, Widened}
 use Rattle.reach.proofs.Counted.{count-most, count-rises, count-one-more}
-
-pub never : {A : Type 0} (b : Bool) → b ≡ false → b ≡ true → A
-never b e h = let z : _≡_ {A = ℕ} 0 1 = cc in absurd (omega arith)
 
 pub number-most : (ms : List Bool) → number ms ≤ length ms
 unfolding number
@@ -45,7 +43,7 @@ set-kept ms to s below h = on (ℕ-discrete s to)
 
 pub spread-none : (ms : List Bool) (from to : ℕ) → getD ms from false ≡ false → Spread ms from to ms
 spread-none ms from to e =
-    record { long = refl; grows = λ s h. h; covers = λ h. never (getD ms from false) e h; from-old = λ s h. inl h }
+    record { long = refl; grows = λ s h. h; covers = λ h. clash h e; from-old = λ s h. inl h }
 
 pub spread-set : (ms : List Bool) (from to : ℕ) → to < length ms → getD ms from false ≡ true → Spread ms from to (set ms to true)
 spread-set ms from to below here =

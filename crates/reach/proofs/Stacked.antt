@@ -7,19 +7,18 @@ use Prim.Native.Nat.{ℕ, zero, suc, _+_, _-_, _/_, _%_, _≤_, _<_}
 use native.Mathlib.Numerals.{add-one}
 use native.Mathlib.Decide.{ℕ-discrete}
 use native.Mathlib.Omega.{arith}
-use lib.Dec.{ltb}
 use lib.ListN.{length, getD, set, length-set}
 use lib.Seq.{getD-set-same, getD-set-other}
-use borrow.Author.Tests.{ltb-true, ltb-false}
+use Rattle.wire.proofs.Bool.{clash}
 use Rattle.transducer.specs.Format.{Transducer}
 use Rattle.transducer.specs.Path.{arc}
 use Rattle.reach.specs.Counted.{count}
 use Rattle.reach.specs.Marks.{from-end, to-end, Passes, Widened, number}
 use Rattle.reach.specs.Stack.{last, cell, Chained, Off, Waiting, Served, Pushed}
 use Rattle.reach.proofs.Counted.{count-most, count-rises, count-next}
-use Rattle.reach.proofs.Spreading.{never, number-most, number-set, number-below, set-kept, spread-set, widened-none, widened-twice, widened-one}
+use Rattle.reach.proofs.Spreading.{number-most, number-set, number-below, set-kept, spread-set, widened-none, widened-twice, widened-one}
 use Rattle.reach.proofs.Sized.{Sized}
-use Rattle.reach.proofs.Chains.{last-most, last-from, last-last, none-behind, cell-zero, cell-none, cell-state, cell-link, cell-number}
+use Rattle.reach.proofs.Chains.{none-behind, none-between, On-chain, ArcHere, chain-first, chain-arc, chain-next, chain-link, chain-less, chain-end}
 
 -- A state more on a stack
 
@@ -73,7 +72,7 @@ pushing-over {s} {top} {ms} {stack} e p =
     }
   where
     on : (r : ℕ) → r < s + 1 → getD ms r false ≡ true → Off stack top r → Dec (r ≡ s) → ⊥
-    on r l m o (yes q) = never (getD ms s false) e (rw q at m)
+    on r l m o (yes q) = clash (rw q at m) e
     on r l m o (no n) = p .all r (omega arith) m o
 
 pub pushing-next : {s top : ℕ} {ms : List Bool} {stack : List ℕ} → s < 1024 → getD ms s false ≡ true → Pushing s ms stack top
@@ -135,9 +134,7 @@ waiting-none e w i h m = w .closed i h m (λ j l. absurd (omega arith))
 -- The arcs of `s` from number `link` on are followed; those on the stack from `bottom` on are new.
 pub record Serving (t : Transducer) (back : Bool) (first : List Bool) (bottom s : ℕ) (ms : List Bool) (stack : List ℕ) (top c : ℕ) : Type 0 where
   pub link : ℕ
-  pub cell-is : c ≡ cell t back link
-  pub last-is : last t back s link ≡ link
-  pub link-most : link ≤ length (t .arcs)
+  pub chain : On-chain t back s link c
   pub wider : Widened t back first ms
   pub rises : bottom ≤ top
   pub pushed : number ms + bottom ≡ number first + top
@@ -154,9 +151,7 @@ pub serving-first : {t : Transducer} {back : Bool} {ms : List Bool} {stack heads
 serving-first {t} {back} {ms} {stack} {top = top} s z is ch w =
     record {
       link = last t back s (length (t .arcs));
-      cell-is = ch .head-at s (omega (arith, state, z .states));
-      last-is = last-last t back s (length (t .arcs));
-      link-most = last-most t back s (length (t .arcs));
+      chain = chain-first s (omega (arith, state, z .states)) ch;
       wider = widened-none t back ms;
       rises = omega arith;
       pushed = refl;
@@ -181,40 +176,16 @@ serving-first {t} {back} {ms} {stack} {top = top} s z is ch w =
             none-behind t back s (length (t .arcs)) i (past f) h f
         on (no n) = o j (omega arith) e
 
--- The arc of a cell that is not 0.
-pub record ArcHere (t : Transducer) (back : Bool) (s c link : ℕ) : Type 0 where
-  pub number : ℕ
-  pub below : number < length (t .arcs)
-  pub from : from-end back (arc t number) ≡ s
-  pub to : c / 4096 ≡ to-end back (arc t number)
-  pub link-is : c % 4096 ≡ suc number
-  pub is : link ≡ suc number
-
 module _ {t : Transducer} {back : Bool} {first : List Bool} {bottom s : ℕ} {ms : List Bool} {stack : List ℕ} {top c : ℕ} (z : Sized t)
     (w : Serving t back first bottom s ms stack top c) (some : c ≡ 0 → ⊥) where
   pub serving-arc : ArcHere t back s c (w .link)
-  serving-arc = on (w .link) refl
-    where
-      on : (k : ℕ) → w .link ≡ k → ArcHere t back s c (w .link)
-      on zero e = absurd (some (w .cell-is ∙ ap (cell t back) e ∙ cell-zero t back))
-      on (suc i) e =
-          let c-is : c ≡ cell t back (suc i) = w .cell-is ∙ ap (cell t back) e in
-          let low : i < 4095 = omega (arith, e, w .link-most, z .arcs) in
-          let here : last t back s (suc i) ≡ suc i = rw e at (w .last-is) in
-          record {
-            number = i;
-            below = omega (arith, e, w .link-most);
-            from = last-from t back s i here;
-            to = ap (λ (x : ℕ). x / 4096) c-is ∙ cell-state t back i low;
-            link-is = ap (λ (x : ℕ). x % 4096) c-is ∙ cell-link t back i low;
-            is = e;
-          }
+  serving-arc = chain-arc (z .arcs) (w .chain) some
 
   pub serving-to : c / 4096 < t .states
   serving-to = let a = serving-arc in omega (arith, a .to, to-below z back (a .number) (a .below))
 
   pub serving-link : (0 < c % 4096) × (c % 4096 ≤ 3072)
-  serving-link = let a = serving-arc in (omega (arith, a .link-is), omega (arith, a .link-is, a .below, z .arcs))
+  serving-link = chain-link (z .arcs) (w .chain) some
 
   pub serving-room : top < 1024
   serving-room = omega (arith, w .few, number-most ms, w .marks-long)
@@ -222,12 +193,10 @@ module _ {t : Transducer} {back : Bool} {first : List Bool} {bottom s : ℕ} {ms
   -- The arc leads to a marked state: on to the next.
   pub serving-over : {heads next : List ℕ} → Chained t back heads next → getD ms (c / 4096) false ≡ true
       → Serving t back first bottom s ms stack top (getD next (c % 4096 - 1) 0)
-  serving-over {next = next} ch there =
+  serving-over ch there =
       record {
         link = last t back s (a .number);
-        cell-is = next-is;
-        last-is = last-last t back s (a .number);
-        link-most = omega (arith, last-most t back s (a .number), a .below);
+        chain = chain-next (z .arcs) (w .chain) ch a;
         wider = w .wider;
         rises = w .rises;
         pushed = w .pushed;
@@ -242,33 +211,14 @@ module _ {t : Transducer} {back : Bool} {first : List Bool} {bottom s : ℕ} {ms
       a : ArcHere t back s c (w .link)
       a = serving-arc
 
-      next-is : getD next (c % 4096 - 1) 0 ≡ cell t back (last t back s (a .number))
-      next-is =
-          let at : c % 4096 - 1 ≡ a .number = omega (arith, a .link-is) in
-          ap (λ (k : ℕ). getD next k 0) at ∙ ch .next-at (a .number) (a .below) ∙ ap (λ (u : ℕ). cell t back (last t back u (a .number))) (a .from)
-
       on : (i : ℕ) → i < length (t .arcs) → getD ms (from-end back (arc t i)) false ≡ true → Off stack top (from-end back (arc t i))
           → (from-end back (arc t i) ≡ s → last t back s (a .number) ≤ i) → Dec (i ≡ a .number) → getD ms (to-end back (arc t i)) false ≡ true
       on i h m o past (yes e) = rw (e, ← a .to) there
-      on i h m o past (no n) = w .closed i h m o further
-        where
-          further : from-end back (arc t i) ≡ s → w .link ≤ i
-          further f = behind (ltb i (a .number)) refl
-            where
-              behind : (b : Bool) → ltb i (a .number) ≡ b → w .link ≤ i
-              behind true l = absurd (none-behind t back s (a .number) i (past f) (ltb-true i (a .number) l) f)
-              behind false l = omega (arith, a .is, ltb-false i (a .number) l)
+      on i h m o past (no n) = w .closed i h m o (λ f. omega (arith, a .is, none-between t back s (a .number) i f n (past f)))
 
   -- The chain goes on to lower numbers.
   pub serving-less : {heads next : List ℕ} → Chained t back heads next → getD next (c % 4096 - 1) 0 % 4096 < c % 4096
-  serving-less {next = next} ch =
-      let a = serving-arc in
-      let at : c % 4096 - 1 ≡ a .number = omega (arith, a .link-is) in
-      let is : getD next (c % 4096 - 1) 0 ≡ cell t back (last t back (from-end back (arc t (a .number))) (a .number)) =
-      ap (λ (k : ℕ). getD next k 0) at ∙ ch .next-at (a .number) (a .below) in
-      let most = last-most t back (from-end back (arc t (a .number))) (a .number) in
-      let link = cell-number t back (last t back (from-end back (arc t (a .number))) (a .number)) (omega (arith, most, a .below, z .arcs)) in
-      rw is (omega (arith, link, most, a .link-is))
+  serving-less ch = chain-less (z .arcs) (w .chain) ch some
 
   -- It leads to a state that is not: that one is marked and put on the stack.
   pub serving-push : getD ms (c / 4096) false ≡ false
@@ -276,9 +226,7 @@ module _ {t : Transducer} {back : Bool} {first : List Bool} {bottom s : ℕ} {ms
   serving-push new =
       record {
         link = w .link;
-        cell-is = w .cell-is;
-        last-is = w .last-is;
-        link-most = w .link-most;
+        chain = w .chain;
         wider = widened-twice (w .wider) (widened-one (a .number) (a .below) (rw (a .from, ← a .to) (spread-set ms s (c / 4096) inside (w .here))));
         rises = omega (arith, w .rises);
         pushed = omega (arith, w .pushed, one);
@@ -324,7 +272,7 @@ serving-new {ms = ms} {c = c} z w some ch new =
 
 pub serving-stop : {t : Transducer} {back : Bool} {first : List Bool} {bottom s : ℕ} {ms : List Bool} {stack : List ℕ} {top c : ℕ} → c ≡ 0
     → Serving t back first bottom s ms stack top c → Served t back bottom first ms stack top
-serving-stop {t} {back} {c = c} e w =
+serving-stop e w =
     record {
       wider = w .wider;
       rises = w .rises;
@@ -339,7 +287,7 @@ serving-stop {t} {back} {c = c} e w =
     }
   where
     none : w .link ≡ 0
-    none = cell-none t back (w .link) (sym (w .cell-is) ∙ e)
+    none = chain-end (w .chain) e
 
 -- Emptying the stack
 

@@ -1,7 +1,7 @@
 -- A sweep, arc by arc: what it has covered, and that no mark is left to spread where no arc waits, since arcs stand by their sources. Assumes
 -- nothing.
-use mathlib.Core.Path.{_≡_, refl, subst, _∙_}
-use mathlib.Core.Bool.{Bool, true, false, _&&_, _||_, not, cond}
+use mathlib.Core.Path.{_≡_, refl, sym, subst}
+use mathlib.Core.Bool.{Bool, true, false, _&&_, not, cond}
 use mathlib.Core.Logic.{_⊎_, inl, inr}
 use mathlib.Core.List.{List}
 use Prim.Native.Nat.{ℕ, _+_, _-_, _≤_, _<_}
@@ -10,12 +10,12 @@ use native.Mathlib.Omega.{arith}
 use lib.Dec.{ltb}
 use lib.ListN.{length, getD}
 use borrow.Author.Tests.{ltb-false}
-use Rattle.wire.proofs.Places.{and-true}
+use Rattle.wire.proofs.Bool.{never}
 use Rattle.transducer.specs.declared.Arc.{Arc}
 use Rattle.transducer.specs.Format.{Transducer}
 use Rattle.transducer.specs.Path.{arc}
 use Rattle.reach.specs.Marks.{Spread, from-end, to-end, Passes, Widened, waits, Swept}
-use Rattle.reach.proofs.Spreading.{never, widened-none, widened-twice, widened-one}
+use Rattle.reach.proofs.Spreading.{widened-none, widened-twice, widened-one}
 
 -- Sources never fall.
 abbrev pub Sourced : Transducer → Type 0
@@ -42,8 +42,8 @@ not-waits ms back from to h = on back (cond back (ltb from to) (ltb to from)) re
   where
     all : (x y : Bool) → not (x && y) ≡ false → (x ≡ true) × (y ≡ true)
     all true true e = (refl, refl)
-    all true false e = never true e refl
-    all false y e = never true e refl
+    all true false e = never (sym e)
+    all false y e = never (sym e)
 
     on : (d b : Bool) → cond d (ltb from to) (ltb to from) ≡ b → b && not (getD ms from false && getD ms to false) ≡ false
         → Ordered d from to ⊎ ((getD ms from false ≡ true) × (getD ms to false ≡ true))
@@ -85,17 +85,13 @@ module _ {mid end : List Bool} {back : Bool} {from to : ℕ} (sp : Spread mid fr
       on h (inr r) (inr m) = let m' : getD mid from' false ≡ true = rw (r .0) (m .1) in sp .grows to' (c m')
       on h (inr r) (inl q) = met h (r .1) (meet back q o b (r .0))
 
--- Marks have spread along the arcs numbered from `low` to below `high`.
-pub record Sweeping (t : Transducer) (back : Bool) (low high : ℕ) (ms ms' : List Bool) (again : Bool) : Type 0 where
+-- Marks have spread along the arcs numbered from `low` to below `high`, and none of these waits.
+pub record Sweeping (t : Transducer) (back : Bool) (low high : ℕ) (ms ms' : List Bool) : Type 0 where
   pub wider : Widened t back ms ms'
-  pub tidy : again ≡ false → (i : ℕ) → low ≤ i → i < high → Tidy ms' back (from-end back (arc t i)) (to-end back (arc t i))
+  pub tidy : (i : ℕ) → low ≤ i → i < high → Tidy ms' back (from-end back (arc t i)) (to-end back (arc t i))
 
-sweeping-none : (t : Transducer) (back : Bool) (low high : ℕ) (ms : List Bool) → high ≤ low → Sweeping t back low high ms ms false
-sweeping-none t back low high ms none = record { wider = widened-none t back ms; tidy = λ _ j l h. absurd (omega arith) }
-
-or-false : (a b : Bool) → a || b ≡ false → (a ≡ false) × (b ≡ false)
-or-false false b e = (refl, e)
-or-false true b e = never true e refl
+sweeping-none : (t : Transducer) (back : Bool) (low high : ℕ) (ms : List Bool) → high ≤ low → Sweeping t back low high ms ms
+sweeping-none t back low high ms none = record { wider = widened-none t back ms; tidy = λ j l h. absurd (omega arith) }
 
 by-sources : (back : Bool) (a b : Arc) → Ordered back (a .source) (b .source)
     → Ordered back (cond back (to-end back a) (from-end back a)) (cond back (to-end back b) (from-end back b))
@@ -113,63 +109,64 @@ pub at-turn-below : (back : Bool) {arcs k i n : ℕ} → i ≡ cond back (arcs -
 at-turn-below false e l all = omega arith
 at-turn-below true e l all = omega arith
 
-module _ {t : Transducer} {again : Bool} {ms mid end : List Bool} where
+module _ {t : Transducer} {ms mid end : List Bool} where
   sweeping-more : (back : Bool) {low high : ℕ} (low' high' i : ℕ) → i < length (t .arcs)
       → ((j : ℕ) → low' ≤ j → j < high' → (j ≡ i) ⊎ ((low ≤ j) × (j < high) × Ordered back (arc t j .source) (arc t i .source)))
-      → Sweeping t back low high ms mid again → Spread mid (from-end back (arc t i)) (to-end back (arc t i)) end
-      → Sweeping t back low' high' ms end (again || waits mid back (from-end back (arc t i)) (to-end back (arc t i)))
-  sweeping-more back {low} {high} low' high' i below cases w sp =
-      record {
-        wider = widened-twice (w .wider) (widened-one i below sp);
-        tidy = λ q j l h. neat (or-false again (waits mid back (from-end back (arc t i)) (to-end back (arc t i))) q) j (cases j l h);
-      }
+      → waits mid back (from-end back (arc t i)) (to-end back (arc t i)) ≡ false
+      → Sweeping t back low high ms mid → Spread mid (from-end back (arc t i)) (to-end back (arc t i)) end
+      → Sweeping t back low' high' ms end
+  sweeping-more back {low} {high} low' high' i below cases q w sp =
+      record { wider = widened-twice (w .wider) (widened-one i below sp); tidy = λ j l h. neat j (cases j l h) }
     where
-      neat : (again ≡ false) × (waits mid back (from-end back (arc t i)) (to-end back (arc t i)) ≡ false) → (j : ℕ)
-          → (j ≡ i) ⊎ ((low ≤ j) × (j < high) × Ordered back (arc t j .source) (arc t i .source))
+      neat : (j : ℕ) → (j ≡ i) ⊎ ((low ≤ j) × (j < high) × Ordered back (arc t j .source) (arc t i .source))
           → Tidy end back (from-end back (arc t j)) (to-end back (arc t j))
-      neat q j (inl e) = rw e (tidy-here sp (not-waits mid back (from-end back (arc t i)) (to-end back (arc t i)) (q .1)))
-      neat q j (inr b) =
-          tidy-before sp (not-waits mid back (from-end back (arc t i)) (to-end back (arc t i)) (q .1))
-          (by-sources back (arc t j) (arc t i) (b .2)) (w .tidy (q .0) j (b .0) (b .1))
+      neat j (inl e) = rw e (tidy-here sp (not-waits mid back (from-end back (arc t i)) (to-end back (arc t i)) q))
+      neat j (inr b) =
+          tidy-before sp (not-waits mid back (from-end back (arc t i)) (to-end back (arc t i)) q)
+          (by-sources back (arc t j) (arc t i) (b .2)) (w .tidy j (b .0) (b .1))
 
   sweeping-turn : (back : Bool) {arcs k : ℕ} (i : ℕ) → Sourced t → i ≡ cond back (arcs - (k + 1)) k → k < arcs → arcs ≡ length (t .arcs)
-      → Sweeping t back (low-at back arcs k) (high-at back arcs k) ms mid again
+      → waits mid back (from-end back (arc t i)) (to-end back (arc t i)) ≡ false
+      → Sweeping t back (low-at back arcs k) (high-at back arcs k) ms mid
       → Spread mid (from-end back (arc t i)) (to-end back (arc t i)) end
       → Sweeping t back (low-at back arcs (k + 1)) (high-at back arcs (k + 1)) ms end
-      (again || waits mid back (from-end back (arc t i)) (to-end back (arc t i)))
-  sweeping-turn false {arcs} {k} i order e l all w sp =
-      sweeping-more false 0 (k + 1) i (at-turn-below false e l all) (λ j m h. on j h (ℕ-discrete j i)) w sp
+  sweeping-turn false {arcs} {k} i order e l all q w sp =
+      sweeping-more false 0 (k + 1) i (at-turn-below false e l all) (λ j m h. on j h (ℕ-discrete j i)) q w sp
     where
       on : (j : ℕ) → j < k + 1 → Dec (j ≡ i) → (j ≡ i) ⊎ ((0 ≤ j) × (j < k) × (arc t j .source ≤ arc t i .source))
       on j h (yes q) = inl q
       on j h (no n) = inr (omega arith, omega arith, order j i (omega arith) (at-turn-below false e l all))
-  sweeping-turn true {arcs} {k} i order e l all w sp =
-      sweeping-more true (arcs - (k + 1)) arcs i (at-turn-below true e l all) (λ j m h. on j m h (ℕ-discrete j i)) w sp
+  sweeping-turn true {arcs} {k} i order e l all q w sp =
+      sweeping-more true (arcs - (k + 1)) arcs i (at-turn-below true e l all) (λ j m h. on j m h (ℕ-discrete j i)) q w sp
     where
       on : (j : ℕ) → arcs - (k + 1) ≤ j → j < arcs → Dec (j ≡ i) → (j ≡ i) ⊎ ((arcs - k ≤ j) × (j < arcs) × (arc t i .source ≤ arc t j .source))
       on j m h (yes q) = inl q
       on j m h (no n) = inr (omega arith, h, order i j (omega arith) (omega arith))
 
   -- One turn.
-  pub sweeping-next : (back : Bool) {arcs k from to : ℕ} (i : ℕ) (wait : Bool) → Sourced t → i ≡ cond back (arcs - (k + 1)) k → k < arcs
-      → arcs ≡ length (t .arcs) → from ≡ from-end back (arc t i) → to ≡ to-end back (arc t i) → wait ≡ waits mid back from to
-      → Sweeping t back (low-at back arcs k) (high-at back arcs k) ms mid again → Spread mid from to end
-      → Sweeping t back (low-at back arcs (k + 1)) (high-at back arcs (k + 1)) ms end (again || wait)
-  sweeping-next back i wait order e l all f g q w sp = rw (q, f, g) (sweeping-turn back i order e l all w (rw (f, g) at sp))
+  pub sweeping-next : (back : Bool) {arcs k from to : ℕ} (i : ℕ) → Sourced t → i ≡ cond back (arcs - (k + 1)) k → k < arcs
+      → arcs ≡ length (t .arcs) → from ≡ from-end back (arc t i) → to ≡ to-end back (arc t i) → waits mid back from to ≡ false
+      → Sweeping t back (low-at back arcs k) (high-at back arcs k) ms mid → Spread mid from to end
+      → Sweeping t back (low-at back arcs (k + 1)) (high-at back arcs (k + 1)) ms end
+  sweeping-next back i order e l all f g q w sp = sweeping-turn back i order e l all (rw (f, g) at q) w (rw (f, g) at sp)
 
-pub sweeping-first : (t : Transducer) (back : Bool) (arcs : ℕ) (ms : List Bool) → Sweeping t back (low-at back arcs 0) (high-at back arcs 0) ms ms false
+pub sweeping-first : (t : Transducer) (back : Bool) (arcs : ℕ) (ms : List Bool) → Sweeping t back (low-at back arcs 0) (high-at back arcs 0) ms ms
 sweeping-first t false arcs ms = sweeping-none t false 0 0 ms (omega arith)
 sweeping-first t true arcs ms = sweeping-none t true (arcs - 0) arcs ms (omega arith)
 
-module _ {t : Transducer} {again : Bool} {ms end : List Bool} where
-  sweeping-all : (back : Bool) {arcs k : ℕ} → k ≡ arcs → Sweeping t back (low-at back arcs k) (high-at back arcs k) ms end again
-      → Sweeping t back 0 arcs ms end again
-  sweeping-all false e w = subst (λ (h : ℕ). Sweeping t false 0 h ms end again) e w
+module _ {t : Transducer} {ms end : List Bool} where
+  sweeping-all : (back : Bool) {arcs k : ℕ} → k ≡ arcs → Sweeping t back (low-at back arcs k) (high-at back arcs k) ms end
+      → Sweeping t back 0 arcs ms end
+  sweeping-all false e w = subst (λ (h : ℕ). Sweeping t false 0 h ms end) e w
   sweeping-all true {arcs} {k} e w =
-      let none : arcs - k ≡ 0 = omega arith in subst (λ (l : ℕ). Sweeping t true l arcs ms end again) none w
+      let none : arcs - k ≡ 0 = omega arith in subst (λ (l : ℕ). Sweeping t true l arcs ms end) none w
 
   pub sweeping-stop : (back : Bool) {arcs k : ℕ} → arcs ≡ length (t .arcs) → k ≡ arcs
-      → Sweeping t back (low-at back arcs k) (high-at back arcs k) ms end again → Swept t back ms end again
+      → Sweeping t back (low-at back arcs k) (high-at back arcs k) ms end → Swept t back ms end false
   sweeping-stop back {arcs} all e v =
-      let w : Sweeping t back 0 arcs ms end again = sweeping-all back e v in
-      record { wider = w .wider; closed = λ q i h m. tidy-passes (w .tidy q i (omega arith) (omega arith)) m }
+      let w : Sweeping t back 0 arcs ms end = sweeping-all back e v in
+      record { wider = w .wider; closed = λ _ i h m. tidy-passes (w .tidy i (omega arith) (omega arith)) m }
+
+-- Where more may come only the marks are told.
+pub swept-more : {t : Transducer} {back : Bool} {ms ms' : List Bool} → Widened t back ms ms' → Swept t back ms ms' true
+swept-more w = record { wider = w; closed = λ e. never (sym e) }

@@ -35,7 +35,7 @@ pub record Widened (t : Transducer) (back : Bool) (ms ms' : List Bool) : Type 0 
   pub sound : (p : ℕ → Bool) → Passes t back p → ((s : ℕ) → getD ms s false ≡ true → p s ≡ true) → (s : ℕ) → getD ms' s false ≡ true → p s ≡ true
 
 -- Marks spread until no more are to come.
-pub record Settled (t : Transducer) (back : Bool) (ms ms' : List Bool) : Type 0 where
+pub record Closure (t : Transducer) (back : Bool) (ms ms' : List Bool) : Type 0 where
   pub wider : Widened t back ms ms'
   pub closed : Passes t back (λ s. getD ms' s false)
 

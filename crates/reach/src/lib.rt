@@ -10,3 +10,5 @@ pub use arcs::target;
 pub use index::by_target;
 pub use marks::accessible;
 pub use marks::coaccessible;
+pub use marks::coaccessible_chained;
+pub use stack::LINKS;

@@ -1,11 +1,13 @@
 // The accessible and the coaccessible states: marks from the start, and back from the final states.
 ghost use mathlib.Core.Path.{_≡_};
+ghost use mathlib.Core.Bool.{true};
 ghost use lib.ListN.{length};
 ghost use Rattle.transducer.specs.Format.{refusal, decode, head-finals};
 ghost use Rattle.transducer.specs.Path.{is-final};
 ghost use Rattle.transducer.specs.Leaf.{Opened};
 ghost use Rattle.reach.specs.Reach.{accessible, coaccessible};
-ghost use Rattle.reach.specs.Marks.{Settled, Marked};
+ghost use Rattle.reach.specs.Marks.{Closure, Marked};
+ghost use Rattle.reach.specs.Stack.{Chained};
 use crate::stack;
 use crate::sweep;
 
@@ -20,7 +22,7 @@ fn settle(
 )
     requires { ⌜ Opened (now table) first × (states ≡ decode (now table) .states) × (arcs ≡ length (decode (now table) .arcs))
         × (length (now marks) ≡ 1024) ⌝ }
-    ensures { λ _. ⌜ Settled (decode (now (table .entry))) back (now (marks .entry)) (now (marks .exit)) ⌝ }
+    ensures { λ _. ⌜ Closure (decode (now (table .entry))) back (now (marks .entry)) (now (marks .exit)) ⌝ }
 {
     let again = sweep::sweep(table, first, arcs, back, marks);
     if !again {
@@ -79,5 +81,45 @@ pub fn coaccessible(
 {
     let mut marks = final_marks(table, finals);
     settle(table, first, states, arcs, true, &mut marks);
+    marks
+}
+
+// The same where the arcs stand in chains by their targets.
+fn settle_chained(
+    table: &[u8],
+    first: usize,
+    states: usize,
+    arcs: usize,
+    heads: &[u32; 1024],
+    next: &[u32; 3072],
+    marks: &mut [bool; 1024],
+)
+    requires { ⌜ Opened (now table) first × (states ≡ decode (now table) .states) × (arcs ≡ length (decode (now table) .arcs))
+        × Chained (decode (now table)) true (now heads) (now next) × (length (now marks) ≡ 1024) ⌝ }
+    ensures { λ _. ⌜ Closure (decode (now (table .entry))) true (now (marks .entry)) (now (marks .exit)) ⌝ }
+{
+    let again = sweep::sweep(table, first, arcs, true, marks);
+    if !again {
+        return;
+    }
+    stack::spread_chained(table, states, true, heads, next, marks);
+}
+
+// The coaccessible states, the arcs standing in chains by their targets.
+pub fn coaccessible_chained(
+    table: &[u8],
+    first: usize,
+    states: usize,
+    arcs: usize,
+    finals: usize,
+    heads: &[u32; 1024],
+    next: &[u32; 3072],
+) -> [bool; 1024]
+    requires { ⌜ Opened (now table) first × (states ≡ decode (now table) .states) × (arcs ≡ length (decode (now table) .arcs))
+        × (finals ≡ head-finals (now table)) × Chained (decode (now table)) true (now heads) (now next) ⌝ }
+    ensures { λ r. ⌜ Marked (coaccessible (decode (now (table .entry)) .states) (decode (now (table .entry)))) r ⌝ }
+{
+    let mut marks = final_marks(table, finals);
+    settle_chained(table, first, states, arcs, heads, next, &mut marks);
     marks
 }

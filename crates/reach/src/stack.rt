@@ -6,12 +6,12 @@ ghost use lib.ListN.{length, replicate};
 ghost use Rattle.wire.specs.Bytes.{Bytes};
 ghost use Rattle.transducer.specs.Format.{refusal, decode};
 ghost use Rattle.transducer.specs.Leaf.{Opened};
-ghost use Rattle.reach.specs.Marks.{Settled};
+ghost use Rattle.reach.specs.Marks.{Closure};
 ghost use Rattle.reach.specs.Stack.{Chained, Waiting, Served, Pushed};
 use crate::arcs;
 
 // A cell holds a state times this, and the number of an arc and one more.
-const LINKS: u32 = 4096;
+pub const LINKS: u32 = 4096;
 
 // Puts the arcs in chains, `heads` being zeros: at a state the cell of its last arc, at an arc the cell of the one before it.
 fn chain(
@@ -97,7 +97,7 @@ fn empty(
 )
     requires { ⌜ (refusal (now table) ≡ 0) × Chained (decode (now table)) back (now heads) (now next)
         × Waiting (decode (now table)) back (now marks) (now stack) count ⌝ }
-    ensures { λ _. ⌜ Settled (decode (now (table .entry))) back (now (marks .entry)) (now (marks .exit)) ⌝ }
+    ensures { λ _. ⌜ Closure (decode (now (table .entry))) back (now (marks .entry)) (now (marks .exit)) ⌝ }
 {
     let mut top = count;
     while 0 < top {
@@ -105,7 +105,25 @@ fn empty(
     }
 }
 
-// Spreads marks along arcs, or back, until no more are to come.
+// Spreads marks along the arcs in chains until no more are to come.
+pub fn spread_chained(
+    table: &[u8],
+    states: usize,
+    back: bool,
+    heads: &[u32; 1024],
+    next: &[u32; 3072],
+    marks: &mut [bool; 1024],
+)
+    requires { ⌜ (refusal (now table) ≡ 0) × (states ≡ decode (now table) .states) × Chained (decode (now table)) back (now heads) (now next)
+        × (length (now marks) ≡ 1024) ⌝ }
+    ensures { λ _. ⌜ Closure (decode (now (table .entry))) back (now (marks .entry)) (now (marks .exit)) ⌝ }
+{
+    let mut stack = [0u16; 1024];
+    let count = push_marked(states, marks, &mut stack);
+    empty(table, back, heads, next, count, marks, &mut stack);
+}
+
+// Puts the arcs in chains and spreads marks along them.
 pub fn spread_all(
     table: &[u8],
     first: usize,
@@ -116,12 +134,10 @@ pub fn spread_all(
 )
     requires { ⌜ Opened (now table) first × (states ≡ decode (now table) .states) × (arcs ≡ length (decode (now table) .arcs))
         × (length (now marks) ≡ 1024) ⌝ }
-    ensures { λ _. ⌜ Settled (decode (now (table .entry))) back (now (marks .entry)) (now (marks .exit)) ⌝ }
+    ensures { λ _. ⌜ Closure (decode (now (table .entry))) back (now (marks .entry)) (now (marks .exit)) ⌝ }
 {
     let mut heads = [0u32; 1024];
     let mut next = [0u32; 3072];
-    let mut stack = [0u16; 1024];
     chain(table, first, arcs, back, &mut heads, &mut next);
-    let count = push_marked(states, marks, &mut stack);
-    empty(table, back, &heads, &next, count, marks, &mut stack);
+    spread_chained(table, states, back, &heads, &next, marks);
 }

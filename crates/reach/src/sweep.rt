@@ -43,20 +43,21 @@ fn arc_at_turn(arcs: usize, k: usize, back: bool) -> usize
     k
 }
 
-// Spreads marks along each arc once, or back. Whether more may come.
+// Spreads marks along each arc once, or back, and stops at the first arc that waits. Whether more may come.
 pub fn sweep(table: &[u8], first: usize, arcs: usize, back: bool, marks: &mut [bool; 1024]) -> bool
     requires { ⌜ Opened (now table) first × (arcs ≡ length (decode (now table) .arcs)) × (length (now marks) ≡ 1024) ⌝ }
     ensures { λ r. ⌜ Swept (decode (now (table .entry))) back (now (marks .entry)) (now (marks .exit)) r ⌝ }
 {
-    let mut again = false;
     let mut k = 0;
     while k < arcs {
         let i = arc_at_turn(arcs, k, back);
         let from = arcs::from_end(table, first, i, back);
         let to = arcs::to_end(table, first, i, back);
-        again = again | waits(marks, from, to, back);
+        if waits(marks, from, to, back) {
+            return true;
+        }
         spread(marks, from, to);
         k += 1;
     }
-    again
+    false
 }

@@ -15,7 +15,7 @@ use Rattle.transducer.specs.Path.{accepts, runs}
 use Rattle.transducer.specs.Entry.{or-else}
 use Rattle.transducer.proofs.Runs.{accepting-accepts}
 use Rattle.paths.specs.declared.Told.{Told}
-use Rattle.paths.specs.Count.{can-accept}
+use Rattle.reach.specs.Reach.{coaccessible}
 use Rattle.paths.specs.Entry.{Tells}
 use Rattle.paths.proofs.PathTold.{refused-told, told-refused, told-found}
 use Rattle.paths.proofs.Ready.{Sized}
@@ -26,7 +26,7 @@ use Rattle.shortest.proofs.Distances.{Followed, followed, follow-shorte
 
 -- The shortest path along an arc for each state.
 pub record Found (t : Transducer) (v : ℕ → ℕ) (start len : ℕ) : Type 0 where
-  pub some : can-accept (t .states) t (t .start) ≡ true
+  pub some : coaccessible (t .states) t (t .start) ≡ true
   pub goes : runs t start (follow len t v start) ≡ true
   pub few : len ≤ max-path
   pub many : length (follow len t v start) ≡ len
@@ -78,7 +78,7 @@ module _ (bs : List ℕ) {a b : List ℕ} {n : ℕ} {r : Told} where
   pub shortest-bad : n ≡ refusal bs → (n ≡ 0 → ⊥) → r ≡ refused-told n → Shortest-says bs (shortest-refusal bs (length a) (length b)) r a a b b
   unfolding shortest-refusal or-else
   shortest-bad e nonzero h =
-      let rest : ℕ = cond (ltb (length a) max-path || ltb (length b) max-path) 10 (cond (can-accept (decode bs .states) (decode bs) (decode bs .start)) 0 16) in
+      let rest : ℕ = cond (ltb (length a) max-path || ltb (length b) max-path) 10 (cond (coaccessible (decode bs .states) (decode bs) (decode bs .start)) 0 16) in
       let number : cond (eqb (refusal bs) 0) rest (refusal bs) ≡ n = rw (← e, ne-eqb n 0 nonzero) in
       told-refused (decode bs) (shortest (decode bs)) (shortest-refusal bs (length a) (length b)) n r a b number nonzero h
 
@@ -107,7 +107,7 @@ module _ (bs : List ℕ) {a b : List ℕ} {n : ℕ} {r : Told} where
     unfolding shortest-refusal or-else
     shortest-none {cs} {ls} size says s q h =
         let ok : refusal bs ≡ 0 = sym e ∙ z in
-        let none : can-accept (decode bs .states) (decode bs) (decode bs .start) ≡ false =
+        let none : coaccessible (decode bs .states) (decode bs) (decode bs .start) ≡ false =
         no-path-none (decode bs) size (by-state cs) (by-state ls) (says .settled) (decode bs .start) (size .within .starts) (rw s at q) in
         told-refused (decode bs) (shortest (decode bs)) (shortest-refusal bs (length a) (length b)) 16 r a b
         (rw (ok, le-ltb (length a) max-path la, le-ltb (length b) max-path lb, none)) (λ q'. omega arith) h

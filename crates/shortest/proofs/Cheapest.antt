@@ -13,9 +13,10 @@ use Rattle.wire.proofs.Bool.{clash}
 use Rattle.transducer.specs.Format.{Transducer}
 use Rattle.transducer.specs.Path.{accepts, path-cost}
 use Rattle.transducer.proofs.Runs.{accepts-accepting, accepting-accepts, Within}
-use Rattle.paths.specs.Count.{paths-from, can-accept}
+use Rattle.reach.specs.Reach.{coaccessible}
+use Rattle.reach.proofs.Reach.{coaccessible-path, path-coaccessible}
+use Rattle.paths.specs.Count.{paths-from}
 use Rattle.paths.proofs.Listed.{in-paths-from, paths-from-has}
-use Rattle.paths.proofs.GoesOn.{can-accept-path, can-accept-some}
 use Rattle.shortest.specs.Shortest.{better, shortest}
 use Rattle.shortest.proofs.Best.{Not-better, better-false, not-better, neither-better-same, best-in, best-least}
 use Rattle.shortest.proofs.Cheaper.{cost-start, Shorter, cheap-and-short}
@@ -76,16 +77,16 @@ shortest-is t w p a h =
     neither-better-same t p (shortest t) (nothing-better t w p a) (h (shortest t) (shortest-accepts t w p a))
 
 -- Refusal 16: no path accepts.
-pub nothing-accepts : (t : Transducer) → Within t → (can-accept (t .states) t (t .start) ≡ false) ↔ ((p : List ℕ) → accepts t p ≡ false)
-nothing-accepts t w = (λ h p. there h p (accepts t p) refl, λ h. back h (can-accept (t .states) t (t .start)) refl)
+pub nothing-accepts : (t : Transducer) → Within t → (coaccessible (t .states) t (t .start) ≡ false) ↔ ((p : List ℕ) → accepts t p ≡ false)
+nothing-accepts t w = (λ h p. there h p (accepts t p) refl, λ h. back h (coaccessible (t .states) t (t .start)) refl)
   where
-    there : can-accept (t .states) t (t .start) ≡ false → (p : List ℕ) → (b : Bool) → accepts t p ≡ b → accepts t p ≡ false
+    there : coaccessible (t .states) t (t .start) ≡ false → (p : List ℕ) → (b : Bool) → accepts t p ≡ b → accepts t p ≡ false
     there h p false e = e
     there h p true e =
-        clash (can-accept-some t w (t .start) (w .starts) .1 (p, accepts-accepting t p e)) h
+        clash (path-coaccessible t w (t .start) p (accepts-accepting t p e)) h
 
-    back : ((p : List ℕ) → accepts t p ≡ false) → (b : Bool) → can-accept (t .states) t (t .start) ≡ b → can-accept (t .states) t (t .start) ≡ false
+    back : ((p : List ℕ) → accepts t p ≡ false) → (b : Bool) → coaccessible (t .states) t (t .start) ≡ b → coaccessible (t .states) t (t .start) ≡ false
     back h false e = e
     back h true e =
-        let found = can-accept-path (t .states) t (t .start) e in
+        let found = coaccessible-path (t .states) t (t .start) e in
         clash (accepting-accepts t (found .0) (found .1)) (h (found .0))

@@ -17,10 +17,11 @@ use Rattle.transducer.specs.Path.{arc, no-arc, ends, accepts, arcs-cost, path-c
 use Rattle.transducer.specs.Weight.{plus}
 use Rattle.transducer.proofs.Good.{arc-weight-most, final-weight-most}
 use Rattle.transducer.proofs.Runs.{Accepting, AcceptingBy, accepts-accepting, accepting-accepts, accepting-nil, accepting-cons, cons-accepting}
-use Rattle.paths.specs.Count.{before, paths-from, can-accept}
+use Rattle.reach.specs.Reach.{coaccessible}
+use Rattle.reach.proofs.Reach.{coaccessible-path, path-coaccessible}
+use Rattle.paths.specs.Count.{before, paths-from}
 use Rattle.paths.proofs.Order.{before-cons}
 use Rattle.paths.proofs.Listed.{in-paths-from, paths-from-has}
-use Rattle.paths.proofs.GoesOn.{can-accept-some}
 use Rattle.paths.proofs.Ready.{Sized}
 use Rattle.paths.proofs.Telling.{final-weight-low}
 use Rattle.shortest.specs.Shortest.{better, shortest, cost-from, no-path, least-of, least-to-come}
@@ -254,16 +255,16 @@ module _ (t : Transducer) (z : Sized t) (c l : ℕ → ℕ) (k : All-relaxed t c
             order = λ e g. follow-first (l s) s (z .within .starts) h refl q b (omega arith) (omega arith);
           })
 
-  pub reached-accepting : (s : ℕ) → s < t .states → c s < no-path → can-accept (t .states) t s ≡ true
-  reached-accepting s b h = can-accept-some t (z .within) s b .1 (reached s b h .path, reached-accepts s b h)
+  pub reached-accepting : (s : ℕ) → s < t .states → c s < no-path → coaccessible (t .states) t s ≡ true
+  reached-accepting s b h = path-coaccessible t (z .within) s (reached s b h .path) (reached-accepts s b h)
 
-  pub no-path-none : (s : ℕ) → s < t .states → c s ≡ no-path → can-accept (t .states) t s ≡ false
-  no-path-none s b e = on (can-accept (t .states) t s) refl
+  pub no-path-none : (s : ℕ) → s < t .states → c s ≡ no-path → coaccessible (t .states) t s ≡ false
+  no-path-none s b e = on (coaccessible (t .states) t s) refl
     where
-      on : (d : Bool) → can-accept (t .states) t s ≡ d → can-accept (t .states) t s ≡ false
+      on : (d : Bool) → coaccessible (t .states) t s ≡ d → coaccessible (t .states) t s ≡ false
       on false d = d
       on true d =
-          let p = can-accept-some t (z .within) s b .0 d in
+          let p = coaccessible-path (t .states) t s d in
           absurd (omega (arith, accepting-reached s (p .0) b (p .1)))
 
   -- The costs are the least to come.

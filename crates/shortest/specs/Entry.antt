@@ -6,7 +6,7 @@ use lib.Dec.{ltb}
 use Rattle.transducer.specs.Format.{max-path, refusal, decode}
 use Rattle.transducer.specs.Entry.{or-else}
 use Rattle.paths.specs.declared.Told.{Told}
-use Rattle.paths.specs.Count.{can-accept}
+use Rattle.reach.specs.Reach.{coaccessible}
 use Rattle.paths.specs.Entry.{Path-told}
 use Rattle.shortest.specs.Shortest.{shortest}
 
@@ -15,7 +15,7 @@ unfoldable pub shortest-refusal : List ℕ → (arcs labels : ℕ) → ℕ
 shortest-refusal bs a b =
     or-else (refusal bs)
     (cond (ltb a max-path || ltb b max-path) 10
-    (cond (can-accept (decode bs .states) (decode bs) (decode bs .start)) 0 16))
+    (cond (coaccessible (decode bs .states) (decode bs) (decode bs .start)) 0 16))
 
 abbrev pub Shortest-says : (bs : List ℕ) → (number : ℕ) → Told → (a a' b b' : List ℕ) → Type 0
 Shortest-says bs number r a a' b b' = Path-told (decode bs) (shortest (decode bs)) number r a a' b b'

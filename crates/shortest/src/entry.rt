@@ -21,7 +21,7 @@ pub fn shortest_path(table: &[u8], arcs: &mut [u16], labels: &mut [u16]) -> Told
     if labels.len() < transducer::MAX_PATH {
         return paths::refused(10);
     }
-    let mut index = [0u16; transducer::MAX_STATES + 1];
+    let mut index = [0u16; transducer::INDEX_LEN];
     let mut codes = [0u32; transducer::MAX_STATES];
     let shape = transducer::prepare(table, &mut index, &mut codes);
     let start = shape.start;

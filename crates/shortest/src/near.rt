@@ -14,6 +14,7 @@ ghost use Rattle.shortest.specs.Nearest.{by-state, most-arcs, cost-by, a
 ghost use Rattle.shortest.specs.Nearest.{Relaxed, Swept-says, Distances-settled, first-giving, first-tight, follow};
 ghost use Rattle.shortest.specs.Queue.{Queue, Joined, Draining, none, to-do};
 use crate::queue;
+use transducer::INDEX_LEN;
 use transducer::MAX_ARCS;
 use transducer::MAX_STATES;
 
@@ -150,7 +151,7 @@ fn sweep(
     table: &[u8],
     first: usize,
     arcs: usize,
-    index: &[u16; MAX_STATES + 1],
+    index: &[u16; INDEX_LEN],
     costs: &mut [u32; MAX_STATES],
     lens: &mut [u16; MAX_STATES],
 ) -> bool
@@ -235,7 +236,7 @@ fn relax_into(
     table: &[u8],
     first: usize,
     s: usize,
-    heads: &[u16; MAX_STATES + 1],
+    heads: &[u16; INDEX_LEN],
     into: &[u16; MAX_ARCS],
     costs: &mut [u32; MAX_STATES],
     lens: &mut [u16; MAX_STATES],
@@ -274,7 +275,7 @@ fn drain(
         × Nearing (decode (now table)) (by-state (now costs)) (by-state (now lens)) × Long (now costs) (now lens) ⌝ }
     ensures { λ _. ⌜ All-relaxed (decode (now (table .entry))) (by-state (now (costs .exit))) (by-state (now (lens .exit))) ⌝ }
 {
-    let mut heads = [0u16; MAX_STATES + 1];
+    let mut heads = [0u16; INDEX_LEN];
     let mut into = [0u16; MAX_ARCS];
     reach::by_target(table, first, states, arcs, &mut heads, &mut into);
     let mut ring = [0u16; MAX_STATES];
@@ -307,7 +308,7 @@ pub fn distances(
     first: usize,
     states: usize,
     arcs: usize,
-    index: &[u16; MAX_STATES + 1],
+    index: &[u16; INDEX_LEN],
     costs: &mut [u32; MAX_STATES],
     lens: &mut [u16; MAX_STATES],
 )
@@ -354,7 +355,7 @@ pub fn walk(
     first: usize,
     start: usize,
     len: usize,
-    index: &[u16; MAX_STATES + 1],
+    index: &[u16; INDEX_LEN],
     costs: &[u32; MAX_STATES],
     lens: &[u16; MAX_STATES],
     out: &mut [u16],

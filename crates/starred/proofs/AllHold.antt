@@ -8,7 +8,8 @@ use Prim.Native.Nat.{ℕ}
 use lib.ListN.{take, drop, replicate}
 use Rattle.wire.specs.Bytes.{two, four, low, places, every}
 use Rattle.transducer.specs.Format.{Transducer, Good}
-use Rattle.transducer.specs.Format.{framed-from, framed, records-from, records, kind-good, in-order, kinds-good, weight-at, weight-good, labels-good, finals-in, arcs-in}
+use Rattle.transducer.specs.Format.{framed-from, framed, records-from, records, kind-good, in-order, kinds-good}
+use Rattle.transducer.specs.Format.{weight-at, weight-good, labels-good, finals-in, arcs-in}
 use Rattle.transducer.specs.Format.{head-states, head-arcs, head-finals, head-start, decode, head-good, states-good, finals-rise, sources-stay, order-good}
 use Rattle.transducer.specs.Format.{all-labels-good, weights-good, first-of, content-refusal, refusal}
 use Rattle.transducer.specs.Encode.{weight-bytes, head-record, final-record, arc-record, final-records, arc-records, encode}
@@ -18,16 +19,16 @@ use Rattle.transducer.specs.Entry.{or-else, arc-fields, read-room, read-refusal
 use Rattle.transducer.proofs.RoundTrip.{refusal-encode, decode-encode}
 use Rattle.explore.specs.Explore.{there, place, met, served, numbered, targets, arcs-here, arcs-from, finals-from, steps-from, built, built-refusal}
 use Rattle.explore.specs.Walk.{all-origins}
-use Rattle.compose.specs.Compose.{same-state, left-alone, right-alone, both-step, left-steps, right-steps, steps, first-state, final-state, state-weight}
-use Rattle.compose.specs.Compose.{composed, left-origin, right-origin, origin-pair}
+use Rattle.steps.specs.Steps.{same-state, left-alone, right-alone, both-step, left-steps, right-steps, steps, first-state, left-origin, right-origin, origin-pair}
+use Rattle.compose.specs.Compose.{final-state, state-weight, composed}
 use Rattle.compose.specs.Entry.{origin-pairs, compose-room, compose-refusal}
 use Rattle.lattice.specs.Apply.{string-good, step, arc-steps, applied}
 use Rattle.lattice.specs.Apply.{same-state as same-position, steps as applied-steps, final-state as final-position}
-use Rattle.reach.specs.Reach.{entered, accessible, coaccessible, some-arc as some-arc-from}
+use Rattle.reach.specs.Reach.{entered, accessible, coaccessible, some-arc}
 use Rattle.trim.specs.Trim.{useful, arc-useful, renumbered, kept-arcs, kept-finals, kept-numbers, trimmed, origins-kept}
 use Rattle.lattice.specs.Lattice.{lattice, lattice-origins}
 use Rattle.lattice.specs.ApplyEntry.{apply-room, apply-refusal}
-use Rattle.paths.specs.Count.{before, paths-from, paths, some-arc, can-accept, goes-on, endless, path-count, nth-path}
+use Rattle.paths.specs.Count.{before, paths-from, paths, goes-on, endless, path-count, nth-path}
 use Rattle.paths.specs.Entry.{count-refusal, nth-refusal}
 use Rattle.shortest.specs.Shortest.{nearer, better, best-of, best, shortest}
 use Rattle.shortest.specs.Entry.{shortest-refusal}
@@ -62,7 +63,7 @@ counted bs t written good finite = rw (written, refusal-encode t good, decode-en
 
 like-arcs-hold : (x y z : ℕ) → All-hold (take 3 (drop 13 (cases x y z)))
 unfolding alike repeated encode head-record final-records final-record arc-records arc-record weight-bytes low every head-good content-refusal first-of
-    states-good order-good finals-rise sources-stay all-labels-good labels-good weights-good weight-good endless goes-on can-accept some-arc path-count
+    states-good order-good finals-rise sources-stay all-labels-good labels-good weights-good weight-good endless goes-on coaccessible some-arc path-count
     paths paths-from each-arc by-number is-final
 like-arcs-hold x y z =
     cons (counted (like-arcs 98) (alike 98) refl (record { head = refl; content = refl }) refl)
@@ -77,10 +78,10 @@ unfolding two four low places every framed-from framed records-from records kind
     non-empty written-by arcs-cost path-cost by-number each-arc fits passed or-else arc-fields read-room read-refusal there place met served numbered
     targets arcs-here arcs-from finals-from steps-from built built-refusal all-origins same-state left-alone right-alone both-step left-steps
     right-steps steps first-state final-state state-weight composed left-origin right-origin origin-pair origin-pairs compose-room compose-refusal
-    string-good step arc-steps applied same-position applied-steps final-position entered some-arc-from accessible coaccessible useful
+    string-good step arc-steps applied same-position applied-steps final-position entered some-arc accessible coaccessible useful
     arc-useful renumbered kept-arcs kept-finals kept-numbers trimmed origins-kept lattice lattice-origins apply-room apply-refusal before paths-from
-    paths some-arc
-    can-accept goes-on endless path-count nth-path count-refusal nth-refusal nearer better best-of best shortest shortest-refusal labels-in digits
+    paths
+    goes-on endless path-count nth-path count-refusal nth-refusal nearer better best-of best shortest shortest-refusal labels-in digits
     decimal readings-word labels-text line line-of lines counted-text listing-text code-refusal applied-refusal text-unless listing-refusal text-of
     or-refused read-answer write-answer path-answer defined repeated
 all-hold x y z =

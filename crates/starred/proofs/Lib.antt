@@ -1,2 +1,4 @@
+-- Each case holds by the definitions
 pub mod AllHold
+-- What each call promises is what the definitions give
 pub mod Promised

@@ -9,7 +9,7 @@ use lib.ListN.{length}
 use Rattle.transducer.specs.Format.{Transducer, decode}
 use Rattle.transducer.specs.Encode.{encode}
 use Rattle.transducer.specs.Path.{written-by, path-cost}
-use Rattle.transducer.specs.Entry.{arc-fields, read-refusal}
+use Rattle.codec.specs.Entry.{arc-fields, read-refusal}
 use Rattle.compose.specs.Compose.{composed}
 use Rattle.compose.specs.Entry.{compose-refusal, origin-pairs}
 use Rattle.lattice.specs.Lattice.{lattice, lattice-origins}

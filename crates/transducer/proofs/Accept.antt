@@ -11,13 +11,14 @@ use borrow.Author.Tests.{eqb-true, eq-eqb}
 use lib.Dec.{eqb}
 use lib.ListN.{length, getD}
 use Rattle.wire.specs.Bytes.{Bytes}
-use Rattle.wire.proofs.Places.{and-true, true-and}
+use Rattle.wire.proofs.Bool.{and-true, true-and, passed, by-test}
 use Rattle.transducer.specs.declared.Final.{Final}
+use Rattle.transducer.specs.Format.{max-states, max-arcs, max-weight, barred, arcs-at, arc-bytes}
 use Rattle.transducer.specs.Format.{Transducer, framed, records, kinds-good, decode, head-states, head-arcs, head-finals, head-start}
 use Rattle.transducer.specs.Format.{head-good, finals-rise, sources-stay, content-refusal, refusal}
 use Rattle.transducer.specs.Path.{no-arc, arc}
 use Rattle.transducer.specs.Check.{walked}
-use Rattle.transducer.proofs.Good.{Head-range, head-range, passed, Content, content-good, finals-rise-good, sources-stay-good}
+use Rattle.transducer.proofs.Good.{Head-range, head-range, Content, content-good, finals-rise-good, sources-stay-good}
 use Rattle.transducer.proofs.Good.{final-state-below, arc-states-below, arc-labels-below, final-weight-most, arc-weight-most}
 use Rattle.transducer.proofs.Laid.{Laid, laid-framed, laid-kinds, laid-finals-count, laid-arcs-count, kinds-laid}
 
@@ -28,10 +29,6 @@ head-fits bs = head-good (head-states bs) (head-arcs bs) (head-finals bs) (head-
 
 abbrev counts-fit : List ℕ → Bool
 counts-fit bs = eqb (length (decode bs .finals)) (head-finals bs) && eqb (length (decode bs .arcs)) (head-arcs bs)
-
-by-test : {A : Type 0} (t : Bool) → (t ≡ true → A) → (t ≡ false → A) → A
-by-test true f g = f refl
-by-test false f g = g refl
 
 counted-laid : {bs : List ℕ} → Bytes bs → framed bs ≡ true → kinds-good (records bs) ≡ true → counts-fit bs ≡ true →
     Laid bs (head-finals bs) (head-arcs bs)
@@ -104,11 +101,11 @@ accepted-content bs h = all-passed bs h .content
 pub record Content-range (t : Transducer) : Type 0 where
   pub source : (i : ℕ) → i < length (t .arcs) → arc t i .source < t .states
   pub target : (i : ℕ) → i < length (t .arcs) → arc t i .target < t .states
-  pub input : (i : ℕ) → i < length (t .arcs) → arc t i .input < 65535
-  pub output : (i : ℕ) → i < length (t .arcs) → arc t i .output < 65535
-  pub weight : (i : ℕ) → i < length (t .arcs) → arc t i .weight ≤ 1000000
+  pub input : (i : ℕ) → i < length (t .arcs) → arc t i .input < barred
+  pub output : (i : ℕ) → i < length (t .arcs) → arc t i .output < barred
+  pub weight : (i : ℕ) → i < length (t .arcs) → arc t i .weight ≤ max-weight
   pub final-state : (i : ℕ) (d : Final) → i < length (t .finals) → getD (t .finals) i d .state < t .states
-  pub final-weight : (i : ℕ) (d : Final) → i < length (t .finals) → getD (t .finals) i d .weight ≤ 1000000
+  pub final-weight : (i : ℕ) (d : Final) → i < length (t .finals) → getD (t .finals) i d .weight ≤ max-weight
   pub rise : finals-rise 0 (t .finals) ≡ true
   pub stay : sources-stay 0 (t .arcs) ≡ true
 
@@ -128,51 +125,26 @@ content-range t h =
       stay = sources-stay-good t c;
     }
 
--- What acceptance gives, as bounds on the numbers.
+-- What acceptance gives, as bounds on the numbers; `Content-range` has those of each arc and each final.
 pub record Bounds (bs : List ℕ) : Type 0 where
-  pub some : 1 ≤ head-states bs
-  pub states : head-states bs ≤ 1024
-  pub arcs : head-arcs bs ≤ 3072
-  pub finals : head-finals bs ≤ head-states bs
+  pub states : head-states bs ≤ max-states
+  pub arcs : head-arcs bs ≤ max-arcs
   pub start : head-start bs < head-states bs
-  pub long : length bs ≡ 12 + 10 * head-finals bs + 16 * head-arcs bs
+  pub long : length bs ≡ arcs-at (head-finals bs) + arc-bytes * head-arcs bs
   pub arcs-long : length (decode bs .arcs) ≡ head-arcs bs
-  pub finals-long : length (decode bs .finals) ≡ head-finals bs
-  pub source : (i : ℕ) → i < head-arcs bs → arc (decode bs) i .source < head-states bs
-  pub target : (i : ℕ) → i < head-arcs bs → arc (decode bs) i .target < head-states bs
-  pub input : (i : ℕ) → i < head-arcs bs → arc (decode bs) i .input < 65535
-  pub output : (i : ℕ) → i < head-arcs bs → arc (decode bs) i .output < 65535
-  pub weight : (i : ℕ) → i < head-arcs bs → arc (decode bs) i .weight ≤ 1000000
-  pub final-state : (i : ℕ) (d : Final) → i < head-finals bs → getD (decode bs .finals) i d .state < head-states bs
-  pub final-weight : (i : ℕ) (d : Final) → i < head-finals bs → getD (decode bs .finals) i d .weight ≤ 1000000
-  pub rise : finals-rise 0 (decode bs .finals) ≡ true
-  pub stay : sources-stay 0 (decode bs .arcs) ≡ true
+  pub weight : (i : ℕ) → i < head-arcs bs → arc (decode bs) i .weight ≤ max-weight
 
 pub bounds : {bs : List ℕ} → Bytes bs → refusal bs ≡ 0 → Bounds bs
-unfolding decode
 bounds {bs} b h =
     let l : Laid bs (head-finals bs) (head-arcs bs) = accepted-laid b h in
     let r : Head-range (head-states bs) (head-arcs bs) (head-finals bs) (head-start bs) =
     head-range (head-states bs) (head-arcs bs) (head-finals bs) (head-start bs) (accepted-head bs h) in
-    let c : Content-range (decode bs) = content-range (decode bs) (accepted-content bs h) in
     let m : length (decode bs .arcs) ≡ head-arcs bs = laid-arcs-count b l in
-    let f : length (decode bs .finals) ≡ head-finals bs = laid-finals-count b l in
     record {
-      some = r .some;
       states = r .states;
       arcs = r .arcs;
-      finals = r .finals;
       start = r .start;
       long = l .long;
       arcs-long = m;
-      finals-long = f;
-      source = λ i k. c .source i (rw m k);
-      target = λ i k. c .target i (rw m k);
-      input = λ i k. c .input i (rw m k);
-      output = λ i k. c .output i (rw m k);
-      weight = λ i k. c .weight i (rw m k);
-      final-state = λ i d k. c .final-state i d (rw f k);
-      final-weight = λ i d k. c .final-weight i d (rw f k);
-      rise = c .rise;
-      stay = c .stay;
+      weight = λ i k. content-range (decode bs) (accepted-content bs h) .weight i (rw m k);
     }

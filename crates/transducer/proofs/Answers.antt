@@ -5,7 +5,7 @@ use mathlib.Core.List.{List}
 use Prim.Native.Nat.{ℕ}
 use lib.Dec.{eqb}
 use lib.ListN.{length}
-use borrow.Author.Tests.{eqb-true, eqb-false, eq-eqb}
+use borrow.Author.Tests.{eqb-true, eqb-false, eq-eqb, ne-eqb}
 use Rattle.wire.specs.Bytes.{filled}
 use Rattle.transducer.specs.Entry.{or-else, unless, left-in}
 
@@ -21,9 +21,17 @@ pub none-or-else : (a b : ℕ) → a ≡ 0 → or-else a b ≡ b
 unfolding or-else
 none-or-else a b e = rw (eq-eqb a 0 e)
 
+pub some-or-else : (a b : ℕ) → (a ≡ 0 → ⊥) → or-else a b ≡ a
+unfolding or-else
+some-or-else a b bad = rw (ne-eqb a 0 bad)
+
 pub unless-none : (number value : ℕ) → number ≡ 0 → unless number value ≡ value
 unfolding unless
 unless-none number value e = rw (eq-eqb number 0 e)
+
+pub unless-some : (number value : ℕ) → (number ≡ 0 → ⊥) → unless number value ≡ 0
+unfolding unless
+unless-some number value bad = rw (ne-eqb number 0 bad)
 
 pub left-in-none : (number : ℕ) (before written : List ℕ) → number ≡ 0 → left-in number before written ≡ filled (length before) written
 unfolding left-in

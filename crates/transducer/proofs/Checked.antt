@@ -2,10 +2,10 @@
 --     left-first, left-next, left-stop        a loop over records, of which what is left equals the whole
 --     finals-gathered, arcs-gathered          what the tests of finals, and of arcs, add to those before
 --     content-checked                         the tests of both, wherever they stand, are those of the transducer that they make
---     all-checked-content, given-content      the same in bytes, and in runs of fields
+--     all-checked-content                     the same in bytes
 -- Assumes nothing.
 use mathlib.Core.Path.{_≡_, refl, sym, _∙_}
-use mathlib.Core.Bool.{Bool, true, false, _&&_}
+use mathlib.Core.Bool.{Bool, true, false, _&&_, and-assoc, and-true}
 use mathlib.Core.List.{List}
 use Prim.Native.Nat.{ℕ, zero, suc, _+_, _*_, _-_, _≤_, _<_}
 use native.Mathlib.Nat.{mul-zero, mul-suc, sub-zero}
@@ -13,13 +13,11 @@ use native.Mathlib.Numerals.{add-one}
 use native.Mathlib.Omega.{arith}
 use lib.Dec.{ltb, leb, eqb}
 use Rattle.wire.specs.Bytes.{four, places, every}
-use Rattle.wire.proofs.Places.{and-assoc}
 use Rattle.transducer.specs.declared.Arc.{Arc}
 use Rattle.transducer.specs.declared.Final.{Final}
 use Rattle.transducer.specs.declared.Checks.{Checks}
 use Rattle.transducer.specs.Format.{Transducer, weight-good, labels-good, final-at, arc-at, finals-rise, sources-stay, states-good, order-good, all-labels-good, weights-good, first-of, content-refusal}
 use Rattle.transducer.specs.Check.{final-checked, arc-checked, finals-checked, arcs-checked, from-0, all-checked, none-failed, final-word, arc-word}
-use Rattle.transducer.specs.Entry.{final-of, arc-of, given}
 
 -- A loop over `count` records, the first at `at`, each `step` past the one before, when it has passed i of them.
 -- `fold 1` is one turn.
@@ -61,10 +59,6 @@ pub record Gathered (c d : Checks) (heads states order labels weights : Bool) : 
   pub labels-are : d .labels ≡ c .labels && labels
   pub weights-are : d .weights ≡ c .weights && weights
 
-and-truth : (b : Bool) → b ≡ b && true
-and-truth true = refl
-and-truth false = refl
-
 -- The floor is no test.
 gathered-none : (c : Checks) (floor : ℕ) →
     Gathered c
@@ -72,11 +66,11 @@ gathered-none : (c : Checks) (floor : ℕ) →
     true true true true true
 gathered-none c floor =
     record {
-      heads-are = and-truth (c .heads);
-      states-are = and-truth (c .states);
-      order-is = and-truth (c .order);
-      labels-are = and-truth (c .labels);
-      weights-are = and-truth (c .weights);
+      heads-are = sym (and-true (c .heads));
+      states-are = sym (and-true (c .states));
+      order-is = sym (and-true (c .order));
+      labels-are = sym (and-true (c .labels));
+      weights-are = sym (and-true (c .weights));
     }
 
 gathered-more : {c d e : Checks} {h s o l w h' s' o' l' w' : Bool} → Gathered c d h s o l w → Gathered d e h' s' o' l' w' →
@@ -99,7 +93,7 @@ finals-gathered zero at s n word final c = gathered-none c (c .floor)
 finals-gathered (suc k) at s n word final c =
     let d = final-checked n (word at) (final at) c in
     let first : Gathered c d (eqb (word at) final-word) (ltb (final at .state) n) (leb (c .floor) (final at .state)) true (weight-good (final at .weight)) =
-    record { heads-are = refl; states-are = refl; order-is = refl; labels-are = and-truth (c .labels); weights-are = refl } in
+    record { heads-are = refl; states-are = refl; order-is = refl; labels-are = sym (and-true (c .labels)); weights-are = refl } in
     gathered-more first (finals-gathered k (at + s) s n word final d)
 
 pub arcs-gathered : (k at s n : ℕ) (word : ℕ → ℕ) (arc : ℕ → Arc) (c : Checks) →
@@ -154,11 +148,3 @@ module _ (bs : List ℕ) (n m f : ℕ) where
       ≡ content-refusal t
   unfolding all-checked
   all-checked-content = content-checked n f 12 10 m (12 + 10 * f) 16 (four bs) (four bs) (final-at bs) (arc-at bs)
-
--- In runs of fields.
-pub given-content : (n m f start : ℕ) (a b c d : List ℕ) →
-    let all = arcs-checked m 0 1 n (λ _. arc-word) (arc-of c d) (from-0 (finals-checked f 0 1 n (λ _. final-word) (final-of a b) none-failed)) in
-    first-of (all .states) (all .order) (all .labels) (all .weights) ≡ content-refusal (given n m f start a b c d)
-unfolding given
-given-content n m f start a b c d =
-    content-checked n f 0 1 m 0 1 (λ _. final-word) (λ _. arc-word) (final-of a b) (arc-of c d) (given n m f start a b c d) refl refl refl

@@ -11,7 +11,8 @@ use lib.Dec.{leb, eqb}
 use lib.ListN.{length, getD, set, take, replicate, length-set, length-replicate, getD-replicate}
 use lib.Seq.{getD-set-same, getD-set-other}
 use Rattle.wire.specs.Bytes.{Bytes, places}
-use Rattle.wire.proofs.Places.{and-true, true-and, places-snoc, take-places}
+use Rattle.wire.proofs.Places.{places-snoc, take-places}
+use Rattle.wire.proofs.Bool.{and-true, true-and}
 use Rattle.transducer.specs.declared.Final.{Final}
 use Rattle.transducer.specs.Format.{decode, refusal, finals-rise, head-finals, final-at}
 use Rattle.transducer.specs.Path.{is-final, final-weight}

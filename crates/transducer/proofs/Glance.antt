@@ -5,7 +5,7 @@
 --     glanced-first, glanced-next, glanced-stop           the loop
 -- Assumes nothing.
 use mathlib.Core.Path.{_≡_, refl, sym, ap, _∙_}
-use mathlib.Core.Bool.{Bool, true, false, _&&_}
+use mathlib.Core.Bool.{Bool, true, false, _&&_, and-true}
 use mathlib.Core.List.{List}
 use Prim.Native.Nat.{ℕ, zero, suc, _+_, _*_, _/_, _%_, _≤_, _<_}
 use native.Mathlib.Nat.{add-zero, mul-zero, mul-suc, add-mul-div-left, div-eq-of-lt, add-mul-mod-self-left, mod-eq-of-lt}
@@ -78,10 +78,6 @@ good-before labels weights x w g =
 
 -- Arcs
 
-and-truth : (b : Bool) → b && true ≡ b
-and-truth true = refl
-and-truth false = refl
-
 pub arc-passes : (n word last : ℕ) (a : Arc) (c : Checks) → word ≡ arc-word → a .source < n → a .target < n → last ≤ a .source →
     labels-good (a .input) (a .output) ≡ true → weight-good (a .weight) ≡ true → arc-checked n word a (with-floor last c) ≡ with-floor (a .source) c
 unfolding arc-checked with-floor
@@ -93,11 +89,11 @@ arc-passes n word last a c head source target order labels weight =
       le-leb last (a .source) order,
       labels,
       weight,
-      and-truth (c .heads),
-      and-truth (c .states),
-      and-truth (c .order),
-      and-truth (c .labels),
-      and-truth (c .weights),
+      and-true (c .heads),
+      and-true (c .states),
+      and-true (c .order),
+      and-true (c .labels),
+      and-true (c .weights),
     )
 
 pub arcs-checked-snoc : (k at s n : ℕ) (word : ℕ → ℕ) (arc : ℕ → Arc) (c : Checks) →

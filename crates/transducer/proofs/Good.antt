@@ -7,37 +7,34 @@ use borrow.Author.Tests.{ltb-true, leb-true}
 use lib.Dec.{ltb, leb}
 use lib.ListN.{length, getD}
 use Rattle.wire.specs.Bytes.{every}
-use Rattle.wire.proofs.Places.{and-true, every-getD}
+use Rattle.wire.proofs.Places.{every-getD}
+use Rattle.wire.proofs.Bool.{and-true, passed}
 use Rattle.transducer.specs.declared.Arc.{Arc}
 use Rattle.transducer.specs.declared.Final.{Final}
+use Rattle.transducer.specs.Format.{max-states, max-arcs, max-weight, barred}
 use Rattle.transducer.specs.Format.{Transducer, head-good, states-good, order-good, all-labels-good, weights-good, weight-good, labels-good, first-of, content-refusal, finals-rise, sources-stay}
 
 pub record Head-range (n m f s : ℕ) : Type 0 where
   pub some : 1 ≤ n
-  pub states : n ≤ 1024
-  pub arcs : m ≤ 3072
+  pub states : n ≤ max-states
+  pub arcs : m ≤ max-arcs
   pub finals : f ≤ n
   pub start : s < n
 
 pub head-range : (n m f s : ℕ) → head-good n m f s ≡ true → Head-range n m f s
 unfolding head-good
 head-range n m f s h =
-    let a = and-true (leb 1 n && leb n 1024) (leb m 3072 && (leb f n && ltb s n)) h in
-    let b = and-true (leb 1 n) (leb n 1024) (a .0) in
-    let d = and-true (leb m 3072) (leb f n && ltb s n) (a .1) in
+    let a = and-true (leb 1 n && leb n max-states) (leb m max-arcs && (leb f n && ltb s n)) h in
+    let b = and-true (leb 1 n) (leb n max-states) (a .0) in
+    let d = and-true (leb m max-arcs) (leb f n && ltb s n) (a .1) in
     let e = and-true (leb f n) (ltb s n) (d .1) in
     record {
       some = leb-true 1 n (b .0);
-      states = leb-true n 1024 (b .1);
-      arcs = leb-true m 3072 (d .0);
+      states = leb-true n max-states (b .1);
+      arcs = leb-true m max-arcs (d .0);
       finals = leb-true f n (e .0);
       start = ltb-true s n (e .1);
     }
-
--- A test of a chain that gives 0.
-pub passed : (b : Bool) (k r : ℕ) → cond (not b) (suc k) r ≡ 0 → (b ≡ true) × (r ≡ 0)
-passed true k r h = (refl, h)
-passed false k r h = absurd (omega arith)
 
 pub record Content (t : Transducer) : Type 0 where
   pub states : states-good t ≡ true
@@ -80,22 +77,22 @@ module _ (t : Transducer) (good : Content t) where
       (every-getD (λ a. ltb (a .source) (t .states) && ltb (a .target) (t .states)) (t .arcs) i d (all .1) l) in
       (ltb-true (a .source) (t .states) (both .0), ltb-true (a .target) (t .states) (both .1))
 
-  pub arc-labels-below : (i : ℕ) (d : Arc) → i < length (t .arcs) → (getD (t .arcs) i d .input < 65535) × (getD (t .arcs) i d .output < 65535)
+  pub arc-labels-below : (i : ℕ) (d : Arc) → i < length (t .arcs) → (getD (t .arcs) i d .input < barred) × (getD (t .arcs) i d .output < barred)
   unfolding all-labels-good labels-good
   arc-labels-below i d l =
       let a : Arc = getD (t .arcs) i d in
-      let both = and-true (ltb (a .input) 65535) (ltb (a .output) 65535)
+      let both = and-true (ltb (a .input) barred) (ltb (a .output) barred)
       (every-getD (λ a. labels-good (a .input) (a .output)) (t .arcs) i d (good .labels) l) in
-      (ltb-true (a .input) 65535 (both .0), ltb-true (a .output) 65535 (both .1))
+      (ltb-true (a .input) barred (both .0), ltb-true (a .output) barred (both .1))
 
-  pub final-weight-most : (i : ℕ) (d : Final) → i < length (t .finals) → getD (t .finals) i d .weight ≤ 1000000
+  pub final-weight-most : (i : ℕ) (d : Final) → i < length (t .finals) → getD (t .finals) i d .weight ≤ max-weight
   unfolding weights-good weight-good
   final-weight-most i d l =
       let all = and-true (every (λ f. weight-good (f .weight)) (t .finals)) (every (λ a. weight-good (a .weight)) (t .arcs)) (good .weights) in
-      leb-true (getD (t .finals) i d .weight) 1000000 (every-getD (λ f. weight-good (f .weight)) (t .finals) i d (all .0) l)
+      leb-true (getD (t .finals) i d .weight) max-weight (every-getD (λ f. weight-good (f .weight)) (t .finals) i d (all .0) l)
 
-  pub arc-weight-most : (i : ℕ) (d : Arc) → i < length (t .arcs) → getD (t .arcs) i d .weight ≤ 1000000
+  pub arc-weight-most : (i : ℕ) (d : Arc) → i < length (t .arcs) → getD (t .arcs) i d .weight ≤ max-weight
   unfolding weights-good weight-good
   arc-weight-most i d l =
       let all = and-true (every (λ f. weight-good (f .weight)) (t .finals)) (every (λ a. weight-good (a .weight)) (t .arcs)) (good .weights) in
-      leb-true (getD (t .arcs) i d .weight) 1000000 (every-getD (λ a. weight-good (a .weight)) (t .arcs) i d (all .1) l)
+      leb-true (getD (t .arcs) i d .weight) max-weight (every-getD (λ a. weight-good (a .weight)) (t .arcs) i d (all .1) l)

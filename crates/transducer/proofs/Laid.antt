@@ -11,8 +11,9 @@ use borrow.Author.Tests.{eqb-true}
 use lib.Dec.{eqb}
 use lib.ListN.{length, getD}
 use Rattle.wire.specs.Bytes.{Bytes, two, four, places, every}
-use Rattle.wire.proofs.Places.{length-places, getD-places, and-true}
+use Rattle.wire.proofs.Places.{length-places, getD-places}
 use Rattle.wire.proofs.Low.{four-halves}
+use Rattle.wire.proofs.Bool.{and-true, never}
 use Rattle.transducer.specs.declared.Arc.{Arc}
 use Rattle.transducer.specs.declared.Final.{Final}
 use Rattle.transducer.specs.Format.{Record, framed, records, kind-good, in-order, kinds-good, final-at, arc-at, finals-in, arcs-in, decode, head-states, head-start}
@@ -211,7 +212,7 @@ found-final : {bs : List ℕ} {at : ℕ} {rs : List Record} → two bs at ≡ 6 
     Found bs at false (record-at bs at ∷ rs)
 unfolding finals-in arcs-in
 found-final {bs} {at} {rs} size kind r =
-    record { rest = rw kind (rest-final size kind (r .rest)); none = λ h. let z : _≡_ {A = ℕ} 0 1 = cc in absurd (omega arith) }
+    record { rest = rw kind (rest-final size kind (r .rest)); none = λ h. never h }
 
 found-arc : {bs : List ℕ} {at : ℕ} {rs : List Record} (after : Bool) → two bs at ≡ 12 → two bs (at + 2) ≡ 3 → Found bs (at + 16) true rs →
     Found bs at after (record-at bs at ∷ rs)
@@ -252,7 +253,7 @@ kinds-headed bs ks =
     let both = and-true (eqb (two bs 2) 1 && eqb (two bs 0) 8) (in-order false (records-at bs (4 + two bs 0))) (sym (kinds-first bs h) ∙ ks) in
     let head = and-true (eqb (two bs 2) 1) (eqb (two bs 0) 8) (both .0) in
     headed bs (eqb-true (two bs 0) 8 (head .1)) (eqb-true (two bs 2) 1 (head .0)) h)
-    (λ h. let e : false ≡ true = sym (kinds-none bs (omega arith)) ∙ ks in let z : _≡_ {A = ℕ} 0 1 = cc in absurd (omega arith))
+    (λ h. never (sym (kinds-none bs (omega arith)) ∙ ks))
 
 pub kinds-long : (bs : List ℕ) → framed bs ≡ true → kinds-good (records bs) ≡ true → 12 ≤ length bs
 kinds-long bs fr ks = let h : Headed bs = kinds-headed bs ks in going-first bs fr (h .some) (h .kind) (h .size) .within

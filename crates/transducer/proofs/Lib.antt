@@ -1,31 +1,34 @@
-pub mod Accept
-pub mod Answers
-pub mod Checked
-pub mod Copy
-pub mod Each
-pub mod Encode
-pub mod Finals
-pub mod FirstArcs
-pub mod Fits
-pub mod Glance
+-- Records one after the other, and where the head says that they stand.
+pub mod Records
+pub mod Laid
+-- What the tests 3 and 5 to 8 say of a transducer, and that the code's one pass makes them.
 pub mod Good
 pub mod GoodParts
-pub mod Headed
-pub mod Index
 pub mod Labels
-pub mod Laid
-pub mod Members
+pub mod Checked
+pub mod Glance
+-- Acceptance of bytes: which refusal it is, and what no refusal gives.
+pub mod Accept
+pub mod Tested
 pub mod Most
 pub mod Offsets
-pub mod Paths
-pub mod Ranges
-pub mod ReadSays
-pub mod ReadWrite
-pub mod Records
-pub mod Rings
-pub mod RoundTrip
-pub mod Runs
-pub mod Tested
-pub mod Weights
+pub mod Headed
+-- Records written, and read back.
+pub mod Encode
 pub mod WriteBack
-pub mod WriteSays
+pub mod RoundTrip
+-- What answers are made of.
+pub mod Answers
+-- Arcs and finals by state: the two indexes, and what each arc of a state gives.
+pub mod Index
+pub mod FirstArcs
+pub mod Finals
+pub mod Members
+pub mod Each
+pub mod Ranges
+pub mod Fits
+-- Paths, their costs, and rings on them.
+pub mod Paths
+pub mod Runs
+pub mod Rings
+pub mod Weights

@@ -8,7 +8,7 @@ use native.Mathlib.Omega.{arith}
 use lib.Dec.{ltb, leb, eqb}
 use lib.ListN.{length, getD}
 use borrow.Author.Tests.{ltb-true, ltb-false, lt-ltb, le-ltb, eqb-true, eqb-false, ne-eqb}
-use Rattle.wire.proofs.Places.{and-true}
+use Rattle.wire.proofs.Bool.{and-true, by-test}
 use Rattle.transducer.specs.declared.Arc.{Arc}
 use Rattle.transducer.specs.Format.{Transducer, sources-stay}
 use Rattle.transducer.specs.Path.{arc, no-arc}
@@ -16,10 +16,6 @@ use Rattle.transducer.specs.Each.{by-number, each-arc}
 use Rattle.transducer.specs.Leaf.{arcs-below}
 use Rattle.transducer.proofs.Index.{stay-none}
 pub use Rattle.transducer.proofs.Index.{arcs-below-length, arcs-below-mono as arcs-below-rises}
-
-by-test : {A : Type 0} (b : Bool) → (b ≡ true → A) → (b ≡ false → A) → A
-by-test true f g = f refl
-by-test false f g = g refl
 
 -- What a function gives for each of `count` numbers from i on, one after the other.
 unfoldable pub from-to : {B : Type 0} → (count i : ℕ) → (ℕ → List B) → List B

@@ -1,77 +1,21 @@
 -- A path with at least as many arcs as there are states comes back to a state (the pigeonhole): its ring can be left out or
 -- gone round once more. Assumes nothing.
 use mathlib.Core.Path.{_≡_, refl, sym, ap, _∙_}
-use mathlib.Core.Bool.{Bool, true, false, cond}
+use mathlib.Core.Bool.{Bool, true, false}
 use mathlib.Core.Logic.{_⊎_, inl, inr}
 use mathlib.Core.List.{List, [], _∷_, _++_}
 use mathlib.Core.List.{List·Memᴰ as Mem, List·Memᴰ·head as first, List·Memᴰ·tail as later, List·Memᴰ·not-nil as none-in}
 use mathlib.Core.List.{List·Memᴰ·cases-cons as first-or-later, Memᴰ·cast as carry}
 use Prim.Native.Nat.{ℕ, zero, suc, _+_, _≤_, _<_}
-use native.Mathlib.Nat.{not-suc-le-zero}
 use native.Mathlib.Omega.{arith}
 use lib.Dec.{ltb, eqb}
 use lib.ListN.{length, length-append}
-use borrow.Author.Tests.{eqb-true, eqb-false, ne-eqb, ltb-true, ltb-false}
+use borrow.Author.Tests.{eqb-true, eqb-false, ltb-true, ltb-false}
 use Rattle.transducer.specs.Format.{Transducer}
 use Rattle.transducer.specs.Path.{arc, runs, ends}
-use Rattle.transducer.proofs.Members.{Distinct}
+use Rattle.transducer.proofs.Members.{Distinct, distinct-below}
 use Rattle.transducer.proofs.Paths.{Runs, runs-cons}
 use Rattle.transducer.proofs.Runs.{Accepting, accepting-append, append-accepting, ends-append, Within}
-
--- A list of different numbers below n has at most n of them.
-
-unfoldable pub without : (x : ℕ) → List ℕ → List ℕ
-without x [] = []
-without x (y ∷ l) = cond (eqb y x) (without x l) (y ∷ without x l)
-
-pub in-without : (x y : ℕ) (l : List ℕ) → Mem y (without x l) → Mem y l × (y ≡ x → ⊥)
-unfolding without
-in-without x y [] m = absurd (none-in m)
-in-without x y (z ∷ l) m = on (λ m'. in-without x y l m') (eqb z x) refl m
-  where
-    on : (Mem y (without x l) → Mem y l × (y ≡ x → ⊥)) → (b : Bool) → eqb z x ≡ b → Mem y (cond b (without x l) (z ∷ without x l)) → Mem y (z ∷ l) × (y ≡ x → ⊥)
-    on below true e m' = (later (below m' .0), below m' .1)
-    on below false e m' = next (first-or-later m')
-      where
-        next : (y ≡ z) ⊎ Mem y (without x l) → Mem y (z ∷ l) × (y ≡ x → ⊥)
-        next (inl same) = (first same, λ h. eqb-false z x e (sym same ∙ h))
-        next (inr m″) = (later (below m″ .0), below m″ .1)
-
-pub without-same : (x : ℕ) (l : List ℕ) → (Mem x l → ⊥) → without x l ≡ l
-unfolding without
-without-same x [] h = refl
-without-same x (y ∷ l) h =
-    let e : eqb y x ≡ false = ne-eqb y x (λ same. h (first (sym same))) in
-    rw (e, without-same x l (λ m. h (later m)))
-
-pub distinct-without : (x : ℕ) (l : List ℕ) → Distinct (λ y. y) l → Distinct (λ y. y) (without x l)
-unfolding Distinct without
-distinct-without x [] d = tt
-distinct-without x (y ∷ l) d = on (distinct-without x l (d .1)) (eqb y x)
-  where
-    on : Distinct (λ y. y) (without x l) → (b : Bool) → Distinct (λ y. y) (cond b (without x l) (y ∷ without x l))
-    on below true = below
-    on below false = ((λ z m e. d .0 z (in-without x z l m .0) e), below)
-
-pub length-without : (x : ℕ) (l : List ℕ) → Distinct (λ y. y) l → length l ≤ suc (length (without x l))
-unfolding Distinct without
-length-without x [] d = omega arith
-length-without x (y ∷ l) d = on (length-without x l (d .1)) (eqb y x) refl
-  where
-    on : length l ≤ suc (length (without x l)) → (b : Bool) → eqb y x ≡ b → suc (length l) ≤ suc (length (cond b (without x l) (y ∷ without x l)))
-    on below true e =
-        let same : without x l ≡ l = without-same x l (λ m. d .0 x m (eqb-true y x e)) in
-        rw same (omega arith)
-    on below false e = omega arith
-
-pub distinct-below : (n : ℕ) (l : List ℕ) → Distinct (λ y. y) l → ((x : ℕ) → Mem x l → x < n) → length l ≤ n
-distinct-below zero [] d b = omega arith
-distinct-below zero (x ∷ l) d b = absurd (not-suc-le-zero (b x (first refl)))
-distinct-below (suc n) l d b =
-    let less : length (without n l) ≤ n = distinct-below n (without n l) (distinct-without n l d)
-    (λ x m. let r = in-without n x l m in let u : x < suc n = b x (r .0) in let ne : x ≡ n → ⊥ = r .1 in omega arith) in
-    let most : length l ≤ suc (length (without n l)) = length-without n l d in
-    omega arith
 
 -- The states that a path visits, its first and its last among them.
 unfoldable pub visited : Transducer → (s : ℕ) → (path : List ℕ) → List ℕ

@@ -17,7 +17,8 @@ use lib.ListN.{length, drop}
 use lib.Seq.{drop-drop, drop-at}
 use Rattle.wire.specs.Bytes.{Bytes, two, four, low, places, every}
 use Rattle.wire.proofs.Low.{bytes-low, bytes-append, two-drop, four-drop, two-low-front, four-low-front}
-use Rattle.wire.proofs.Places.{length-places, and-true, true-and}
+use Rattle.wire.proofs.Places.{length-places}
+use Rattle.wire.proofs.Bool.{and-true, true-and}
 use Rattle.transducer.specs.declared.Arc.{Arc}
 use Rattle.transducer.specs.declared.Final.{Final}
 use Rattle.transducer.specs.Format.{Transducer, Good, max-bytes, final-at, arc-at, weight-at, weight-good, labels-good, decode, refusal, head-good, content-refusal}

@@ -7,7 +7,7 @@ use native.Mathlib.Omega.{arith}
 use lib.Dec.{eqb}
 use lib.ListN.{length}
 use Rattle.wire.specs.Bytes.{Bytes, four, places, every}
-use Rattle.wire.proofs.Places.{and-true, true-and}
+use Rattle.wire.proofs.Bool.{and-true, true-and}
 use Rattle.transducer.specs.Format.{decode, head-states, head-arcs, head-finals, head-start, head-good, first-of, refusal}
 use Rattle.transducer.specs.Check.{head-word, final-word, arc-word, all-checked, walked}
 use Rattle.transducer.proofs.Laid.{Laid, laid-decode}

@@ -12,7 +12,8 @@ use lib.ListN.{length, drop}
 use lib.Seq.{drop-length}
 use Rattle.wire.specs.Bytes.{Bytes, two, four, low, places, every}
 use Rattle.wire.proofs.Low.{low-two-drop, low-four-drop, four-halves}
-use Rattle.wire.proofs.Places.{length-places, and-true}
+use Rattle.wire.proofs.Places.{length-places}
+use Rattle.wire.proofs.Bool.{and-true}
 use Rattle.transducer.specs.Format.{final-at, arc-at, weight-at, head-states, head-arcs, head-finals, head-start}
 use Rattle.transducer.specs.Encode.{encode, head-record, final-record, arc-record, final-records, arc-records, weight-bytes}
 use Rattle.transducer.specs.Check.{head-word, final-word, arc-word}

@@ -2,10 +2,13 @@
 use mathlib.Core.Path.{_≡_}
 use mathlib.Core.Bool.{Bool, true, false, _&&_, not, cond}
 use mathlib.Core.List.{List, [], _∷_}
-use Prim.Native.Nat.{ℕ, zero, suc, _+_, _*_, _-_}
+use Prim.Native.Nat.{ℕ, zero, suc, _+_, _*_}
 use lib.Dec.{ltb, leb, eqb}
 use lib.ListN.{length}
 use Rattle.wire.specs.Bytes.{two, four, every}
+pub use Rattle.bounds.specs.Bounds.{max-states, max-arcs, index-long, max-weight, barred, max-symbols, max-path, max-count, max-fields, max-origins}
+pub use Rattle.bounds.specs.Bounds.{head-bytes, final-bytes, arc-bytes, arcs-at, max-bytes}
+unfoldable pub use Rattle.bounds.specs.Bounds.{head-good, labels-good, weight-good, first-of}
 use Rattle.transducer.specs.declared.Arc.{Arc}
 use Rattle.transducer.specs.declared.Final.{Final}
 
@@ -15,51 +18,6 @@ pub record Transducer : Type 0 where
   pub start : ℕ
   pub finals : List Final
   pub arcs : List Arc
-
--- The limits of paper 01.
-abbrev pub max-states : ℕ
-max-states = 1024
-
-abbrev pub max-arcs : ℕ
-max-arcs = 3072
-
-abbrev pub max-weight : ℕ
-max-weight = 1000000
-
--- The longest string, the longest accepting path where there are finitely many, and where counting stops.
-abbrev pub max-symbols : ℕ
-max-symbols = 64
-
-abbrev pub max-path : ℕ
-max-path = max-states - 1
-
-abbrev pub max-count : ℕ
-max-count = 99
-
--- The origins of the most composed arcs, two for each.
-abbrev pub max-origins : ℕ
-max-origins = 2 * max-arcs
-
--- The bytes of a head's, a final's and an arc's record, and where the arcs begin behind a number of finals.
-abbrev pub head-bytes : ℕ
-head-bytes = 12
-
-abbrev pub final-bytes : ℕ
-final-bytes = 10
-
-abbrev pub arc-bytes : ℕ
-arc-bytes = 16
-
-abbrev pub arcs-at : (finals : ℕ) → ℕ
-arcs-at f = head-bytes + final-bytes * f
-
--- The length of the largest transducer.
-abbrev pub max-bytes : ℕ
-max-bytes = arcs-at max-states + arc-bytes * max-arcs
-
--- The label that no arc may bear.
-abbrev pub barred : ℕ
-barred = 65535
 
 -- A record of the format: its kind, the length of its body, and the place where its body begins.
 pub record Record : Type 0 where
@@ -102,16 +60,9 @@ unfoldable pub kinds-good : List Record → Bool
 kinds-good [] = false
 kinds-good (r ∷ rs) = (eqb (r .kind) 1 && eqb (r .size) 8) && in-order false rs
 
--- The weight in four bytes, and whether a weight is in range.
+-- The weight in four bytes.
 unfoldable pub weight-at : List ℕ → (at : ℕ) → ℕ
 weight-at bs at = four bs at
-
-unfoldable pub weight-good : ℕ → Bool
-weight-good w = leb w max-weight
-
--- Whether an arc may bear these two labels.
-unfoldable pub labels-good : (input output : ℕ) → Bool
-labels-good input output = ltb input barred && ltb output barred
 
 -- The final and the arc whose record begins at a place.
 unfoldable pub final-at : List ℕ → (at : ℕ) → Final
@@ -152,10 +103,6 @@ unfoldable pub decode : List ℕ → Transducer
 decode bs =
     record { states = head-states bs; start = head-start bs; finals = finals-in bs (records bs); arcs = arcs-in bs (records bs) }
 
--- 3: the head's numbers are in range
-unfoldable pub head-good : (states arcs finals start : ℕ) → Bool
-head-good n m f s = (leb 1 n && leb n max-states) && (leb m max-arcs && (leb f n && ltb s n))
-
 -- 5: each state is below the number of states
 unfoldable pub states-good : Transducer → Bool
 states-good t =
@@ -180,10 +127,6 @@ all-labels-good t = every (λ a. labels-good (a .input) (a .output)) (t .arcs)
 -- 8: each weight is in range
 unfoldable pub weights-good : Transducer → Bool
 weights-good t = every (λ f. weight-good (f .weight)) (t .finals) && every (λ a. weight-good (a .weight)) (t .arcs)
-
--- The first of four tests that fails, as refusal 5, 6, 7 or 8; 0 where none does.
-unfoldable pub first-of : (states order labels weights : Bool) → ℕ
-first-of a b c d = cond (not a) 5 (cond (not b) 6 (cond (not c) 7 (cond (not d) 8 0)))
 
 unfoldable pub content-refusal : Transducer → ℕ
 content-refusal t = first-of (states-good t) (order-good t) (all-labels-good t) (weights-good t)

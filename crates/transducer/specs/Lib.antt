@@ -6,5 +6,4 @@ pub mod Check
 pub mod Leaf
 pub mod Prepare
 pub mod Entry
-pub mod RoundTrip
 pub mod Weight

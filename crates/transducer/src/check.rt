@@ -1,41 +1,24 @@
-// Refusals 5 to 8 gathered in one pass, over bytes and over runs of fields.
+// Refusals 5 to 8 gathered in one pass over the records.
 ghost use mathlib.Core.Path.{_≡_};
 ghost use mathlib.Core.Bool.{true};
 ghost use Prim.Native.Nat.{ℕ, _+_, _*_, _≤_, _<_};
 ghost use lib.ListN.{length};
 ghost use Rattle.wire.specs.Bytes.{four};
-ghost use Rattle.transducer.specs.Format.{weight-good, labels-good, head-good, final-at, arc-at, first-of};
+ghost use Rattle.transducer.specs.Format.{final-bytes, arc-bytes, final-at, arc-at, first-of};
 ghost use Rattle.transducer.specs.Check.{final-checked, arc-checked, finals-checked, arcs-checked, from-0, final-word, arc-word, Good-up-to, Plain};
-ghost use Rattle.transducer.specs.Entry.{final-of, arc-of};
 use crate::Arc;
 use crate::Checks;
 use crate::Final;
-use crate::sizes;
-
-const MAX_WEIGHT: u32 = 1000000;
-
-const BARRED: u16 = 65535;
 
 // No source: a closer look is needed.
 const UNSURE: u32 = 4294967295;
 
+// Length and kind of a head's, a final's and an arc's record, as one number of four bytes.
+pub const HEAD_WORD: u32 = 65544;
+
 pub const FINAL_WORD: u32 = 131078;
 
 pub const ARC_WORD: u32 = 196620;
-
-// Whether a weight is in range.
-pub fn weight_ok(weight: u32) -> bool
-    ensures { λ r. ⌜ r ≡ weight-good weight ⌝ }
-{
-    weight <= MAX_WEIGHT
-}
-
-// Whether an arc may bear these two labels.
-pub fn labels_ok(input: u16, output: u16) -> bool
-    ensures { λ r. ⌜ r ≡ labels-good input output ⌝ }
-{
-    (input < BARRED) & (output < BARRED)
-}
 
 // The tests with those of one more final whose record begins with `word`.
 pub fn check_final(c: Checks, n: u32, word: u32, f: Final) -> Checks
@@ -47,7 +30,7 @@ pub fn check_final(c: Checks, n: u32, word: u32, f: Final) -> Checks
         states: c.states & (state < n),
         order: c.order & (c.floor <= state),
         labels: c.labels,
-        weights: c.weights & weight_ok(f.weight),
+        weights: c.weights & bounds::weight_ok(f.weight),
         floor: state + 1,
     }
 }
@@ -62,8 +45,8 @@ pub fn check_arc(c: Checks, n: u32, word: u32, a: Arc) -> Checks
         heads: c.heads & (word == ARC_WORD),
         states: c.states & ((source < n) & (target < n)),
         order: c.order & (c.floor <= source),
-        labels: c.labels & labels_ok(a.input, a.output),
-        weights: c.weights & weight_ok(a.weight),
+        labels: c.labels & bounds::labels_ok(a.input, a.output),
+        weights: c.weights & bounds::weight_ok(a.weight),
         floor: source,
     }
 }
@@ -72,19 +55,7 @@ pub fn check_arc(c: Checks, n: u32, word: u32, a: Arc) -> Checks
 pub fn number(c: Checks) -> u32
     ensures { λ r. ⌜ r ≡ first-of (c .states) (c .order) (c .labels) (c .weights) ⌝ }
 {
-    if !c.states {
-        return 5;
-    }
-    if !c.order {
-        return 6;
-    }
-    if !c.labels {
-        return 7;
-    }
-    if !c.weights {
-        return 8;
-    }
-    0
+    bounds::first_failed(c.states, c.order, c.labels, c.weights)
 }
 
 // Any state may come next again: between the finals and the arcs.
@@ -103,7 +74,7 @@ pub fn restart(c: Checks) -> Checks
 
 // The final whose record begins at `at`.
 pub fn load_final(bytes: &[u8], at: usize) -> Final
-    requires { ⌜ at + 10 ≤ length (now bytes) ⌝ }
+    requires { ⌜ at + final-bytes ≤ length (now bytes) ⌝ }
     ensures { λ r. ⌜ r ≡ final-at (now (bytes .entry)) at ⌝ }
 {
     Final {
@@ -114,7 +85,7 @@ pub fn load_final(bytes: &[u8], at: usize) -> Final
 
 // The arc whose record begins at `at`.
 pub fn load_arc(bytes: &[u8], at: usize) -> Arc
-    requires { ⌜ at + 16 ≤ length (now bytes) ⌝ }
+    requires { ⌜ at + arc-bytes ≤ length (now bytes) ⌝ }
     ensures { λ r. ⌜ r ≡ arc-at (now (bytes .entry)) at ⌝ }
 {
     Arc {
@@ -128,8 +99,8 @@ pub fn load_arc(bytes: &[u8], at: usize) -> Arc
 
 // The tests of `count` finals whose records begin at `at`.
 pub fn check_finals(bytes: &[u8], at: usize, count: usize, n: u32, c: Checks) -> Checks
-    requires { ⌜ at + 10 * count ≤ length (now bytes) ⌝ }
-    ensures { λ r. ⌜ r ≡ finals-checked count at 10 n (four (now (bytes .entry))) (final-at (now (bytes .entry))) c ⌝ }
+    requires { ⌜ at + final-bytes * count ≤ length (now bytes) ⌝ }
+    ensures { λ r. ⌜ r ≡ finals-checked count at final-bytes n (four (now (bytes .entry))) (final-at (now (bytes .entry))) c ⌝ }
 {
     let mut checks = c;
     let mut place = at;
@@ -141,7 +112,7 @@ pub fn check_finals(bytes: &[u8], at: usize, count: usize, n: u32, c: Checks) ->
             wire::u32_at(bytes, place),
             load_final(bytes, place),
         );
-        place += sizes::FINAL_BYTES;
+        place += bounds::FINAL_BYTES;
         i += 1;
     }
     checks
@@ -149,8 +120,8 @@ pub fn check_finals(bytes: &[u8], at: usize, count: usize, n: u32, c: Checks) ->
 
 // The tests of `count` arcs whose records begin at `at`.
 pub fn check_arcs(bytes: &[u8], at: usize, count: usize, n: u32, c: Checks) -> Checks
-    requires { ⌜ at + 16 * count ≤ length (now bytes) ⌝ }
-    ensures { λ r. ⌜ r ≡ arcs-checked count at 16 n (four (now (bytes .entry))) (arc-at (now (bytes .entry))) c ⌝ }
+    requires { ⌜ at + arc-bytes * count ≤ length (now bytes) ⌝ }
+    ensures { λ r. ⌜ r ≡ arcs-checked count at arc-bytes n (four (now (bytes .entry))) (arc-at (now (bytes .entry))) c ⌝ }
 {
     let last = plain_arcs(bytes, at, count, n, c.floor);
     if last == UNSURE {
@@ -169,7 +140,7 @@ pub fn check_arcs(bytes: &[u8], at: usize, count: usize, n: u32, c: Checks) -> C
 // The source of the last of these arcs, `floor` where there are none, if it is seen at a glance that each passes each test; else UNSURE.
 // Labels and weights are gathered by `|`, which is never below any of them.
 fn plain_arcs(bytes: &[u8], at: usize, count: usize, n: u32, floor: u32) -> u32
-    requires { ⌜ at + 16 * count ≤ length (now bytes) ⌝ }
+    requires { ⌜ at + arc-bytes * count ≤ length (now bytes) ⌝ }
     ensures { λ r. ⌜ Plain (now (bytes .entry)) at count n floor r ⌝ }
 {
     let mut last = floor;
@@ -191,7 +162,7 @@ fn plain_arcs(bytes: &[u8], at: usize, count: usize, n: u32, floor: u32) -> u32
         last = source;
         labels = labels | wire::u32_at(bytes, place + 6);
         weights = weights | wire::u32_at(bytes, place + 12);
-        place += sizes::ARC_BYTES;
+        place += bounds::ARC_BYTES;
         i += 1;
     }
     if n <= last {
@@ -207,19 +178,19 @@ fn plain_arcs(bytes: &[u8], at: usize, count: usize, n: u32, floor: u32) -> u32
 fn at_a_glance(labels: u32, weights: u32) -> bool
     ensures { λ r. ⌜ (r ≡ true → Good-up-to labels weights) ⌝ }
 {
-    if BARRED as u32 <= labels % 65536 {
+    if bounds::BARRED as u32 <= labels % 65536 {
         return false;
     }
-    if BARRED as u32 <= labels / 65536 {
+    if bounds::BARRED as u32 <= labels / 65536 {
         return false;
     }
-    weights <= MAX_WEIGHT
+    weights <= bounds::MAX_WEIGHT
 }
 
 // The tests of these arcs, one by one.
 fn check_each_arc(bytes: &[u8], at: usize, count: usize, n: u32, c: Checks) -> Checks
-    requires { ⌜ at + 16 * count ≤ length (now bytes) ⌝ }
-    ensures { λ r. ⌜ r ≡ arcs-checked count at 16 n (four (now (bytes .entry))) (arc-at (now (bytes .entry))) c ⌝ }
+    requires { ⌜ at + arc-bytes * count ≤ length (now bytes) ⌝ }
+    ensures { λ r. ⌜ r ≡ arcs-checked count at arc-bytes n (four (now (bytes .entry))) (arc-at (now (bytes .entry))) c ⌝ }
 {
     let mut checks = c;
     let mut place = at;
@@ -231,60 +202,8 @@ fn check_each_arc(bytes: &[u8], at: usize, count: usize, n: u32, c: Checks) -> C
             wire::u32_at(bytes, place),
             load_arc(bytes, place),
         );
-        place += sizes::ARC_BYTES;
+        place += bounds::ARC_BYTES;
         i += 1;
     }
     checks
-}
-
-// The tests of the first `count` finals in two runs.
-pub fn check_given_finals(
-    states: &[u16],
-    weights: &[u32],
-    count: usize,
-    n: u32,
-    c: Checks,
-) -> Checks
-    requires { ⌜ (count ≤ length (now states)) × (count ≤ length (now weights)) ⌝ }
-    ensures { λ r. ⌜ r ≡ finals-checked count 0 1 n (λ _. final-word) (final-of (now (states .entry)) (now (weights .entry))) c ⌝ }
-{
-    let mut checks = c;
-    let mut i = 0;
-    while i < count {
-        let f = Final {
-            state: states[i],
-            weight: weights[i],
-        };
-        checks = check_final(checks, n, FINAL_WORD, f);
-        i += 1;
-    }
-    checks
-}
-
-// The tests of the first `count` arcs in two runs, four fields to an arc in the first.
-pub fn check_given_arcs(fields: &[u16], weights: &[u32], count: usize, n: u32, c: Checks) -> Checks
-    requires { ⌜ (4 * count ≤ length (now fields)) × (count ≤ length (now weights)) ⌝ }
-    ensures { λ r. ⌜ r ≡ arcs-checked count 0 1 n (λ _. arc-word) (arc-of (now (fields .entry)) (now (weights .entry))) c ⌝ }
-{
-    let mut checks = c;
-    let mut i = 0;
-    while i < count {
-        checks = check_arc(checks, n, ARC_WORD, given_arc(fields, weights, i));
-        i += 1;
-    }
-    checks
-}
-
-// Arc `i` of two runs.
-pub fn given_arc(fields: &[u16], weights: &[u32], i: usize) -> Arc
-    requires { ⌜ (4 * i + 3 < length (now fields)) × (i < length (now weights)) ⌝ }
-    ensures { λ r. ⌜ r ≡ arc-of (now (fields .entry)) (now (weights .entry)) i ⌝ }
-{
-    Arc {
-        source: fields[4 * i],
-        input: fields[4 * i + 1],
-        output: fields[4 * i + 2],
-        target: fields[4 * i + 3],
-        weight: weights[i],
-    }
 }

@@ -2,17 +2,16 @@
 ghost use mathlib.Core.Path.{_≡_};
 ghost use Prim.Native.Nat.{ℕ, _+_, _*_, _≤_, _<_, max};
 ghost use lib.ListN.{length, take, replicate};
-ghost use Rattle.transducer.specs.Format.{Transducer, refusal, decode, head-finals};
+ghost use Rattle.transducer.specs.Format.{max-states, index-long, head-bytes, Transducer, refusal, decode, head-finals};
 ghost use Rattle.transducer.specs.Path.{arc};
 ghost use Rattle.transducer.specs.Leaf.{header-of, Opened, Marked, Indexed, Finals-by-state};
 use crate::Arc;
 use crate::Header;
 use crate::check;
-use crate::sizes;
 
 // The head's four numbers.
 pub fn header(bytes: &[u8]) -> Header
-    requires { ⌜ 12 ≤ length (now bytes) ⌝ }
+    requires { ⌜ head-bytes ≤ length (now bytes) ⌝ }
     ensures { λ r. ⌜ r ≡ header-of (now (bytes .entry)) ⌝ }
 {
     Header {
@@ -29,7 +28,7 @@ pub fn arc_of(bytes: &[u8], first: usize, i: usize) -> Arc
     requires { ⌜ Opened (now bytes) first × (i < length (decode (now bytes) .arcs)) ⌝ }
     ensures { λ r. ⌜ r ≡ arc (decode (now (bytes .entry))) i ⌝ }
 {
-    check::load_arc(bytes, first + sizes::ARC_BYTES * i)
+    check::load_arc(bytes, first + bounds::ARC_BYTES * i)
 }
 
 // The larger of two numbers.
@@ -43,26 +42,33 @@ fn larger(a: u16, b: u16) -> u16
 }
 
 // Marks the arcs from `from` to below `to` one by one: one place up from its source stands the number of an arc and one more.
-fn mark_each(bytes: &[u8], first: usize, from: usize, to: usize, index: &mut [u16; 1025])
-    requires { ⌜ Opened (now bytes) first × (from ≤ to) × (to ≤ length (decode (now bytes) .arcs)) × Marked (take from (decode (now bytes) .arcs)) (now index) ⌝ }
+fn mark_each(
+    bytes: &[u8],
+    first: usize,
+    from: usize,
+    to: usize,
+    index: &mut [u16; bounds::INDEX_LEN],
+)
+    requires { ⌜ Opened (now bytes) first × (from ≤ to) × (to ≤ length (decode (now bytes) .arcs))
+        × Marked (take from (decode (now bytes) .arcs)) (now index) ⌝ }
     ensures { λ _. ⌜ Marked (take to (decode (now (bytes .entry)) .arcs)) (now (index .exit)) ⌝ }
 {
     let mut i = from;
-    let mut place = first + sizes::ARC_BYTES * from + 4;
+    let mut place = first + bounds::ARC_BYTES * from + 4;
     while i < to {
         let source = wire::u16_at(bytes, place) as usize;
         i += 1;
         index[source + 1] = i as u16;
-        place += sizes::ARC_BYTES;
+        place += bounds::ARC_BYTES;
     }
 }
 
 // Marks 128 arcs. Sources never fall: where the first and the last have the same, so have all between, and the last mark stays.
-fn mark_block(bytes: &[u8], first: usize, from: usize, index: &mut [u16; 1025])
+fn mark_block(bytes: &[u8], first: usize, from: usize, index: &mut [u16; bounds::INDEX_LEN])
     requires { ⌜ Opened (now bytes) first × (from + 128 ≤ length (decode (now bytes) .arcs)) × Marked (take from (decode (now bytes) .arcs)) (now index) ⌝ }
     ensures { λ _. ⌜ Marked (take (from + 128) (decode (now (bytes .entry)) .arcs)) (now (index .exit)) ⌝ }
 {
-    let place = first + sizes::ARC_BYTES * from + 4;
+    let place = first + bounds::ARC_BYTES * from + 4;
     let source = wire::u16_at(bytes, place) as usize;
     if source != wire::u16_at(bytes, place + 2032) as usize {
         mark_each(bytes, first, from, from + 128, index);
@@ -72,8 +78,8 @@ fn mark_block(bytes: &[u8], first: usize, from: usize, index: &mut [u16; 1025])
 }
 
 // Takes the running maximum of the marks.
-fn raise(states: usize, index: &mut [u16; 1025])
-    requires { ⌜ (states ≤ 1024) × (length (now index) ≡ 1025) ⌝ }
+fn raise(states: usize, index: &mut [u16; bounds::INDEX_LEN])
+    requires { ⌜ (states ≤ max-states) × (length (now index) ≡ index-long) ⌝ }
     ensures { λ _. ⌜ ((t : Transducer) → t .states ≡ states → Marked (t .arcs) (now (index .entry)) → Indexed t (now (index .exit))) ⌝ }
 {
     let mut s = 0;
@@ -86,20 +92,31 @@ fn raise(states: usize, index: &mut [u16; 1025])
 }
 
 // The first-arc index: at each state up to and with the number of states, how many arcs leave states below it.
-pub fn first_arcs(bytes: &[u8], first: usize, states: usize, arcs: usize) -> [u16; 1025]
+pub fn first_arcs(
+    bytes: &[u8],
+    first: usize,
+    states: usize,
+    arcs: usize,
+) -> [u16; bounds::INDEX_LEN]
     requires { ⌜ Opened (now bytes) first × (states ≡ decode (now bytes) .states) × (arcs ≡ length (decode (now bytes) .arcs)) ⌝ }
     ensures { λ r. ⌜ Indexed (decode (now (bytes .entry))) r ⌝ }
 {
-    let mut index = [0u16; 1025];
+    let mut index = [0u16; bounds::INDEX_LEN];
     mark_each(bytes, first, 0, arcs, &mut index);
     raise(states, &mut index);
     index
 }
 
 // The same by blocks, into an array of zeros: quicker where a state has many arcs.
-pub fn put_index(bytes: &[u8], first: usize, states: usize, arcs: usize, index: &mut [u16; 1025])
+pub fn put_index(
+    bytes: &[u8],
+    first: usize,
+    states: usize,
+    arcs: usize,
+    index: &mut [u16; bounds::INDEX_LEN],
+)
     requires { ⌜ Opened (now bytes) first × (states ≡ decode (now bytes) .states) × (arcs ≡ length (decode (now bytes) .arcs))
-        × (now index ≡ replicate 1025 0) ⌝ }
+        × (now index ≡ replicate index-long 0) ⌝ }
     ensures { λ _. ⌜ Indexed (decode (now (bytes .entry))) (now (index .exit)) ⌝ }
 {
     let mut i = 0;
@@ -112,37 +129,42 @@ pub fn put_index(bytes: &[u8], first: usize, states: usize, arcs: usize, index: 
 }
 
 // The index by blocks. It is too long to be compiled into its callers, and composition is then slower.
-pub fn first_arcs_by_blocks(bytes: &[u8], first: usize, states: usize, arcs: usize) -> [u16; 1025]
+pub fn first_arcs_by_blocks(
+    bytes: &[u8],
+    first: usize,
+    states: usize,
+    arcs: usize,
+) -> [u16; bounds::INDEX_LEN]
     requires { ⌜ Opened (now bytes) first × (states ≡ decode (now bytes) .states) × (arcs ≡ length (decode (now bytes) .arcs)) ⌝ }
     ensures { λ r. ⌜ Indexed (decode (now (bytes .entry))) r ⌝ }
 {
-    let mut index = [0u16; 1025];
+    let mut index = [0u16; bounds::INDEX_LEN];
     put_index(bytes, first, states, arcs, &mut index);
     index
 }
 
 // Stores the final codes in an array of zeros: a state's final weight and one more, 0 where it is not final.
-pub fn put_codes(bytes: &[u8], finals: usize, codes: &mut [u32; 1024])
-    requires { ⌜ (refusal (now bytes) ≡ 0) × (finals ≡ head-finals (now bytes)) × (now codes ≡ replicate 1024 0) ⌝ }
+pub fn put_codes(bytes: &[u8], finals: usize, codes: &mut [u32; bounds::MAX_STATES])
+    requires { ⌜ (refusal (now bytes) ≡ 0) × (finals ≡ head-finals (now bytes)) × (now codes ≡ replicate max-states 0) ⌝ }
     ensures { λ _. ⌜ Finals-by-state (decode (now (bytes .entry))) (now (codes .exit)) ⌝ }
 {
     let mut i = 0;
-    let mut place = sizes::HEAD_BYTES;
+    let mut place = bounds::HEAD_BYTES;
     while i < finals {
         let f = check::load_final(bytes, place);
         let state = f.state as usize;
         codes[state] = f.weight + 1;
-        place += sizes::FINAL_BYTES;
+        place += bounds::FINAL_BYTES;
         i += 1;
     }
 }
 
 // The final codes.
-pub fn final_codes(bytes: &[u8], finals: usize) -> [u32; 1024]
+pub fn final_codes(bytes: &[u8], finals: usize) -> [u32; bounds::MAX_STATES]
     requires { ⌜ (refusal (now bytes) ≡ 0) × (finals ≡ head-finals (now bytes)) ⌝ }
     ensures { λ r. ⌜ Finals-by-state (decode (now (bytes .entry))) r ⌝ }
 {
-    let mut codes = [0u32; 1024];
+    let mut codes = [0u32; bounds::MAX_STATES];
     put_codes(bytes, finals, &mut codes);
     codes
 }

@@ -1,18 +1,37 @@
-// A weighted transducer's bytes: refusals 1 to 8, reading, writing, and arcs and finals read straight from accepted bytes.
+// A weighted transducer's bytes: refusals 1 to 8, arcs and finals read straight from accepted bytes, and records written.
+ghost use mathlib.Core.Path.{_≡_};
+
 mod check;
-mod entry;
 mod leaf;
 mod preparing;
-mod sizes;
 mod store;
 mod walk;
 
+pub use bounds::ARC_BYTES;
+pub use bounds::BARRED;
+pub use bounds::FINAL_BYTES;
+pub use bounds::HEAD_BYTES;
+pub use bounds::INDEX_LEN;
+pub use bounds::MAX_ARCS;
+pub use bounds::MAX_BYTES;
+pub use bounds::MAX_COUNT;
+pub use bounds::MAX_FIELDS;
+pub use bounds::MAX_ORIGINS;
+pub use bounds::MAX_PATH;
+pub use bounds::MAX_STATES;
+pub use bounds::MAX_SYMBOLS;
+pub use bounds::MAX_WEIGHT;
+pub use bounds::arcs_at;
+pub use bounds::head_ok;
+pub use bounds::weight_ok;
+pub use check::ARC_WORD;
+pub use check::FINAL_WORD;
+pub use check::check_arc;
+pub use check::check_final;
 pub use check::load_arc;
 pub use check::load_final;
-pub use check::weight_ok;
-pub use entry::read;
-pub use entry::refused;
-pub use entry::write;
+pub use check::number;
+pub use check::restart;
 pub use leaf::arc_of;
 pub use leaf::final_codes;
 pub use leaf::first_arcs;
@@ -22,15 +41,6 @@ pub use leaf::put_codes;
 pub use leaf::put_index;
 pub use preparing::Shape;
 pub use preparing::prepare;
-pub use sizes::ARC_BYTES;
-pub use sizes::MAX_ARCS;
-pub use sizes::MAX_BYTES;
-pub use sizes::MAX_COUNT;
-pub use sizes::MAX_ORIGINS;
-pub use sizes::MAX_PATH;
-pub use sizes::MAX_STATES;
-pub use sizes::MAX_SYMBOLS;
-pub use sizes::arcs_at;
 pub use store::put_arc;
 pub use store::put_final;
 pub use store::put_head;
@@ -74,4 +84,14 @@ pub struct Header {
 pub struct Written {
     pub refusal: u32,
     pub len: u32,
+}
+
+// What is answered where nothing is written: the refusal, and no bytes.
+pub fn refused(number: u32) -> Written
+    ensures { λ r. ⌜ r ≡ record { refusal = number; len = 0 } ⌝ }
+{
+    Written {
+        refusal: number,
+        len: 0,
+    }
 }

@@ -1,8 +1,7 @@
 // What the calls on paths begin with: where the arcs stand, the head's numbers, the first-arc index and the final codes.
 ghost use mathlib.Core.Path.{_≡_};
-ghost use Prim.Native.Nat.{_+_};
 ghost use lib.ListN.{replicate};
-ghost use Rattle.transducer.specs.Format.{max-states, refusal};
+ghost use Rattle.transducer.specs.Format.{max-states, index-long, refusal};
 ghost use Rattle.transducer.specs.Prepare.{Prepared};
 use crate::leaf;
 
@@ -17,17 +16,17 @@ pub struct Shape {
 // Puts the first-arc index and the final codes of accepted bytes into arrays of zeros.
 pub fn prepare(
     bytes: &[u8],
-    index: &mut [u16; crate::MAX_STATES + 1],
-    codes: &mut [u32; crate::MAX_STATES],
+    index: &mut [u16; bounds::INDEX_LEN],
+    codes: &mut [u32; bounds::MAX_STATES],
 ) -> Shape
-    requires { ⌜ (refusal (now bytes) ≡ 0) × (now index ≡ replicate (max-states + 1) 0) × (now codes ≡ replicate max-states 0) ⌝ }
+    requires { ⌜ (refusal (now bytes) ≡ 0) × (now index ≡ replicate index-long 0) × (now codes ≡ replicate max-states 0) ⌝ }
     ensures { λ r. ⌜ Prepared (now (bytes .entry)) r (now (index .exit)) (now (codes .exit)) ⌝ }
 {
     let head = leaf::header(bytes);
     let states = head.states as usize;
     let arcs = head.arcs as usize;
     let finals = head.finals as usize;
-    let first = crate::arcs_at(finals);
+    let first = bounds::arcs_at(finals);
     leaf::put_index(bytes, first, states, arcs, index);
     leaf::put_codes(bytes, finals, codes);
     Shape {

@@ -3,13 +3,14 @@ ghost use mathlib.Core.Path.{_≡_};
 ghost use Prim.Native.Nat.{ℕ, _+_, _*_, _≤_, _<_};
 ghost use lib.ListN.{length};
 ghost use lib.Seq.{sets};
+ghost use Rattle.transducer.specs.Format.{head-bytes, final-bytes, arc-bytes};
 ghost use Rattle.transducer.specs.Encode.{head-record, final-record, arc-record};
 use crate::Arc;
 use crate::Final;
 
 // Writes the head record at the front.
 pub fn put_head(out: &mut [u8], n: u16, m: u16, f: u16, start: u16)
-    requires { ⌜ 12 ≤ length (now out) ⌝ }
+    requires { ⌜ head-bytes ≤ length (now out) ⌝ }
     ensures { λ _. ⌜ now (out .exit) ≡ sets (now (out .entry)) 0 (head-record n m f start) ⌝ }
 {
     wire::put_u16(out, 0, 8);
@@ -22,7 +23,7 @@ pub fn put_head(out: &mut [u8], n: u16, m: u16, f: u16, start: u16)
 
 // Writes a final's record at a place.
 pub fn put_final(out: &mut [u8], at: usize, f: Final)
-    requires { ⌜ at + 10 ≤ length (now out) ⌝ }
+    requires { ⌜ at + final-bytes ≤ length (now out) ⌝ }
     ensures { λ _. ⌜ now (out .exit) ≡ sets (now (out .entry)) at (final-record f) ⌝ }
 {
     wire::put_u16(out, at, 6);
@@ -33,7 +34,7 @@ pub fn put_final(out: &mut [u8], at: usize, f: Final)
 
 // Writes an arc's record at a place.
 pub fn put_arc(out: &mut [u8], at: usize, a: Arc)
-    requires { ⌜ at + 16 ≤ length (now out) ⌝ }
+    requires { ⌜ at + arc-bytes ≤ length (now out) ⌝ }
     ensures { λ _. ⌜ now (out .exit) ≡ sets (now (out .entry)) at (arc-record a) ⌝ }
 {
     wire::put_u16(out, at, 12);

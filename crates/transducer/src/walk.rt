@@ -4,19 +4,10 @@ ghost use mathlib.Core.Path.{_≡_};
 ghost use mathlib.Core.Bool.{true, false};
 ghost use Prim.Native.Nat.{ℕ, _+_, _*_, _≤_, _<_};
 ghost use lib.ListN.{length};
-ghost use Rattle.transducer.specs.Format.{framed, kinds-good, kind-good, records, head-good, refusal, arcs-at, arc-bytes};
+ghost use Rattle.transducer.specs.Format.{framed, kinds-good, kind-good, records, refusal, arcs-at, arc-bytes};
 ghost use Rattle.transducer.specs.Check.{all-checked, walked};
 use crate::Checks;
 use crate::check;
-use crate::sizes;
-
-// 3: whether the head's numbers are in range.
-pub fn head_ok(n: u32, m: u32, f: u32, start: u32) -> bool
-    ensures { λ r. ⌜ r ≡ head-good n m f start ⌝ }
-{
-    ((1 <= n) & (n <= sizes::MAX_STATES as u32))
-        & ((m <= sizes::MAX_ARCS as u32) & ((f <= n) & (start < n)))
-}
 
 // 1: whether records follow one another to the very end.
 fn framing_ok(bytes: &[u8]) -> bool
@@ -51,7 +42,7 @@ fn kinds_ok(bytes: &[u8]) -> bool
         return false;
     }
     let mut after_arc = false;
-    let mut at: usize = sizes::HEAD_BYTES;
+    let mut at: usize = bounds::HEAD_BYTES;
     while at < bytes.len() {
         let size = wire::u16_at(bytes, at) as usize;
         let kind = wire::u16_at(bytes, at + 2);
@@ -88,7 +79,7 @@ fn walk(bytes: &[u8]) -> u32
     let m = wire::u16_at(bytes, 6) as u32;
     let f = wire::u16_at(bytes, 8) as u32;
     let start = wire::u16_at(bytes, 10) as u32;
-    if !head_ok(n, m, f, start) {
+    if !bounds::head_ok(n, m, f, start) {
         return 3;
     }
     4
@@ -107,28 +98,28 @@ fn check_all(bytes: &[u8], n: u32, m: usize, f: usize) -> Checks
         weights: true,
         floor: 0,
     };
-    let finals = check::restart(check::check_finals(bytes, sizes::HEAD_BYTES, f, n, none));
-    check::check_arcs(bytes, sizes::arcs_at(f), m, n, finals)
+    let finals = check::restart(check::check_finals(bytes, bounds::HEAD_BYTES, f, n, none));
+    check::check_arcs(bytes, bounds::arcs_at(f), m, n, finals)
 }
 
 // Refusals 1 to 8 of bytes, or 0 where they are accepted.
 pub fn refusal(bytes: &[u8]) -> u32
     ensures { λ r. ⌜ r ≡ refusal (now (bytes .entry)) ⌝ }
 {
-    if bytes.len() < sizes::HEAD_BYTES {
+    if bytes.len() < bounds::HEAD_BYTES {
         return walk(bytes);
     }
-    if wire::u32_at(bytes, 0) != 65544 {
+    if wire::u32_at(bytes, 0) != check::HEAD_WORD {
         return walk(bytes);
     }
     let n = wire::u16_at(bytes, 4) as u32;
     let m = wire::u16_at(bytes, 6) as u32;
     let f = wire::u16_at(bytes, 8) as u32;
     let start = wire::u16_at(bytes, 10) as u32;
-    if !head_ok(n, m, f, start) {
+    if !bounds::head_ok(n, m, f, start) {
         return walk(bytes);
     }
-    if bytes.len() != sizes::arcs_at(f as usize) + sizes::ARC_BYTES * (m as usize) {
+    if bytes.len() != bounds::arcs_at(f as usize) + bounds::ARC_BYTES * (m as usize) {
         return walk(bytes);
     }
     let c = check_all(bytes, n, m as usize, f as usize);

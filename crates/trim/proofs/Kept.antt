@@ -8,6 +8,7 @@ use native.Mathlib.Omega.{arith}
 use lib.Dec.{eqb}
 use lib.ListN.{length, getD}
 use borrow.Author.Tests.{eqb-true, eqb-false, eq-eqb, ne-eqb}
+use Rattle.wire.proofs.Bool.{never}
 use Rattle.transducer.specs.declared.Arc.{Arc}
 use Rattle.transducer.specs.declared.Final.{Final}
 use Rattle.transducer.specs.Format.{Transducer}
@@ -129,7 +130,7 @@ eqb-renumbered t s s' u u' = on (eqb s s') refl
 
 -- A state that is of no use is none that is.
 not-useful : (t : Transducer) (s s' : ℕ) → useful t s ≡ false → useful t s' ≡ true → eqb s s' ≡ false
-not-useful t s s' n u = ne-eqb s s' (λ e. let z : false ≡ true = sym n ∙ ap (useful t) e ∙ u in let c : _≡_ {A = ℕ} 0 1 = cc in omega arith)
+not-useful t s s' n u = ne-eqb s s' (λ e. never (sym n ∙ ap (useful t) e ∙ u))
 
 pub kept-is-final : (t : Transducer) (fs : List Final) (s : ℕ) → useful t s ≡ true → is-final (kept-finals t fs) (renumbered t s) ≡ is-final fs s
 unfolding kept-finals is-final

@@ -1,6 +1,6 @@
 -- The finals and arcs that are kept, written one behind the other: what stands after one more. Assumes nothing.
 use mathlib.Core.Path.{_≡_, refl, sym, ap, _∙_}
-use mathlib.Core.Bool.{Bool, true, false, _&&_, cond}
+use mathlib.Core.Bool.{Bool, true, false, cond, and-false}
 use mathlib.Core.List.{List, [], _∷_, _++_, append-nil}
 use Prim.Native.Nat.{ℕ, suc, _+_, _*_, _≤_, _<_}
 use native.Mathlib.Nat.{zero-add, add-zero}
@@ -10,7 +10,7 @@ use lib.ListN.{length, getD, set, take, length-set, length-append, length-take}
 use lib.Seq.{sets, take-suc, take-all}
 use Rattle.transducer.specs.declared.Arc.{Arc}
 use Rattle.transducer.specs.declared.Final.{Final}
-use Rattle.transducer.specs.Format.{Transducer}
+use Rattle.transducer.specs.Format.{Transducer, head-bytes, final-bytes, arc-bytes, arcs-at}
 use Rattle.transducer.specs.Encode.{final-record, arc-record, final-records, arc-records}
 use Rattle.transducer.specs.Path.{arc, no-arc}
 use Rattle.transducer.proofs.Encode.{sets-then, length-final-records, final-records-append, length-arc-records, arc-records-append}
@@ -95,60 +95,58 @@ numbers-keep t i (b ∷ as') a u = on (arc-useful t b) (numbers-keep t (suc i) a
 unfoldable pub finals-to : Transducer → (i : ℕ) → List Final
 finals-to t i = kept-finals t (take i (t .finals))
 
-pub record Finals-kept (t : Transducer) (i place count : ℕ) (out₀ out : List ℕ) : Type 0 where
+pub record Finals-kept (t : Transducer) (i count : ℕ) (out₀ out : List ℕ) : Type 0 where
   pub within : i ≤ length (t .finals)
-  pub there : place ≡ 12 + 10 * i
   pub few : count ≤ i
   pub long : length out ≡ length out₀
   pub count-is : count ≡ length (finals-to t i)
-  pub so-far : out ≡ sets out₀ 12 (final-records (finals-to t i))
+  pub so-far : out ≡ sets out₀ head-bytes (final-records (finals-to t i))
 
 taken-final : (t : Transducer) (i : ℕ) (f : Final) → i < length (t .finals) → getD (t .finals) i f ≡ f
     → take (i + 1) (t .finals) ≡ take i (t .finals) ++ (f ∷ [])
 taken-final t i f h e = rw (add-one, take-suc (t .finals) i f h, e)
 
 module _ {t : Transducer} where
-  pub finals-first : (out : List ℕ) → Finals-kept t 0 12 0 out out
+  pub finals-first : (out : List ℕ) → Finals-kept t 0 0 out out
   unfolding finals-to kept-finals final-records
-  finals-first out = record { within = omega arith; there = refl; few = omega arith; long = refl; count-is = refl; so-far = refl }
+  finals-first out = record { within = omega arith; few = omega arith; long = refl; count-is = refl; so-far = refl }
 
-  module _ {i place count : ℕ} {out₀ out : List ℕ} (f : Final) (h : i < length (t .finals)) (is : getD (t .finals) i f ≡ f)
-      (k : Finals-kept t i place count out₀ out) where
-    pub finals-skipped : useful t (f .state) ≡ false → Finals-kept t (i + 1) (place + 10) count out₀ out
+  module _ {i count : ℕ} {out₀ out : List ℕ} (f : Final) (h : i < length (t .finals)) (is : getD (t .finals) i f ≡ f)
+      (k : Finals-kept t i count out₀ out) where
+    pub finals-skipped : useful t (f .state) ≡ false → Finals-kept t (i + 1) count out₀ out
     unfolding finals-to
     finals-skipped u =
         let same : kept-finals t (take (i + 1) (t .finals)) ≡ kept-finals t (take i (t .finals)) =
         ap (kept-finals t) (taken-final t i f h is) ∙ finals-skip t (take i (t .finals)) f u in
         record {
           within = omega arith;
-          there = omega (arith, k .there);
           few = omega (arith, k .few);
           long = k .long;
           count-is = rw same (k .count-is);
           so-far = rw same (k .so-far);
         }
 
-    pub finals-more : {last : List ℕ} (f' : Final) → useful t (f .state) ≡ true → f' ≡ moved-final t f → length last ≡ length out
-        → last ≡ sets out (12 + 10 * count) (final-record f') → Finals-kept t (i + 1) (place + 10) (count + 1) out₀ last
+    pub finals-more : {last : List ℕ} {place : ℕ} (f' : Final) → useful t (f .state) ≡ true → f' ≡ moved-final t f → length last ≡ length out
+        → place ≡ arcs-at count → last ≡ sets out place (final-record f') → Finals-kept t (i + 1) (count + 1) out₀ last
     unfolding finals-to final-records
-    finals-more {last} f' u e l put =
+    finals-more {last} {place} f' u e l there put-there =
+        let put : last ≡ sets out (arcs-at count) (final-record f') = rw there at put-there in
         let old : List Final = kept-finals t (take i (t .finals)) in
         let more : kept-finals t (take (i + 1) (t .finals)) ≡ old ++ (f' ∷ []) =
         ap (kept-finals t) (taken-final t i f h is) ∙ rw e (finals-keep t (take i (t .finals)) f u) in
         let one : final-records (f' ∷ []) ≡ final-record f' = append-nil (final-record f') in
-        let sized : length (final-records old) ≡ 10 * count = length-final-records old ∙ ap (λ (n : ℕ). 10 * n) (sym (k .count-is)) in
+        let sized : length (final-records old) ≡ final-bytes * count = length-final-records old ∙ ap (λ (n : ℕ). final-bytes * n) (sym (k .count-is)) in
         record {
           within = omega arith;
-          there = omega (arith, k .there);
           few = omega (arith, k .few);
           long = l ∙ k .long;
           count-is = rw more (omega (arith, length-append old (f' ∷ []), k .count-is));
           so-far = rw (more, final-records-append old (f' ∷ []), one)
-              (sets-then out₀ 12 (10 * count) (final-records old) (final-record f') sized (k .so-far) put);
+              (sets-then out₀ head-bytes (final-bytes * count) (final-records old) (final-record f') sized (k .so-far) put);
         }
 
-  pub finals-stop : {i place count : ℕ} {out₀ out : List ℕ} → length (t .finals) ≤ i → Finals-kept t i place count out₀ out
-      → (count ≡ length (kept-finals t (t .finals))) × (out ≡ sets out₀ 12 (final-records (kept-finals t (t .finals))))
+  pub finals-stop : {i count : ℕ} {out₀ out : List ℕ} → length (t .finals) ≤ i → Finals-kept t i count out₀ out
+      → (count ≡ length (kept-finals t (t .finals))) × (out ≡ sets out₀ head-bytes (final-records (kept-finals t (t .finals))))
   unfolding finals-to
   finals-stop {i} h k =
       let all : take i (t .finals) ≡ t .finals = take-all i (t .finals) h in
@@ -204,7 +202,7 @@ module _ {t : Transducer} {at : ℕ} where
         }
 
     pub arcs-more : {last last-origins : List ℕ} (a' : Arc) (v p : ℕ) → arc-useful t a ≡ true → a' ≡ moved t a → v ≡ i → p ≡ count → length last ≡ length out
-        → last ≡ sets out (at + 16 * count) (arc-record a') → last-origins ≡ set origins p v
+        → last ≡ sets out (at + arc-bytes * count) (arc-record a') → last-origins ≡ set origins p v
         → Arcs-kept t at (i + 1) (count + 1) out₀ last origins₀ last-origins
     unfolding arcs-to numbers-to arc-records
     arcs-more {last} {last-origins} a' v p u e number compact l put put-there =
@@ -217,7 +215,7 @@ module _ {t : Transducer} {at : ℕ} where
         let more-numbers : kept-numbers t 0 (take (i + 1) (t .arcs)) ≡ numbers ++ (v ∷ []) =
         ap (kept-numbers t 0) (taken-arc t i a h is) ∙ numbers-keep t 0 (take i (t .arcs)) a u ∙ ap (λ (n : ℕ). numbers ++ (n ∷ [])) last-number in
         let one : arc-records (a' ∷ []) ≡ arc-record a' = append-nil (arc-record a') in
-        let sized : length (arc-records old) ≡ 16 * count = length-arc-records old ∙ ap (λ (n : ℕ). 16 * n) (sym (k .count-is)) in
+        let sized : length (arc-records old) ≡ arc-bytes * count = length-arc-records old ∙ ap (λ (n : ℕ). arc-bytes * n) (sym (k .count-is)) in
         let sized-numbers : length numbers ≡ count = length-kept t 0 (take i (t .arcs)) ∙ sym (k .count-is) in
         record {
           within = omega arith;
@@ -225,7 +223,8 @@ module _ {t : Transducer} {at : ℕ} where
           long = l ∙ k .long;
           origins-long = ap length put-origin ∙ length-set origins count v ∙ k .origins-long;
           count-is = rw more (omega (arith, length-append old (a' ∷ []), k .count-is));
-          so-far = rw (more, arc-records-append old (a' ∷ []), one) (sets-then out₀ at (16 * count) (arc-records old) (arc-record a') sized (k .so-far) put);
+          so-far = rw (more, arc-records-append old (a' ∷ []), one)
+              (sets-then out₀ at (arc-bytes * count) (arc-records old) (arc-record a') sized (k .so-far) put);
           origins-are = rw more-numbers (sets-then origins₀ 0 count numbers (v ∷ []) sized-numbers (k .origins-are) (rw zero-add put-origin));
         }
 
@@ -244,10 +243,6 @@ unused-source t a e = rw e
 pub unused-target : (t : Transducer) (a : Arc) → useful t (a .target) ≡ false → arc-useful t a ≡ false
 unfolding arc-useful
 unused-target t a e = rw e (and-false (useful t (a .source)))
-  where
-    and-false : (b : Bool) → b && false ≡ false
-    and-false true = refl
-    and-false false = refl
 
 pub used-both : (t : Transducer) (a : Arc) → useful t (a .source) ≡ true → useful t (a .target) ≡ true → arc-useful t a ≡ true
 unfolding arc-useful

@@ -8,9 +8,10 @@ use native.Mathlib.Decide.{ℕ-discrete}
 use native.Mathlib.Omega.{arith}
 use lib.ListN.{length, getD, set, replicate, length-set, length-replicate, getD-replicate}
 use lib.Seq.{getD-set-same, getD-set-other}
+use Rattle.wire.proofs.Bool.{is-true, is-false}
 use Rattle.transducer.specs.declared.Arc.{Arc}
 use Rattle.transducer.specs.declared.Final.{Final}
-use Rattle.transducer.specs.Format.{Transducer}
+use Rattle.transducer.specs.Format.{Transducer, max-states}
 use Rattle.trim.specs.Trim.{useful, renumbered}
 use Rattle.trim.specs.Parts.{Renumbered}
 use Rattle.reach.specs.Counted.{count}
@@ -24,17 +25,17 @@ has-both a b s = getD a s false && getD b s false
 
 -- Up to `s` the numbers are as they shall be, and `next` is the last.
 pub record Running (f : ℕ → Bool) (s next : ℕ) (index : List ℕ) : Type 0 where
-  pub long : length index ≡ 1025
+  pub long : length index ≡ max-states + 1
   pub next-is : next ≡ count s f
   pub so-far : (r : ℕ) → r ≤ s → getD index r 0 ≡ count r f
 
-pub running-first : (f : ℕ → Bool) → Running f 0 0 (replicate 1025 0)
+pub running-first : (f : ℕ → Bool) → Running f 0 0 (replicate (max-states + 1) 0)
 unfolding count
 running-first f =
     record {
-      long = length-replicate {A = ℕ} 1025 0;
+      long = length-replicate {A = ℕ} (max-states + 1) 0;
       next-is = refl;
-      so-far = λ r h. let e : r ≡ 0 = omega arith in rw e (getD-replicate {A = ℕ} 1025 0 0 0 (omega arith));
+      so-far = λ r h. let e : r ≡ 0 = omega arith in rw e (getD-replicate {A = ℕ} (max-states + 1) 0 0 0 (omega arith));
     }
 
 pub running-few : {f : ℕ → Bool} {s next : ℕ} {index : List ℕ} → Running f s next index → next ≤ s
@@ -47,7 +48,7 @@ one-more f s step e = on (f s) e
     on true e = omega arith
     on false e = omega arith
 
-pub running-next : {f : ℕ → Bool} {s next : ℕ} {index : List ℕ} (step : ℕ) → s < 1024 → step ≡ cond (f s) 1 0 → Running f s next index
+pub running-next : {f : ℕ → Bool} {s next : ℕ} {index : List ℕ} (step : ℕ) → s < max-states → step ≡ cond (f s) 1 0 → Running f s next index
     → Running f (s + 1) (next + step) (set index (s + 1) (next + step))
 unfolding count
 running-next {f} {s} {next} {index} step h e m =
@@ -85,18 +86,10 @@ module _ {t : Transducer} {index : List ℕ} (r : Renumbered t index) (s : ℕ) 
   index-step = r .at-state (s + 1) (omega arith) ∙ renumbered-step t s ∙ ap (λ (k : ℕ). k + cond (useful t s) 1 0) (sym (r .at-state s (omega arith)))
 
   pub index-no : getD index s 0 ≡ getD index (s + 1) 0 → useful t s ≡ false
-  index-no h = on (useful t s) refl
-    where
-      on : (b : Bool) → useful t s ≡ b → useful t s ≡ false
-      on true e = let q : getD index (s + 1) 0 ≡ getD index s 0 + 1 = index-step ∙ rw e in absurd (omega arith)
-      on false e = e
+  index-no h = is-false (useful t s) (λ e. let q : getD index (s + 1) 0 ≡ getD index s 0 + 1 = index-step ∙ rw e in omega arith)
 
   pub index-yes : (getD index s 0 ≡ getD index (s + 1) 0 → ⊥) → useful t s ≡ true
-  index-yes h = on (useful t s) refl
-    where
-      on : (b : Bool) → useful t s ≡ b → useful t s ≡ true
-      on true e = e
-      on false e = let q : getD index (s + 1) 0 ≡ getD index s 0 + 0 = index-step ∙ rw e in absurd (h (omega arith))
+  index-yes h = is-true (useful t s) (λ e. let q : getD index (s + 1) 0 ≡ getD index s 0 + 0 = index-step ∙ rw e in h (omega arith))
 
 -- A final and an arc with the new numbers.
 

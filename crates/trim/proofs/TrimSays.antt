@@ -14,6 +14,7 @@ use Rattle.wire.proofs.Places.{sets-append}
 use Rattle.transducer.specs.declared.Header.{Header}
 use Rattle.transducer.specs.declared.Written.{Written}
 use Rattle.transducer.specs.declared.Final.{Final}
+use Rattle.transducer.specs.Format.{max-states, max-arcs, max-bytes, head-bytes, final-bytes, arc-bytes, arcs-at}
 use Rattle.transducer.specs.Format.{Transducer, refusal, decode, head-states, head-arcs, head-finals, head-start}
 use Rattle.transducer.specs.Encode.{head-record, final-records, arc-records, encode}
 use Rattle.transducer.specs.Entry.{or-else, unless, left-in}
@@ -68,14 +69,14 @@ sets-front-last hd out xs n {mid} {last} long room h1 h2 =
 -- All of it, where the start is useful
 
 kept-length : (t : Transducer) (f m : ℕ) → f ≡ length (kept-finals t (t .finals)) → m ≡ length (kept-arcs t (t .arcs))
-    → length (encode (kept t)) ≡ 12 + 10 * f + 16 * m
+    → length (encode (kept t)) ≡ arcs-at f + arc-bytes * m
 unfolding kept
 kept-length t f m ef em = rw (ef, em) (length-encode (kept t))
 
 module _ (t : Transducer) (out : List ℕ) (u : useful t (t .start) ≡ true) where
   kept-encode : (n s : ℕ) {o1 o2 o3 : List ℕ} (f m : ℕ) → n ≡ renumbered t (t .states) → s ≡ renumbered t (t .start)
-      → f ≡ length (kept-finals t (t .finals)) → m ≡ length (kept-arcs t (t .arcs)) → 12 ≤ length out
-      → o1 ≡ sets out 12 (final-records (kept-finals t (t .finals))) → o2 ≡ sets o1 (12 + 10 * f) (arc-records (kept-arcs t (t .arcs)))
+      → f ≡ length (kept-finals t (t .finals)) → m ≡ length (kept-arcs t (t .arcs)) → head-bytes ≤ length out
+      → o1 ≡ sets out head-bytes (final-records (kept-finals t (t .finals))) → o2 ≡ sets o1 (arcs-at f) (arc-records (kept-arcs t (t .arcs)))
       → o3 ≡ sets o2 0 (head-record n m f s) → o3 ≡ sets out 0 (encode (trimmed t))
   unfolding encode kept
   kept-encode n s {o1} {o2} {o3} f m en es ef em room h1 h2 h3 =
@@ -83,29 +84,29 @@ module _ (t : Transducer) (out : List ℕ) (u : useful t (t .start) ≡ true) wh
       let as' : List ℕ = arc-records (kept-arcs t (t .arcs)) in
       let hd : List ℕ =
       head-record (renumbered t (t .states)) (length (kept-arcs t (t .arcs))) (length (kept-finals t (t .finals))) (renumbered t (t .start)) in
-      let sized : length fs ≡ 10 * f = length-final-records (kept-finals t (t .finals)) ∙ ap (λ (k : ℕ). 10 * k) (sym ef) in
-      let body : o2 ≡ sets out 12 (fs ++ as') = sets-then out 12 (10 * f) fs as' sized h1 h2 in
+      let sized : length fs ≡ final-bytes * f = length-final-records (kept-finals t (t .finals)) ∙ ap (λ (k : ℕ). final-bytes * k) (sym ef) in
+      let body : o2 ≡ sets out head-bytes (fs ++ as') = sets-then out head-bytes (final-bytes * f) fs as' sized h1 h2 in
       let head : o3 ≡ sets o2 0 hd = rw (← en, ← es, ← ef, ← em) h3 in
-      let long : length hd ≡ 12 =
+      let long : length hd ≡ head-bytes =
       length-head-record (renumbered t (t .states)) (length (kept-arcs t (t .arcs))) (length (kept-finals t (t .finals))) (renumbered t (t .start)) in
-      let all : o3 ≡ sets out 0 (hd ++ (fs ++ as')) = sets-front-last hd out (fs ++ as') 12 long room body head in
+      let all : o3 ≡ sets out 0 (hd ++ (fs ++ as')) = sets-front-last hd out (fs ++ as') head-bytes long room body head in
       rw (trimmed-kept t u, append-assoc hd fs as') all
 
 -- The numbers of an accepted head, as trimming uses them.
-pub record Opening (bs : List ℕ) (head : Header) : Type 0 where
+pub record Head-numbers (bs : List ℕ) (head : Header) : Type 0 where
   pub states-are : head .states ≡ decode bs .states
   pub start-is : head .start ≡ decode bs .start
   pub arcs-are : head .arcs ≡ length (decode bs .arcs)
   pub head-finals-are : head .finals ≡ head-finals bs
   pub finals-are : head .finals ≡ length (decode bs .finals)
-  pub few-states : head .states ≤ 1024
-  pub few-arcs : head .arcs ≤ 3072
-  pub few-finals : head .finals ≤ 1024
+  pub few-states : head .states ≤ max-states
+  pub few-arcs : head .arcs ≤ max-arcs
+  pub few-finals : head .finals ≤ max-states
   pub start-below : head .start < head .states
 
-pub opening : (bs : List ℕ) → Bytes bs → refusal bs ≡ 0 → (head : Header) → head ≡ header-of bs → Opening bs head
+pub head-numbers : (bs : List ℕ) → Bytes bs → refusal bs ≡ 0 → (head : Header) → head ≡ header-of bs → Head-numbers bs head
 unfolding header-of
-opening bs bytes ok head h =
+head-numbers bs bytes ok head h =
     let within = accepted-within bs bytes ok in
     let n : head .states ≡ head-states bs = ap (λ (r : Header). r .states) h in
     let m : head .arcs ≡ head-arcs bs = ap (λ (r : Header). r .arcs) h in
@@ -141,39 +142,42 @@ encode-lone : encode lone ≡ head-record 1 0 0 0
 unfolding encode lone final-records arc-records
 encode-lone = append-nil (head-record 1 0 0 0 ++ []) ∙ append-nil (head-record 1 0 0 0)
 
-pub trims-lone : (t : Transducer) (out origins : List ℕ) {o1 o2 g : List ℕ} (s : ℕ) → s ≡ t .start → useful t s ≡ false → 12 ≤ length out
-    → o1 ≡ sets out 0 (head-record 1 0 0 0) → o2 ≡ cleared 12 o1 → g ≡ cleared 0 origins → Trims t 12 out o2 origins g
-trims-lone t out origins s is none room h1 h2 h3 =
+pub trims-lone : (t : Transducer) (out origins : List ℕ) {o1 o2 g : List ℕ} (s end : ℕ) → s ≡ t .start → useful t s ≡ false → end ≡ head-bytes
+    → head-bytes ≤ length out → o1 ≡ sets out 0 (head-record 1 0 0 0) → o2 ≡ cleared end o1 → g ≡ cleared 0 origins → Trims t end out o2 origins g
+trims-lone t out origins s end is none ends room h1 h2 h3 =
     let u : useful t (t .start) ≡ false = rw is at none in
-    let long : length (encode lone) ≡ 12 = ap length encode-lone ∙ length-head-record 1 0 0 0 in
+    let long : length (encode lone) ≡ end = ap length encode-lone ∙ length-head-record 1 0 0 0 ∙ sym ends in
     record {
       len-is = rw (trimmed-lone t u) (sym long);
-      table = rw (trimmed-lone t u) (cleared-sets (encode lone) out 12 long room (rw encode-lone h1) h2);
+      table = rw (trimmed-lone t u) (cleared-sets (encode lone) out end long (omega arith) (rw encode-lone h1) h2);
       origins-are = rw (origins-none t u) (cleared-sets [] origins 0 refl (omega arith) refl h3);
     }
 
 -- Where something does
 
-pub trims-kept : (t : Transducer) (out origins : List ℕ) {o1 o2 o3 o4 g1 g2 : List ℕ} (s n r f m : ℕ) → s ≡ t .start → useful t s ≡ true
-    → n ≡ renumbered t (t .states) → r ≡ renumbered t (t .start) → f ≡ length (kept-finals t (t .finals))
-    → 12 + 10 * f + 16 * m ≤ length out → m ≤ length origins
-    → o1 ≡ sets out 12 (final-records (kept-finals t (t .finals))) → Arcs-put t (12 + 10 * f) m o1 o2 origins g1
-    → o3 ≡ sets o2 0 (head-record n m f r) → o4 ≡ cleared (12 + 10 * f + 16 * m) o3 → g2 ≡ cleared m g1
-    → Trims t (12 + 10 * f + 16 * m) out o4 origins g2
-trims-kept t out origins s n r f m is some en er ef room room' h1 put h3 h4 h5 =
+pub trims-kept : (t : Transducer) (out origins : List ℕ) {o1 o2 o3 o4 g1 g2 : List ℕ} (s n r f m at : ℕ) → s ≡ t .start → useful t s ≡ true
+    → n ≡ renumbered t (t .states) → r ≡ renumbered t (t .start) → f ≡ length (kept-finals t (t .finals)) → at ≡ arcs-at f
+    → at + arc-bytes * m ≤ length out → m ≤ length origins
+    → o1 ≡ sets out head-bytes (final-records (kept-finals t (t .finals))) → Arcs-put t at m o1 o2 origins g1
+    → o3 ≡ sets o2 0 (head-record n m f r) → o4 ≡ cleared (at + arc-bytes * m) o3 → g2 ≡ cleared m g1
+    → Trims t (at + arc-bytes * m) out o4 origins g2
+trims-kept t out origins {o1} {o2} s n r f m at is some en er ef there room room' h1 put h3 h4 h5 =
     let u : useful t (t .start) ≡ true = rw is at some in
-    let long : length (encode (trimmed t)) ≡ 12 + 10 * f + 16 * m = length-trimmed u (put .count-is) in
+    let as' : List ℕ = arc-records (kept-arcs t (t .arcs)) in
+    let arcs : o2 ≡ sets o1 (arcs-at f) as' = put .table ∙ ap (λ (k : ℕ). sets o1 k as') there in
+    let long : length (encode (trimmed t)) ≡ at + arc-bytes * m = length-trimmed u (put .count-is) in
     let sized : length (origins-kept t) ≡ m = ap length (origins-some t u) ∙ length-kept t 0 (t .arcs) ∙ sym (put .count-is) in
     record {
       len-is = sym long;
       table =
-          cleared-sets (encode (trimmed t)) out (12 + 10 * f + 16 * m) long room
-          (kept-encode t out u n r f m en er ef (put .count-is) (omega arith) h1 (put .table) h3) h4;
+          cleared-sets (encode (trimmed t)) out (at + arc-bytes * m) long room
+          (kept-encode t out u n r f m en er ef (put .count-is) (omega arith) h1 arcs h3) h4;
       origins-are = cleared-sets (origins-kept t) origins m sized room' (rw (origins-some t u) (put .origins-are)) h5;
     }
   where
-    length-trimmed : useful t (t .start) ≡ true → m ≡ length (kept-arcs t (t .arcs)) → length (encode (trimmed t)) ≡ 12 + 10 * f + 16 * m
-    length-trimmed u em = ap (λ (z : Transducer). length (encode z)) (trimmed-kept t u) ∙ kept-length t f m ef em
+    length-trimmed : useful t (t .start) ≡ true → m ≡ length (kept-arcs t (t .arcs)) → length (encode (trimmed t)) ≡ at + arc-bytes * m
+    length-trimmed u em =
+        ap (λ (z : Transducer). length (encode z)) (trimmed-kept t u) ∙ kept-length t f m ef em ∙ ap (λ (k : ℕ). k + arc-bytes * m) (sym there)
 
 -- The answer
 
@@ -201,25 +205,25 @@ module _ {bs out origins : List ℕ} {n : ℕ} {r : Written} where
       let number : cond (eqb (refusal bs) 0) (trim-room (length out) (length origins)) (refusal bs) ≡ 10 = rw (← e, z, room) in
       says-refused bs (trim-refusal bs (length out) (length origins)) 10 r out origins number (λ q. omega arith) h
 
-  pub says-short-table : n ≡ refusal bs → n ≡ 0 → length out < 59404 → r ≡ record { refusal = 10; len = 0 }
+  pub says-short-table : n ≡ refusal bs → n ≡ 0 → length out < max-bytes → r ≡ record { refusal = 10; len = 0 }
       → Trim-says bs (trim-refusal bs (length out) (length origins)) r out out origins origins
   unfolding trim-room
-  says-short-table e z l h = says-short e z (rw (lt-ltb (length out) 59404 l)) h
+  says-short-table e z l h = says-short e z (rw (lt-ltb (length out) max-bytes l)) h
 
-  pub says-short-origins : n ≡ refusal bs → n ≡ 0 → 59404 ≤ length out → length origins < 3072 → r ≡ record { refusal = 10; len = 0 }
+  pub says-short-origins : n ≡ refusal bs → n ≡ 0 → max-bytes ≤ length out → length origins < max-arcs → r ≡ record { refusal = 10; len = 0 }
       → Trim-says bs (trim-refusal bs (length out) (length origins)) r out out origins origins
   unfolding trim-room
-  says-short-origins e z k l h = says-short e z (rw (le-ltb (length out) 59404 k, lt-ltb (length origins) 3072 l)) h
+  says-short-origins e z k l h = says-short e z (rw (le-ltb (length out) max-bytes k, lt-ltb (length origins) max-arcs l)) h
 
-pub says-trimmed : {bs out out' origins origins' : List ℕ} {len : ℕ} → refusal bs ≡ 0 → 59404 ≤ length out → 3072 ≤ length origins
+pub says-trimmed : {bs out out' origins origins' : List ℕ} {len : ℕ} → refusal bs ≡ 0 → max-bytes ≤ length out → max-arcs ≤ length origins
     → Trims (decode bs) len out out' origins origins'
     → Trim-says bs (trim-refusal bs (length out) (length origins)) (record { refusal = 0; len = len }) out out' origins origins'
 unfolding trim-refusal trim-room or-else unless left-in
 says-trimmed {bs} {out} {out'} {origins} ok l k t =
-    rw (ok, le-ltb (length out) 59404 l, le-ltb (length origins) 3072 k)
+    rw (ok, le-ltb (length out) max-bytes l, le-ltb (length origins) max-arcs k)
     (record { refusal-is = refl; len-is = t .len-is; table = t .table; origins-are = t .origins-are })
 
 pub trims-short : (bs : List ℕ) {out out' origins origins' : List ℕ} {len : ℕ} → Bytes bs → refusal bs ≡ 0
-    → Trims (decode bs) len out out' origins origins' → len ≤ 59404
+    → Trims (decode bs) len out out' origins origins' → len ≤ max-bytes
 trims-short bs bytes ok t =
     omega (arith, t .len-is, length-encode-below (trimmed (decode bs)) (trimmed-good (decode bs) (accepted-good bs bytes ok)))

@@ -8,7 +8,7 @@ use native.Mathlib.Omega.{arith}
 use lib.Dec.{ltb}
 use lib.ListN.{length, getD}
 use borrow.Author.Tests.{ltb-true, ltb-false}
-use Rattle.wire.proofs.Places.{and-true, true-and}
+use Rattle.wire.proofs.Bool.{never, and-true, true-and}
 use Rattle.transducer.specs.declared.Arc.{Arc}
 use Rattle.transducer.specs.Format.{Transducer}
 use Rattle.transducer.specs.Path.{arc, runs, ends, accepts, is-final, final-weight, non-empty, read-by, written-by, arcs-cost, path-cost}
@@ -48,10 +48,7 @@ lone-runs s (i ∷ p) h = absurd (not-suc-le-zero (runs-cons lone s i p h .below
 
 pub lone-accepts-nothing : (p : List ℕ) → accepts lone p ≡ true → ⊥
 unfolding lone accepts is-final
-lone-accepts-nothing p h =
-    let f : false ≡ true = and-true (runs lone 0 p) false h .1 in
-    let z : _≡_ {A = ℕ} 0 1 = cc in
-    omega arith
+lone-accepts-nothing p h = never (and-true (runs lone 0 p) false h .1)
 
 -- The arc that an arc was kept from.
 pub record KeptArc (t : Transducer) (j i : ℕ) : Type 0 where

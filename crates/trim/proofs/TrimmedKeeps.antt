@@ -5,6 +5,7 @@ use mathlib.Core.List.{List, [], _∷_, _++_}
 use Prim.Native.Nat.{ℕ, _<_}
 use native.Mathlib.Nat.{not-suc-le-zero, zero-add}
 use lib.ListN.{length, getD}
+use Rattle.wire.proofs.Bool.{is-false}
 use Rattle.transducer.specs.Format.{Transducer}
 use Rattle.transducer.specs.Path.{arc, accepts, is-final, final-weight}
 use Rattle.transducer.proofs.Runs.{Within, ends-below}
@@ -102,11 +103,8 @@ trimmed-final t w s r =
 -- Where nothing accepts, the start alone remains
 
 pub nothing-useful : (t : Transducer) → ((p : List ℕ) → accepts t p ≡ true → ⊥) → (s : ℕ) → useful t s ≡ false
-nothing-useful t none s = on (useful t s) refl
-  where
-    on : (b : Bool) → useful t s ≡ b → b ≡ false
-    on true u = let r : OnPath t s = useful-on-path t s u in absurd (none (r .before ++ r .after) (on-path-accepts t s r))
-    on false u = refl
+nothing-useful t none s =
+    is-false (useful t s) (λ u. let r : OnPath t s = useful-on-path t s u in none (r .before ++ r .after) (on-path-accepts t s r))
 
 pub trimmed-nothing : (t : Transducer) → ((p : List ℕ) → accepts t p ≡ true → ⊥) → trimmed t ≡ lone
 trimmed-nothing t none = trimmed-lone t (nothing-useful t none (t .start))

@@ -8,7 +8,7 @@ use lib.Dec.{ltb}
 use lib.ListN.{getD}
 use borrow.Author.Tests.{ltb-true}
 use Rattle.wire.specs.Bytes.{every}
-use Rattle.wire.proofs.Places.{and-true}
+use Rattle.wire.proofs.Bool.{and-true}
 use Rattle.transducer.specs.declared.Arc.{Arc}
 use Rattle.transducer.specs.declared.Final.{Final}
 use Rattle.transducer.specs.Format.{Transducer, states-good, Good}

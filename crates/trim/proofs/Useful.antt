@@ -1,10 +1,10 @@
 -- A state is useful where it lies on an accepting path, and an arc likewise. Assumes nothing.
 use mathlib.Core.Path.{_≡_, refl, sym, ap, ap₂, _∙_}
-use mathlib.Core.Bool.{Bool, true, false, _&&_}
+use mathlib.Core.Bool.{Bool, true, false, _&&_, and-self}
 use mathlib.Core.List.{List, [], _∷_, _++_}
 use Prim.Native.Nat.{ℕ, _<_}
 use lib.ListN.{length, getD}
-use Rattle.wire.proofs.Places.{and-true, true-and}
+use Rattle.wire.proofs.Bool.{and-true, true-and}
 use Rattle.transducer.specs.Format.{Transducer}
 use Rattle.transducer.specs.Path.{arc, runs, ends, accepts}
 use Rattle.transducer.proofs.Runs.{Accepting, AcceptingBy, accepting-cons, cons-accepting}
@@ -104,8 +104,4 @@ both-useful t m n s l = ap₂ _&&_ (m .at-state s) (n .at-state s)
 pub coaccessible-useful : (t : Transducer) {b : List Bool} → All-accessible t → Marked (coaccessible (t .states) t) b
     → (s : ℕ) → s < t .states → getD b s false && getD b s false ≡ useful t s
 unfolding useful
-coaccessible-useful t all n s l = rw (n .at-state s, all s l) (twice (coaccessible (t .states) t s))
-  where
-    twice : (b : Bool) → b && b ≡ b
-    twice true = refl
-    twice false = refl
+coaccessible-useful t all n s l = rw (n .at-state s, all s l) (and-self (coaccessible (t .states) t s))

@@ -1,3 +1,5 @@
+-- What a caller must believe
 pub mod Trim
-pub mod Parts
 pub mod TrimEntry
+-- What only inner contracts cite
+pub mod Parts

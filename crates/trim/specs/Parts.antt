@@ -1,17 +1,17 @@
 -- What the parts of trimming answer. Assumes nothing: these are definitions.
 use mathlib.Core.Path.{_≡_}
 use mathlib.Core.List.{List}
-use Prim.Native.Nat.{ℕ, _≤_}
+use Prim.Native.Nat.{ℕ, _+_, _≤_}
 use lib.ListN.{length, getD}
 use lib.Seq.{sets}
 use Rattle.wire.specs.Bytes.{filled}
-use Rattle.transducer.specs.Format.{Transducer}
+use Rattle.transducer.specs.Format.{Transducer, max-states}
 use Rattle.transducer.specs.Encode.{arc-records, encode}
 use Rattle.trim.specs.Trim.{renumbered, kept-arcs, kept-numbers, trimmed, origins-kept}
 
 -- The new numbers of the states, and behind them that of their end.
 pub record Renumbered (t : Transducer) (index : List ℕ) : Type 0 where
-  pub long : length index ≡ 1025
+  pub long : length index ≡ max-states + 1
   pub at-state : (s : ℕ) → s ≤ t .states → getD index s 0 ≡ renumbered t s
 
 -- The arcs that are kept, written from a place on, and their origins from the front.

@@ -6,14 +6,14 @@ use Prim.Native.Nat.{ℕ}
 use lib.Dec.{ltb}
 use lib.ListN.{length}
 use Rattle.transducer.specs.declared.Written.{Written}
-use Rattle.transducer.specs.Format.{refusal, decode}
+use Rattle.transducer.specs.Format.{max-arcs, max-bytes, refusal, decode}
 use Rattle.transducer.specs.Encode.{encode}
 use Rattle.transducer.specs.Entry.{or-else, unless, left-in}
 use Rattle.trim.specs.Trim.{trimmed, origins-kept}
 
 -- 1 to 8, then 10 for a buffer that is too short.
 unfoldable pub trim-room : (table origins : ℕ) → ℕ
-trim-room a b = cond (ltb a 59404 || ltb b 3072) 10 0
+trim-room a b = cond (ltb a max-bytes || ltb b max-arcs) 10 0
 
 unfoldable pub trim-refusal : List ℕ → (table origins : ℕ) → ℕ
 trim-refusal bs a b = or-else (refusal bs) (trim-room a b)

@@ -3,11 +3,12 @@ ghost use mathlib.Core.Path.{_≡_};
 ghost use mathlib.Core.Bool.{true, false, _&&_, cond};
 ghost use Prim.Native.Nat.{ℕ, _≤_, _<_};
 ghost use lib.ListN.{length, getD};
-ghost use Rattle.transducer.specs.Format.{Transducer, decode, head-finals};
+ghost use Rattle.transducer.specs.Format.{Transducer, max-states, decode, head-finals};
 ghost use Rattle.transducer.specs.Leaf.{Opened};
 ghost use Rattle.reach.specs.Reach.{All-accessible};
 ghost use Rattle.trim.specs.Trim.{useful};
 ghost use Rattle.trim.specs.Parts.{Renumbered};
+use transducer::MAX_STATES;
 
 // 1 where both hold.
 fn both(a: bool, b: bool) -> u16
@@ -20,12 +21,16 @@ fn both(a: bool, b: bool) -> u16
 }
 
 // At each state up to and with `states`, how many states before it have both marks.
-fn running(accessible: [bool; 1024], coaccessible: [bool; 1024], states: usize) -> [u16; 1025]
-    requires { ⌜ (states ≤ 1024) × (length accessible ≡ 1024) × (length coaccessible ≡ 1024) ⌝ }
+fn running(
+    accessible: [bool; MAX_STATES],
+    coaccessible: [bool; MAX_STATES],
+    states: usize,
+) -> [u16; MAX_STATES + 1]
+    requires { ⌜ (states ≤ max-states) × (length accessible ≡ max-states) × (length coaccessible ≡ max-states) ⌝ }
     ensures { λ r. ⌜ ((t : Transducer) → t .states ≡ states
         → ((s : ℕ) → s < states → getD accessible s false && getD coaccessible s false ≡ useful t s) → Renumbered t r) ⌝ }
 {
-    let mut index = [0u16; 1025];
+    let mut index = [0u16; MAX_STATES + 1];
     let mut s = 0;
     let mut next = 0;
     while s < states {
@@ -46,9 +51,9 @@ pub fn renumber(
     finals: usize,
     start: usize,
     all_accessible: bool,
-) -> [u16; 1025]
+) -> [u16; MAX_STATES + 1]
     requires { ⌜ Opened (now table) first × (states ≡ decode (now table) .states) × (arcs ≡ length (decode (now table) .arcs))
-        × (finals ≡ head-finals (now table)) × (start ≡ decode (now table) .start) × (states ≤ 1024)
+        × (finals ≡ head-finals (now table)) × (start ≡ decode (now table) .start) × (states ≤ max-states)
         × («all_accessible» ≡ true → All-accessible (decode (now table))) ⌝ }
     ensures { λ r. ⌜ Renumbered (decode (now (table .entry))) r ⌝ }
 {

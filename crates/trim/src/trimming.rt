@@ -1,9 +1,10 @@
 // Trimming: what lies on accepting paths, in its order, renumbered.
 ghost use mathlib.Core.Path.{_≡_};
 ghost use mathlib.Core.Bool.{true};
-ghost use Prim.Native.Nat.{_+_, _*_, _≤_, _<_};
+ghost use Prim.Native.Nat.{_+_, _*_, _≤_};
 ghost use lib.ListN.{length, getD};
 ghost use lib.Seq.{sets};
+ghost use Rattle.transducer.specs.Format.{max-states, max-arcs, max-bytes, head-bytes, arc-bytes, arcs-at};
 ghost use Rattle.transducer.specs.Format.{refusal, decode, head-finals};
 ghost use Rattle.transducer.specs.Encode.{final-records};
 ghost use Rattle.transducer.specs.Leaf.{Opened};
@@ -16,20 +17,24 @@ use transducer::Arc;
 use transducer::Final;
 use transducer::Written;
 
-// Writes the finals that are kept at 12. Answers how many.
-fn put_finals(bytes: &[u8], finals: usize, index: &[u16; 1025], out: &mut [u8]) -> usize
+// Writes the finals that are kept behind the head. Answers how many.
+fn put_finals(
+    bytes: &[u8],
+    finals: usize,
+    index: &[u16; transducer::MAX_STATES + 1],
+    out: &mut [u8],
+) -> usize
     requires { ⌜ (refusal (now bytes) ≡ 0) × (finals ≡ head-finals (now bytes))
-        × Renumbered (decode (now bytes)) (now index) × (12 + 10 * finals ≤ length (now out)) ⌝ }
+        × Renumbered (decode (now bytes)) (now index) × (arcs-at finals ≤ length (now out)) ⌝ }
     ensures { λ r. ⌜ (r ≡ length (kept-finals (decode (now (bytes .entry))) (decode (now (bytes .entry)) .finals)))
-        × (now (out .exit) ≡ sets (now (out .entry)) 12 (final-records (kept-finals (decode (now (bytes .entry))) (decode (now (bytes .entry)) .finals)))) ⌝ }
+        × (now (out .exit) ≡ sets (now (out .entry)) head-bytes
+        (final-records (kept-finals (decode (now (bytes .entry))) (decode (now (bytes .entry)) .finals)))) ⌝ }
 {
     let mut i = 0;
-    let mut place = 12;
     let mut count = 0;
     while i < finals {
-        let f = transducer::load_final(bytes, place);
+        let f = transducer::load_final(bytes, transducer::arcs_at(i));
         let s = f.state as usize;
-        place += 10;
         i += 1;
         if index[s] == index[s + 1] {
             continue;
@@ -38,7 +43,7 @@ fn put_finals(bytes: &[u8], finals: usize, index: &[u16; 1025], out: &mut [u8]) 
             state: index[s],
             weight: f.weight,
         };
-        transducer::put_final(out, 12 + 10 * count, kept);
+        transducer::put_final(out, transducer::arcs_at(count), kept);
         count += 1;
     }
     count
@@ -49,13 +54,13 @@ fn put_arcs(
     bytes: &[u8],
     first: usize,
     arcs: usize,
-    index: &[u16; 1025],
+    index: &[u16; transducer::MAX_STATES + 1],
     at: usize,
     out: &mut [u8],
     origins: &mut [u16],
 ) -> usize
     requires { ⌜ Opened (now bytes) first × (arcs ≡ length (decode (now bytes) .arcs)) × Renumbered (decode (now bytes)) (now index)
-        × (at + 16 * arcs ≤ length (now out)) × (arcs ≤ length (now origins)) ⌝ }
+        × (at + arc-bytes * arcs ≤ length (now out)) × (arcs ≤ length (now origins)) ⌝ }
     ensures { λ r. ⌜ Arcs-put (decode (now (bytes .entry))) at r (now (out .entry)) (now (out .exit)) (now (origins .entry)) (now (origins .exit)) ⌝ }
 {
     let mut i = 0;
@@ -79,7 +84,7 @@ fn put_arcs(
             target: index[t],
             weight: a.weight,
         };
-        transducer::put_arc(out, at + 16 * count, kept);
+        transducer::put_arc(out, at + transducer::ARC_BYTES * count, kept);
         origins[count] = number as u16;
         count += 1;
     }
@@ -87,8 +92,8 @@ fn put_arcs(
 }
 
 // The new number of a state.
-fn new_number(index: &[u16; 1025], state: u16) -> u16
-    requires { ⌜ state < 1025 ⌝ }
+fn new_number(index: &[u16; transducer::MAX_STATES + 1], state: u16) -> u16
+    requires { ⌜ state ≤ max-states ⌝ }
     ensures { λ r. ⌜ r ≡ getD (now (index .entry)) state 0 ⌝ }
 {
     let s = state as usize;
@@ -99,7 +104,7 @@ fn new_number(index: &[u16; 1025], state: u16) -> u16
 // Writes what trimming leaves of accepted bytes, and for each arc the number that it had. Answers the length in bytes. `all_accessible` tells
 // that each state is known to be accessible.
 pub fn trim_into(table: &[u8], all_accessible: bool, out: &mut [u8], origins: &mut [u16]) -> usize
-    requires { ⌜ (refusal (now table) ≡ 0) × (59404 ≤ length (now out)) × (3072 ≤ length (now origins))
+    requires { ⌜ (refusal (now table) ≡ 0) × (max-bytes ≤ length (now out)) × (max-arcs ≤ length (now origins))
         × («all_accessible» ≡ true → All-accessible (decode (now table))) ⌝ }
     ensures { λ r. ⌜ Trims (decode (now (table .entry))) r (now (out .entry)) (now (out .exit)) (now (origins .entry)) (now (origins .exit)) ⌝ }
 {
@@ -108,18 +113,19 @@ pub fn trim_into(table: &[u8], all_accessible: bool, out: &mut [u8], origins: &m
     let m = head.arcs as usize;
     let f = head.finals as usize;
     let start = head.start as usize;
-    let first = 12 + 10 * f;
+    let first = transducer::arcs_at(f);
     let index = renumber::renumber(table, first, n, m, f, start, all_accessible);
     if index[start] == index[start + 1] {
         transducer::put_head(out, 1, 0, 0, 0);
-        wire::clear8(out, 12);
+        let end = transducer::arcs_at(0);
+        wire::clear8(out, end);
         wire::clear16(origins, 0);
-        return 12;
+        return end;
     }
     let finals = put_finals(table, f, &index, out);
-    let at = 12 + 10 * finals;
+    let at = transducer::arcs_at(finals);
     let arcs = put_arcs(table, first, m, &index, at, out, origins);
-    let end = at + 16 * arcs;
+    let end = at + transducer::ARC_BYTES * arcs;
     transducer::put_head(
         out,
         index[n],
@@ -141,10 +147,10 @@ pub fn trim(table: &[u8], out: &mut [u8], origins: &mut [u16]) -> Written
     if number != 0 {
         return transducer::refused(number);
     }
-    if out.len() < 59404 {
+    if out.len() < transducer::MAX_BYTES {
         return transducer::refused(10);
     }
-    if origins.len() < 3072 {
+    if origins.len() < transducer::MAX_ARCS {
         return transducer::refused(10);
     }
     let len = trim_into(table, false, out, origins);

@@ -1,4 +1,7 @@
+-- Tests.
 pub mod Bool
-pub mod Store
+-- Lists made place by place, and loops that store towards one.
 pub mod Places
+pub mod Store
+-- Numbers as bytes.
 pub mod Low

@@ -1,6 +1,6 @@
 -- Laws of `places`, `every`, `sets` and `filled`. Assumes nothing.
 use mathlib.Core.Path.{_≡_, refl, sym, ap, _∙_}
-use mathlib.Core.Bool.{Bool, true, _&&_}
+use mathlib.Core.Bool.{Bool, true, false, _&&_, _||_, not}
 pub use mathlib.Core.Bool.{and-assoc}
 use mathlib.Core.List.{List, [], _∷_, _++_, map, append-assoc, append-nil}
 use Prim.Native.Nat.{ℕ, zero, suc, _+_, _*_, _-_, _≤_, _<_}
@@ -63,6 +63,16 @@ pub every-append : {A : Type 0} (t : A → Bool) (xs ys : List A) → every t (x
 unfolding every
 every-append t [] ys = refl
 every-append t (x ∷ xs) ys = rw (every-append t xs ys, and-assoc)
+
+not-and : (a b : Bool) → not a || not b ≡ not (a && (b && true))
+not-and true true = refl
+not-and true false = refl
+not-and false b = refl
+
+-- A test fails somewhere in a list with one more element where it fails in the list or of that element.
+pub not-every-snoc : {A : Type 0} (t : A → Bool) (xs : List A) (x : A) → not (every t xs) || not (t x) ≡ not (every t (xs ++ (x ∷ [])))
+unfolding every
+not-every-snoc t xs x = not-and (every t xs) (t x) ∙ ap not (sym (every-append t xs (x ∷ [])))
 
 -- A test that holds of each element holds at each place.
 pub every-getD : {A : Type 0} (t : A → Bool) (xs : List A) (i : ℕ) (d : A) → every t xs ≡ true → i < length xs → t (getD xs i d) ≡ true

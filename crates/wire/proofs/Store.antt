@@ -1,6 +1,7 @@
 -- Loops that store one element a turn towards a known list.
---     store-next    one more element of the target stands
---     store-all     all of them stand: the list is the target
+--     store-next     one more element of the target stands
+--     store-all      all of them stand: the list is the target
+--     Clearing       the loop that puts zeros to the end, whatever the width of an element: `clearing-first`, `clearing-next`, `clearing-stop`
 -- Assumes nothing.
 use mathlib.Core.Path.{_≡_, refl, sym, ap, _∙_}
 use mathlib.Core.List.{List, [], _∷_, _++_}
@@ -42,3 +43,31 @@ getD-cleared from i xs h l =
     ap (λ (k : ℕ). getD (take from xs ++ replicate (length xs - from) 0) k 0) split
     ∙ getD-append-add (take from xs) (replicate (length xs - from) 0) (i - from) 0
     ∙ getD-replicate (length xs - from) (i - from) 0 0 (omega arith)
+
+-- A loop that puts zeros from a place to the end, when it has come to i: what lies before i is as it shall be.
+pub record Clearing (from : ℕ) (out₀ out : List ℕ) (i : ℕ) : Type 0 where
+  pub begun : from ≤ i
+  pub within : i ≤ length out
+  pub same : length out ≡ length out₀
+  pub stands : take i out ≡ take i (cleared from out₀)
+
+pub clearing-first : {from : ℕ} {out : List ℕ} → from ≤ length out → Clearing from out out from
+clearing-first {from} {out} h = record { begun = omega arith; within = h; same = refl; stands = take-cleared from out h }
+
+module _ {from i : ℕ} {out₀ out : List ℕ} (h : from ≤ length out₀) (c : Clearing from out₀ out i) where
+  long : length (cleared from out₀) ≡ length out₀
+  long = length-cleared from out₀ h
+
+  pub clearing-next : i < length out → Clearing from out₀ (set out i 0) (i + 1)
+  clearing-next l =
+      let less : i < length out₀ = omega (arith, c .same) in
+      let zero : getD (cleared from out₀) i 0 ≡ 0 = getD-cleared from i out₀ (c .begun) less in
+      record {
+        begun = omega (arith, c .begun);
+        within = simp length-set (omega arith);
+        same = length-set out i 0 ∙ c .same;
+        stands = store-next (cleared from out₀) out i 0 (omega (arith, c .same, long)) l zero (c .stands);
+      }
+
+  pub clearing-stop : length out ≤ i → out ≡ cleared from out₀
+  clearing-stop l = store-all (cleared from out₀) out i (omega (arith, c .same, long)) l (c .stands)

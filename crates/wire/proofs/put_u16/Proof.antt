@@ -1,3 +1,4 @@
+-- Two stores; the bytes are those of `low`.
 use borrow.Author.Needs.{needs}
 use mathlib.Core.Path.{_≡_}
 use Prim.Native.Nat.{_/_, _%_}
@@ -7,34 +8,25 @@ use native.Mathlib.Omega.{arith}
 use Rattle.wire.specs.Bytes.{low}
 use Rattle.wire.proofs.put_u16.Statement.{statement}
 use Rattle.wire.proofs.put_u16.Tie as tie
-use Rattle.wire.proofs.put_u16.Reads as reads
-use Rattle.wire.proofs.put_u16.Lts as lts
 
--- src/lib.rt:41:15
 cast-out : tie.Need-cast-out
 cast-out c = search needs
 
--- src/lib.rt:41:5
 slice-write-out : tie.Need-slice-write-out
 slice-write-out c = search needs
 
--- src/lib.rt:42:19
 cast-out-2 : tie.Need-cast-out-2
 cast-out-2 c = search needs
 
--- src/lib.rt:42:9
 add-out : tie.Need-add-out
 add-out c = search needs
 
--- src/lib.rt:42:5
 slice-write-out-2 : tie.Need-slice-write-out-2
 slice-write-out-2 c = search needs
 
--- src/lib.rt:37:1
 same-length : tie.Need-same-length
 same-length c = search needs
 
--- src/lib.rt:37:1
 returns : tie.Need-returns
 unfolding low
 returns c =

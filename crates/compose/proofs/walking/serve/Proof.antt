@@ -9,11 +9,11 @@ use lib.ListN.{length, getD}
 use Rattle.transducer.specs.Format.{decode, Good}
 use Rattle.transducer.proofs.RoundTrip.{accepted-good, good-range}
 use Rattle.explore.specs.Walk.{Sofar, all-taken, state-served, Walked, Went}
-use Rattle.compose.specs.declared.Run.{Run}
-use Rattle.compose.specs.declared.State.{State}
-use Rattle.compose.specs.Walk.{key-steps, run-at}
-use Rattle.compose.specs.Taking.{In-both}
-use Rattle.compose.proofs.Reading.{right-from, Run-here, next-run-here}
+use Rattle.steps.specs.declared.Run.{Run}
+use Rattle.steps.specs.declared.State.{State}
+use Rattle.steps.specs.Runs.{run-at, In-both}
+use Rattle.compose.specs.Walk.{key-steps}
+use Rattle.steps.proofs.Reading.{right-from, Run-here, next-run-here}
 use Rattle.compose.proofs.WalkCode.{run-left, Placed, placed, placed-left, placed-right, placed-leaving, Serving, serving-first, serving-next, serving-full, serving-stop}
 use Rattle.compose.proofs.walking.serve.Statement.{statement}
 use Rattle.compose.proofs.walking.serve.Tie as tie

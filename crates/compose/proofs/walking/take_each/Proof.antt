@@ -17,10 +17,10 @@ use Rattle.explore.specs.Walk.{Sofar, Walked, all-taken}
 use Rattle.explore.proofs.Search.{Searching, search-first, search-le, search-in, search-less, search-found, search-next, search-none, place-le}
 use Rattle.explore.proofs.Walking.{went-full, Taking, taking-first, taking-next, taking-over, taking-stop}
 use Rattle.compose.specs.Walk.{keyed-step}
-use Rattle.compose.specs.Taking.{Ready}
-use Rattle.compose.proofs.Reading.{Next-step}
-use Rattle.compose.proofs.Links.{step-last, step-more, step-link}
-use Rattle.compose.proofs.RunCode.{opened-few}
+use Rattle.steps.specs.Runs.{Ready}
+use Rattle.steps.proofs.Reading.{Next-step}
+use Rattle.steps.proofs.Links.{step-last, step-more, step-link}
+use Rattle.steps.proofs.RunCode.{opened-few}
 use Rattle.compose.proofs.WalkCode.{step-walked, run-left, run-left-first, run-left-next, run-left-none}
 use Rattle.compose.proofs.walking.take_each.Statement.{statement}
 use Rattle.compose.proofs.walking.take_each.Tie as tie

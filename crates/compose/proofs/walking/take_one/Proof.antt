@@ -14,7 +14,7 @@ use Rattle.explore.proofs.Cases.{clash}
 use Rattle.explore.proofs.Search.{place-le}
 use Rattle.explore.proofs.Walking.{went-full, Taking, taking-first, taking-next, taking-over, taking-stop}
 use Rattle.compose.specs.Walk.{keyed-step}
-use Rattle.compose.proofs.Reading.{next-alone}
+use Rattle.steps.proofs.Reading.{next-alone}
 use Rattle.compose.proofs.WalkCode.{step-walked, run-left, run-left-first, run-left-next, run-left-none}
 use Rattle.compose.proofs.walking.take_one.Statement.{statement}
 use Rattle.compose.proofs.walking.take_one.Tie as tie

@@ -12,10 +12,11 @@ use Rattle.explore.proofs.Cases.{clash}
 use Rattle.explore.proofs.Chain.{chained-zeros}
 use Rattle.explore.proofs.ExploredKeys.{Keying}
 use Rattle.explore.proofs.Walking.{Walking, walking-first, walking-small, walking-state, walking-next, walking-full, walking-stop}
-use Rattle.compose.specs.Compose.{same-state, steps, first-state, origin-pair}
-use Rattle.compose.specs.Walk.{pack, key-steps}
+use Rattle.steps.specs.Steps.{same-state, steps, first-state, origin-pair}
+use Rattle.steps.specs.Packing.{pack}
+use Rattle.compose.specs.Walk.{key-steps}
 use Rattle.compose.proofs.Explored.{composed-keying, key-inside}
-use Rattle.compose.proofs.Pack.{Within}
+use Rattle.steps.proofs.Packing.{Within}
 use Rattle.compose.proofs.walking.walk_all.Statement.{statement}
 use Rattle.compose.proofs.walking.walk_all.Tie as tie
 

@@ -8,12 +8,15 @@ use Rattle.lattice.proofs.ApplySays.{says-bytes, says-string, says-tabl
 use Rattle.lattice.proofs.applying.apply.Statement.{statement}
 use Rattle.lattice.proofs.applying.apply.Tie as tie
 
--- The way back from a place to an earlier one.
+-- Places to look back to.
 abbrev read : tie.Else2 → tie.After-refusal
 read c = c .before .before .before
 
 abbrev entry : tie.After-refusal → tie.Start
 entry c = c .before .before .before .before .before .before
+
+abbrev all-tested : tie.After-apply-into → tie.Else5
+all-tested c = c .before .before .before .before
 
 -- The string is good where its test is passed.
 fine : (c : tie.Else2) → true ≡ string-good (entry (read c) .args .string .now)
@@ -90,11 +93,12 @@ same-length-3 c = search needs
 
 returns-6 : tie.Need-returns-6
 returns-6 c =
-    let else5 = c .before .before .before .before .before .before .before .before .before .before in
+    let into = c .before .before .before .before .before .before in
+    let else5 = all-tested into in
     let else2 = else5 .before .before .before in
     let n = read else2 .refusal in
     says-into _ _ _ _ _ (n .result) (n .ensures) (else2 .before .before .if1 .left) (fine else2) (else5 .before .before .if3 .left) (else5 .before .if4 .left)
-    (else5 .if5 .left) _ _ _ _ (c .before .before .before .before .before .before .apply-into .ensures)
+    (else5 .if5 .left) _ _ _ _ (into .apply-into .ensures)
 
 pub apply-spec : {M : Type 1} → statement M
 apply-spec =

@@ -5,25 +5,42 @@ use Prim.Native.Nat.{ℕ, _≤_}
 use native.Mathlib.Omega.{arith}
 use lib.ListN.{length, replicate, length-replicate}
 use Rattle.wire.specs.Bytes.{Bytes}
+use Rattle.transducer.specs.Format.{max-bytes}
+use Rattle.transducer.specs.Leaf.{Opened}
 use Rattle.transducer.proofs.Accept.{bounds}
 use Rattle.lattice.proofs.AppliedWritten.{says-11, says-12, ends-inside, bytes-accepted, bytes-accessible, len-small, out-long, traceable, says-lattice}
-use Rattle.lattice.proofs.KeyParts.{string-short}
-use Rattle.trim.proofs.TrimSays.{Opening, opening}
+use Rattle.lattice.proofs.Symbols.{string-short}
+use Rattle.trim.proofs.TrimSays.{Head-numbers, head-numbers}
 use Rattle.lattice.proofs.applying.apply_into.Statement.{statement}
 use Rattle.lattice.proofs.applying.apply_into.Tie as tie
 
--- The way back from a place to an earlier one.
+-- Places to look back to.
 abbrev entry : tie.After-shared-slice-known2 → tie.Start
 entry c = c .before .before
 
 abbrev lent : tie.After-header → tie.After-shared-slice-known2
 lent c = c .before .before .before .before
 
+abbrev numbered : tie.After-first-arcs-by-blocks → tie.After-arcs-at
+numbered c = c .before .before .before
+
+abbrev at-header : tie.After-arcs-at → tie.After-header
+at-header c = c .before .before
+
+abbrev indexed : tie.After-walk-all → tie.After-first-arcs-by-blocks
+indexed c = c .before .before .before .before .before
+
 abbrev opened : tie.After-walk-all → tie.After-header
-opened c = c .before .before .before .before .before .before .before .before .before
+opened c = at-header (numbered (indexed c))
+
+abbrev walked-full : tie.Then1 → tie.After-walk-all
+walked-full c = c .before .before .before .before .before
+
+abbrev walked-on : tie.Else1 → tie.After-walk-all
+walked-on c = c .before .before .before .before .before
 
 abbrev walked : tie.Else2 → tie.After-walk-all
-walked c = c .before .before .before .before .before .before
+walked c = walked-on (c .before)
 
 abbrev coded : tie.After-close → tie.After-final-codes
 coded c = c .before .before .before .before
@@ -38,16 +55,16 @@ abbrev counted : tie.After-trace → tie.After-u16-at
 counted c = c .before .before .before
 
 -- The local buffer of bytes is long enough.
-table-long : 59404 ≤ length (replicate {A = ℕ} 59404 0)
-table-long = omega (arith, length-replicate {A = ℕ} 59404 0)
+table-long : max-bytes ≤ length (replicate {A = ℕ} max-bytes 0)
+table-long = omega (arith, length-replicate {A = ℕ} max-bytes 0)
 
 is-bytes : (c : tie.After-shared-slice-known2) → Bytes (entry c .args .bytes .now)
 is-bytes c = λ i. omega (arith, c .shared-slice-known2 .given i)
 
-head-is : (c : tie.After-header) → Opening (entry (lent c) .args .bytes .now) (c .header .result)
+head-is : (c : tie.After-header) → Head-numbers (entry (lent c) .args .bytes .now) (c .header .result)
 head-is c =
     let k = lent c in
-    opening (entry k .args .bytes .now) (is-bytes k) (entry k .pre .accepted) (c .header .result) (c .header .ensures)
+    head-numbers (entry k .args .bytes .now) (is-bytes k) (entry k .pre .accepted) (c .header .result) (c .header .ensures)
 
 header-requires : tie.Need-header-requires
 header-requires c κs = let k = c .before .before .before in omega (arith, bounds (is-bytes k) (entry k .pre .accepted) .long)
@@ -55,11 +72,13 @@ header-requires c κs = let k = c .before .before .before in omega (arith, bound
 cast-f : tie.Need-cast-f
 cast-f c = search needs
 
-mul-first : tie.Need-mul-first
-mul-first c = search needs
+arcs-at-requires : tie.Need-arcs-at-requires
+arcs-at-requires c κs = omega (arith, head-is (c .before) .few-finals)
 
-add-first : tie.Need-add-first
-add-first c = search needs
+is-opened : (c : tie.After-arcs-at) → Opened (entry (lent (at-header c)) .args .bytes .now) (c .arcs-at .result)
+is-opened c =
+    let o = at-header c in
+    record { accepted = entry (lent o) .pre .accepted; first-is = omega (arith, c .arcs-at .ensures, head-is o .head-finals-are) }
 
 cast-first-arcs-by-blocks : tie.Need-cast-first-arcs-by-blocks
 cast-first-arcs-by-blocks c = search needs
@@ -69,29 +88,23 @@ cast-first-arcs-by-blocks-2 c = search needs
 
 first-arcs-by-blocks-requires : tie.Need-first-arcs-by-blocks-requires
 first-arcs-by-blocks-requires c κs =
-    let o = c .before .before .before in
-    let h = head-is o in
-    (record { accepted = entry (lent o) .pre .accepted; first-is = omega (arith, h .head-finals-are) }, h .states-are, h .arcs-are)
+    let at = c .before .before in
+    let h = head-is (at-header at) in
+    (is-opened at, h .states-are, h .arcs-are)
 
 slice-aggregate-walk-all : tie.Need-slice-aggregate-walk-all
-slice-aggregate-walk-all c = sym (length-replicate {A = ℕ} 59404 0)
+slice-aggregate-walk-all c = sym (length-replicate {A = ℕ} max-bytes 0)
 
 slice-aggregate-walk-all-2 : tie.Need-slice-aggregate-walk-all-2
 slice-aggregate-walk-all-2 c = refl
 
 walk-all-requires : tie.Need-walk-all-requires
 walk-all-requires c κs =
-    let o = c .before .before .before .before .before .before .before .before in
-    let h = head-is o in
+    let index = c .before .before .before .before in
+    let at = numbered index in
+    let o = at-header at in
     let pre = entry (lent o) .pre in (
-      (
-        record {
-          good = pre .good;
-          opened = record { accepted = pre .accepted; first-is = omega (arith, h .head-finals-are) };
-          indexed = c .before .before .before .before .first-arcs-by-blocks .ensures;
-        },
-        h .start-is,
-      ),
+      (record { good = pre .good; opened = is-opened at; indexed = index .first-arcs-by-blocks .ensures }, head-is o .start-is),
       (table-long, omega arith, pre .pairs-long),
     )
 
@@ -109,11 +122,12 @@ same-length-3 c = search needs
 
 returns : tie.Need-returns
 returns c =
-    let w = c .before .before .before .before .before .before .before .before .before .before .before .before .before .before .before in
+    let refusing = c .before .before .before .before .before .before in
+    let full = refusing .before .before .before .before in
+    let w = walked-full full in
     let k = lent (opened w) in
     let said = w .walk-all .ensures in
-    says-11 _ _ (is-bytes k) (entry k .pre .accepted) (entry k .pre .good)
-    (said .full (c .before .before .before .before .before .before .before .before .before .before .if1 .taken)) (said .states-kept) (c .before .before .before .before .before .before .refuse .ensures)
+    says-11 _ _ (is-bytes k) (entry k .pre .accepted) (entry k .pre .good) (said .full (full .if1 .taken)) (said .states-kept) (refusing .refuse .ensures)
 
 refuse-requires-2 : tie.Need-refuse-requires-2
 refuse-requires-2 c κs = search needs
@@ -129,12 +143,13 @@ same-length-6 c = search needs
 
 returns-2 : tie.Need-returns-2
 returns-2 c =
-    let then2 = c .before .before .before .before .before .before .before .before .before .before in
-    let w = c .before .before .before .before .before .before .before .before .before .before .before .before .before .before .before .before in
+    let refusing = c .before .before .before .before .before .before in
+    let then2 = refusing .before .before .before .before in
+    let w = walked-on (then2 .before) in
     let k = lent (opened w) in
     let said = w .walk-all .ensures in
     says-12 _ _ (is-bytes k) (entry k .pre .accepted) (entry k .pre .good) (said .done (then2 .before .if1 .left)) (then2 .if2 .taken)
-    (said .states-kept) (c .before .before .before .before .before .before .refuse2 .ensures)
+    (said .states-kept) (refusing .refuse2 .ensures)
 
 final-codes-requires : tie.Need-final-codes-requires
 final-codes-requires c κs = let o = opened (walked c) in (entry (lent o) .pre .accepted, head-is o .head-finals-are)
@@ -143,16 +158,18 @@ cast-close : tie.Need-cast-close
 cast-close c = let start = entry (lent (opened (walked (c .before .before)))) in omega (arith, string-short (start .args .string .now) (start .pre .good))
 
 slice-aggregate-close : tie.Need-slice-aggregate-close
-slice-aggregate-close c = sym (walked (c .before .before .before .before) .walk-all .ensures .table-kept ∙ length-replicate {A = ℕ} 59404 0)
+slice-aggregate-close c = sym (walked (c .before .before .before .before) .walk-all .ensures .table-kept ∙ length-replicate {A = ℕ} max-bytes 0)
 
 close-requires : tie.Need-close-requires
-close-requires c κs = let else2 = c .before .before .before .before in ((_, _, walked else2 .walk-all .ensures .done (else2 .before .if1 .left)), else2 .if2 .left)
+close-requires c κs =
+    let else2 = c .before .before .before .before in
+    ((_, _, walked else2 .walk-all .ensures .done (else2 .before .if1 .left)), else2 .if2 .left)
 
 mul-end : tie.Need-mul-end
-mul-end c = omega (arith, c .before .before .before .before .before .before .if2 .left)
+mul-end c = omega (arith, coded (c .before) .before .if2 .left)
 
 add-end : tie.Need-add-end
-add-end c = omega (arith, c .before .before .before .before .before .before .if2 .left)
+add-end c = omega (arith, coded (c .before) .before .if2 .left)
 
 sub-trim-into : tie.Need-sub-trim-into
 sub-trim-into c =
@@ -161,7 +178,10 @@ sub-trim-into c =
     let k = lent (opened (walked else2)) in
     let pre = entry k .pre in
     let told = walked else2 .walk-all .ensures .done (else2 .before .if1 .left) in
-    omega (arith, ends-inside _ _ (is-bytes k) (pre .accepted) (pre .good) told (else2 .if2 .left) (coded made .final-codes .ensures) (made .close .ensures _ _ told) .0)
+    omega (
+      arith,
+      ends-inside _ _ (is-bytes k) (pre .accepted) (pre .good) told (else2 .if2 .left) (coded made .final-codes .ensures) (made .close .ensures _ _ told) .0,
+    )
 
 part-trim-into-start : tie.Need-part-trim-into-start
 part-trim-into-start c =
@@ -272,8 +292,7 @@ apply-into-spec =
     (tie.spec
     header-requires
     cast-f
-    mul-first
-    add-first
+    arcs-at-requires
     cast-first-arcs-by-blocks
     cast-first-arcs-by-blocks-2
     first-arcs-by-blocks-requires

@@ -1,21 +1,26 @@
 -- What is counted and written goes to the law `closes`.
 use borrow.Author.Needs.{needs}
-use mathlib.Core.Path.{refl}
-use Prim.Native.Nat.{_≤_}
+use mathlib.Core.Path.{refl, ap}
+use Prim.Native.Nat.{ℕ, _-_, _≤_}
 use native.Mathlib.Omega.{arith}
+use Rattle.transducer.specs.Format.{max-states}
+use Rattle.lattice.specs.Applying.{arcs-from}
 use Rattle.lattice.proofs.Closing.{told-room, part-room, closes}
 use Rattle.lattice.proofs.applying.close.Statement.{statement}
 use Rattle.lattice.proofs.applying.close.Tie as tie
 
--- The way back from a place to an earlier one.
+-- Places to look back to.
 abbrev entry : tie.After-final-count → tie.Start
 entry c = c .before .before .before
 
+abbrev placed : tie.After-slice-known2 → tie.After-arcs-at
+placed c = c .before .before .before .before .before
+
 abbrev counted : tie.After-slice-known2 → tie.After-final-count
-counted c = c .before .before .before .before .before
+counted c = placed c .before
 
 -- At most 1,024 finals.
-few : (c : tie.After-final-count) → (c .final-count .result ≤ 1024) × (entry c .args .w .states ≤ 1024)
+few : (c : tie.After-final-count) → (c .final-count .result ≤ max-states) × (entry c .args .w .states ≤ max-states)
 few c =
     let x = entry c .args in
     let room = told-room (x .codes .now) (x .last) (entry c .pre .0 .2) in
@@ -24,14 +29,11 @@ few c =
 final-count-requires : tie.Need-final-count-requires
 final-count-requires c κs = let start = c .before .before in told-room (start .args .codes .now) (start .args .last) (start .pre .0 .2)
 
+arcs-at-requires : tie.Need-arcs-at-requires
+arcs-at-requires c κs = omega (arith, few c)
+
 sub-from : tie.Need-sub-from
-sub-from c = omega arith
-
-mul-from : tie.Need-mul-from
-mul-from c = omega (arith, few c)
-
-sub-from-2 : tie.Need-sub-from-2
-sub-from-2 c = omega (arith, few c)
+sub-from c = omega (arith, few (c .before), c .arcs-at .ensures)
 
 sub-part : tie.Need-sub-part
 sub-part c = search needs
@@ -44,12 +46,13 @@ part-part-end c = search needs
 
 put-finals-requires : tie.Need-put-finals-requires
 put-finals-requires c κs =
-    let here = c .before .before in
+    let at = c .before .before in
+    let here = at .before in
     let x = entry here .args in
     let told = entry here .pre .0 .2 in
     let room = told-room (x .codes .now) (x .last) told in
     let count = here .final-count in
-    (room .0, room .1, part-room (x .codes .now) (x .last) told (count .result) (count .ensures .0) (count .ensures .1))
+    (room .0, room .1, part-room (x .codes .now) (x .last) told (count .result) _ (count .ensures .0) (count .ensures .1) (at .arcs-at .ensures))
 
 cast-put-head : tie.Need-cast-put-head
 cast-put-head c = omega (arith, few (counted c) .1)
@@ -68,10 +71,12 @@ same-length c = search needs
 
 returns : tie.Need-returns
 returns c =
-    let here = counted (c .before .before .before) in
+    let at = placed (c .before .before .before) in
+    let here = at .before in
     let x = entry here .args in
     let count = here .final-count in
-    λ b origins told. closes (x .codes .now) (x .last) told (entry here .pre .1) (count .result) _ _ _ _ _ (count .ensures .0) (count .ensures .1) refl refl
+    λ b origins told. closes (x .codes .now) (x .last) told (entry here .pre .1) (count .result) _ _ _ _ _ (count .ensures .0) (count .ensures .1)
+    (ap (λ (k : ℕ). arcs-from - k) (at .arcs-at .ensures)) refl
     (c .before .before .before .before .before .put-finals .ensures) (c .before .before .put-head .ensures) refl
 
 pub close-spec : {M : Type 1} → statement M
@@ -79,9 +84,8 @@ close-spec =
     tie.close
     (tie.spec
     final-count-requires
+    arcs-at-requires
     sub-from
-    mul-from
-    sub-from-2
     sub-part
     part-part-start
     part-part-end

@@ -1,18 +1,18 @@
--- A loop that counts. The invariant, `Counting`: of the first `s` keys the final ones are counted.
+-- A loop that counts. The invariant, `Finals-counted`: of the first `s` keys the final ones are counted.
 use borrow.Author.Needs.{needs}
 use Prim.Native.Nat.{_-_}
 use native.Mathlib.Omega.{arith}
-use Rattle.lattice.proofs.KeyFinals.{Counting, counting-first, counting-none, counting-more, counting-stop}
+use Rattle.lattice.proofs.KeyFinals.{Finals-counted, counting-first, counting-none, counting-more, counting-stop}
 use Rattle.lattice.proofs.applying.final_count.Statement.{statement}
 use Rattle.lattice.proofs.applying.final_count.Tie as tie
 
 abbrev Inv-loop : tie.InvT-loop
-Inv-loop codes last states count finals₀ s₀ finals s = Counting codes last states count finals s
+Inv-loop codes last states count finals₀ s₀ finals s = Finals-counted codes last states count finals s
 
 abbrev μ-loop : tie.MeasureT-loop
 μ-loop codes last states count finals₀ s₀ finals s = count - s
 
--- The way back from a place to an earlier one.
+-- Places to look back to.
 abbrev turn : tie.After-code-of Inv-loop μ-loop → tie.In-loop Inv-loop μ-loop
 turn c = c .before .before
 
@@ -46,8 +46,8 @@ loop-again c =
     let h = t .before .loop in
     let x = start t .args in
     let code = c .before .code-of in
-    counting-more (x .codes .now) (x .last) (x .states .now) (x .count) (h .finals) (h .s) (code .result) (t .loop-test .taken) (start t .pre .0) (code .ensures)
-    (h .inv) (c .if1 .taken)
+    counting-more (x .codes .now) (x .last) (x .states .now) (x .count) (h .finals) (h .s) (code .result) (t .loop-test .taken)
+    (start t .pre .0) (code .ensures) (h .inv) (c .if1 .taken)
 
 loop-less-2 : tie.Need-loop-less-2 Inv-loop μ-loop
 loop-less-2 c = omega (arith, turn (c .before) .loop-test .taken)
@@ -58,8 +58,8 @@ loop-again-2 c =
     let h = t .before .loop in
     let x = start t .args in
     let code = c .before .code-of in
-    counting-none (x .codes .now) (x .last) (x .states .now) (x .count) (h .finals) (h .s) (code .result) (t .loop-test .taken) (start t .pre .0) (code .ensures)
-    (h .inv) (c .if1 .left)
+    counting-none (x .codes .now) (x .last) (x .states .now) (x .count) (h .finals) (h .s) (code .result) (t .loop-test .taken)
+    (start t .pre .0) (code .ensures) (h .inv) (c .if1 .left)
 
 returns : tie.Need-returns Inv-loop μ-loop
 returns c =

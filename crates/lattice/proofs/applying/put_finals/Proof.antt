@@ -12,7 +12,13 @@ Inv-loop codes last states count table₀ finals₀ s₀ table finals s = Puttin
 abbrev μ-loop : tie.MeasureT-loop
 μ-loop codes last states count table₀ finals₀ s₀ table finals s = count - s
 
--- The way back from a place to an earlier one.
+-- Places to look back to.
+abbrev coded : tie.After-arcs-at Inv-loop μ-loop → tie.After-code-of Inv-loop μ-loop
+coded c = c .before .before .before
+
+abbrev put : tie.After-slice-known2 Inv-loop μ-loop → tie.After-put-final Inv-loop μ-loop
+put c = c .before .before
+
 abbrev turn : tie.After-code-of Inv-loop μ-loop → tie.In-loop Inv-loop μ-loop
 turn c = c .before .before
 
@@ -42,37 +48,37 @@ add-s c = omega arith
 sub-t15 : tie.Need-sub-t15 Inv-loop μ-loop
 sub-t15 c = omega (arith, c .if1 .taken)
 
-mul-put-final : tie.Need-mul-put-final Inv-loop μ-loop
-mul-put-final c = let t = turn (c .before .before) in omega (arith, t .before .loop .inv .1 .few, t .loop-test .taken, start t .pre .1)
-
-add-put-final : tie.Need-add-put-final Inv-loop μ-loop
-add-put-final c = let t = turn (c .before .before) in omega (arith, t .before .loop .inv .1 .few, t .loop-test .taken, start t .pre .1)
+arcs-at-requires : tie.Need-arcs-at-requires Inv-loop μ-loop
+arcs-at-requires c κs = let t = turn (c .before .before) in omega (arith, t .before .loop .inv .1 .few, t .loop-test .taken, start t .pre .1)
 
 put-final-requires : tie.Need-put-final-requires Inv-loop μ-loop
 put-final-requires c κs =
-    let here = c .before .before in
+    let here = coded c in
     let t = turn here in
     let h = t .before .loop in
     let x = start t .args in
     let code = here .code-of in
-    putting-room (x .codes .now) (x .last) (x .states .now) (x .count) (h .finals) (h .s) (code .result) (t .loop-test .taken) (start t .pre .0) (code .ensures)
-    (x .table .now) (h .table) (h .inv) (c .before .if1 .taken) (start t .pre .2)
+    putting-room (x .codes .now) (x .last) (x .states .now) (x .count) (h .finals) (h .s) (code .result) (t .loop-test .taken)
+    (start t .pre .0) (code .ensures)
+    (x .table .now) (h .table) (h .inv) (c .before .before .if1 .taken) (start t .pre .2) (c .arcs-at .ensures)
 
 add-finals : tie.Need-add-finals Inv-loop μ-loop
-add-finals c = let t = turn (c .before .before .before .before .before) in omega (arith, t .before .loop .inv .1 .few, t .loop-test .taken, start t .pre .1)
+add-finals c = let t = turn (coded (put c .before)) in omega (arith, t .before .loop .inv .1 .few, t .loop-test .taken, start t .pre .1)
 
 loop-less : tie.Need-loop-less Inv-loop μ-loop
-loop-less c = omega (arith, turn (c .before .before .before .before .before) .loop-test .taken)
+loop-less c = omega (arith, turn (coded (put c .before)) .loop-test .taken)
 
 loop-again : tie.Need-loop-again Inv-loop μ-loop
 loop-again c =
-    let here = c .before .before .before .before .before in
+    let at = put c .before in
+    let here = coded at in
     let t = turn here in
     let h = t .before .loop in
     let x = start t .args in
     let code = here .code-of in
-    putting-more (x .codes .now) (x .last) (x .states .now) (x .count) (h .finals) (h .s) (code .result) (t .loop-test .taken) (start t .pre .0) (code .ensures)
-    (x .table .now) (h .table) (h .inv) _ (c .before .before .before .before .if1 .taken) (c .before .before .put-final .ensures) (c .before .before .put-final .kept .0)
+    putting-more (x .codes .now) (x .last) (x .states .now) (x .count) (h .finals) (h .s) (code .result) (t .loop-test .taken)
+    (start t .pre .0) (code .ensures)
+    (x .table .now) (h .table) (h .inv) _ (at .before .before .if1 .taken) (at .arcs-at .ensures) (put c .put-final .ensures) (put c .put-final .kept .0)
 
 loop-less-2 : tie.Need-loop-less-2 Inv-loop μ-loop
 loop-less-2 c = omega (arith, turn (c .before) .loop-test .taken)
@@ -84,7 +90,8 @@ loop-again-2 c =
     let h = t .before .loop in
     let x = start t .args in
     let code = here .code-of in
-    putting-none (x .codes .now) (x .last) (x .states .now) (x .count) (h .finals) (h .s) (code .result) (t .loop-test .taken) (start t .pre .0) (code .ensures)
+    putting-none (x .codes .now) (x .last) (x .states .now) (x .count) (h .finals) (h .s) (code .result) (t .loop-test .taken)
+    (start t .pre .0) (code .ensures)
     (x .table .now) (h .table) (h .inv) (c .if1 .left)
 
 same-length : tie.Need-same-length Inv-loop μ-loop
@@ -109,8 +116,7 @@ put-finals-spec =
     cast-state
     add-s
     sub-t15
-    mul-put-final
-    add-put-final
+    arcs-at-requires
     put-final-requires
     add-finals
     loop-less

@@ -3,6 +3,7 @@ use mathlib.Core.Path.{refl}
 use lib.ListN.{getD, length-set}
 use Prim.Native.Nat.{_-_, _<_}
 use native.Mathlib.Omega.{arith}
+use Rattle.transducer.specs.Format.{max-arcs}
 use Rattle.lattice.proofs.Tracing.{Tracing, tracing-first, tracing-here, tracing-next, tracing-stop}
 use Rattle.lattice.proofs.applying.trace.Statement.{statement}
 use Rattle.lattice.proofs.applying.trace.Tie as tie
@@ -14,7 +15,7 @@ abbrev μ-loop : tie.MeasureT-loop
 μ-loop origins₀ count arcs i₀ origins i = count - i
 
 -- What is read is the number of an arc: it is not yet changed.
-arc-number : (c : tie.In-loop Inv-loop μ-loop) → getD (c .before .loop .origins) (c .before .loop .i) 0 < 3072
+arc-number : (c : tie.In-loop Inv-loop μ-loop) → getD (c .before .loop .origins) (c .before .loop .i) 0 < max-arcs
 arc-number c =
     let h = c .before .loop in
     let start = c .before .before in
@@ -48,7 +49,9 @@ mul-origins-2 : tie.Need-mul-origins-2 Inv-loop μ-loop
 mul-origins-2 c = omega arith
 
 slice-write-origins : tie.Need-slice-write-origins Inv-loop μ-loop
-slice-write-origins c = omega (arith, c .before .before .before .loop .inv .kept, c .before .before .loop-test .taken, c .before .before .before .before .pre .0)
+slice-write-origins c =
+    let turn = c .before .before in
+    omega (arith, turn .before .loop .inv .kept, turn .loop-test .taken, turn .before .before .pre .0)
 
 add-i : tie.Need-add-i Inv-loop μ-loop
 add-i c = omega arith

@@ -2,12 +2,14 @@
 use mathlib.Core.Path.{_≡_, refl}
 use Prim.Native.Nat.{ℕ, _≤_}
 use native.Mathlib.Omega.{arith}
-use lib.ListN.{length-replicate}
+use lib.ListN.{length-replicate, replicate}
+use mathlib.Core.Bool.{false}
 use Rattle.wire.specs.Bytes.{Bytes}
 use Rattle.transducer.specs.Format.{decode}
 use Rattle.paths.specs.Counting.{by-marks}
 use Rattle.paths.proofs.Ready.{Sized, sized}
-use Rattle.paths.proofs.Counting.{counting-first, opened-all, stacked-all}
+use Rattle.paths.proofs.Counting.{opened-all, stacked-all}
+use Rattle.paths.proofs.Rested.{underway-first, rested-all}
 use Rattle.paths.proofs.counts.counts_of.Statement.{statement}
 use Rattle.paths.proofs.counts.counts_of.Tie as tie
 
@@ -22,63 +24,71 @@ size : (c : Entry) → Sized (decode (start c .args .table .now))
 size c =
     let bs = start c .args .table .now in
     let bytes : Bytes bs = λ i. omega (arith, c .shared-slice-known .given i) in
-    sized bs bytes (start c .pre .0 .opened .accepted)
+    sized bs bytes (start c .pre .0 .accepted)
 
 few : (c : Entry) → start c .args .states ≤ 1024
-few c = omega (arith, start c .pre .0 .states-are, size c .states)
+few c = omega (arith, start c .pre .1, size c .states)
 
 -- Places to look back to.
-abbrev opening : tie.After-count-open → Entry
-opening c = c .before .before .before
+abbrev linking : tie.After-link-arcs → Entry
+linking c = c .before .before .before .before
 
-abbrev indexing : tie.After-by-target → tie.After-count-open
-indexing c = c .before .before .before
-
-abbrev pushing : tie.After-push-shut → tie.After-by-target
+abbrev pushing : tie.After-push-shut → tie.After-link-arcs
 pushing c = c .before .before .before .before
 
-abbrev pushed : tie.After-stack2 → tie.After-push-shut
-pushed c = c .before .before .before .before .before
+abbrev counting : tie.After-count-all → tie.After-push-shut
+counting c = c .before .before .before .before .before .before
 
-count-open-requires : tie.Need-count-open-requires
-count-open-requires c κs =
-    let e = c .before .before in
-    (start e .pre .0 .opened, start e .pre .1, refl)
+abbrev asking : tie.After-all-marked → tie.After-count-all
+asking c = c .before .before
 
-by-target-requires : tie.Need-by-target-requires
-by-target-requires c κs =
-    let e = opening (c .before .before) in
-    (start e .pre .0 .opened, start e .pre .0 .states-are, start e .pre .1, refl, length-replicate {A = ℕ} 3072 0)
+link-arcs-requires : tie.Need-link-arcs-requires
+link-arcs-requires c κs =
+    let pre = start (c .before .before .before) .pre in
+    (pre .0, pre .2, refl, length-replicate {A = ℕ} 3072 0, refl)
 
 push-shut-requires : tie.Need-push-shut-requires
-push-shut-requires c κs = (few (opening (indexing (c .before .before .before))), length-replicate {A = ℕ} 1024 0)
+push-shut-requires c κs = (few (linking (c .before .before .before)), length-replicate {A = ℕ} 1024 0)
 
 count-all-requires : tie.Need-count-all-requires
 count-all-requires c κs =
-    let put = pushed c in
-    let by = pushing put in
-    let opened = indexing by in
-    let e = opening opened in
+    let put = c .before .before .before .before .before in
+    let linked = pushing put in
+    let e = linking linked in
     let a = start e .args in
+    let pre = start e .pre in
     let t = decode (a .table .now) in
-    let pre = start e .pre in (
-      pre .0 .opened,
-      pre .0 .indexed,
-      pre .2,
-      pre .3,
-      by .by-target .ensures,
-      pre .4,
-      counting-first t (size e) (a .dead) (opened .count-open .last .1 .1 .1 .1 .0) (put .push-shut .last .1 .1 .1 .0) (put .push-shut .result) (pre .4)
-          (opened-all t (by-marks t (a .dead)) (a .arcs) (opened .count-open .last .1 .1 .1 .1 .0) (pre .1)
-          (opened .count-open .ensures))
-          (stacked-all t (a .states) (a .dead) (opened .count-open .last .1 .1 .1 .1 .0) (put .push-shut .last .1 .1 .1 .0) (put .push-shut .result)
-          (pre .0 .states-are)
-          (put .push-shut .ensures)),
+    let left = linked .link-arcs .last .1 .1 .1 .1 .1 .0 in
+    let stack = put .push-shut .last .1 .1 .1 .0 in (
+      pre .0 .accepted,
+      linked .link-arcs .ensures .0,
+      underway-first t (size e) left stack (put .push-shut .result) (a .empty) (pre .4)
+          (opened-all t (by-marks t (replicate 1024 false)) (a .arcs) left (pre .2) (linked .link-arcs .ensures .1))
+          (stacked-all t (a .states) (replicate 1024 false) left stack (put .push-shut .result) (pre .1) (put .push-shut .ensures)),
     )
 
+all-marked-requires : tie.Need-all-marked-requires
+all-marked-requires c κs = few (linking (pushing (counting (c .before))))
+
 returns : tie.Need-returns
-returns c = c .count-all .ensures
+returns c =
+    let all = c .before in
+    let done = asking all in
+    let e = linking (pushing (counting done)) in
+    rested-all (decode (start e .args .table .now)) (size e) _ (done .count-all .result) (done .count-all .ensures .0)
+    (λ s b. all .all-marked .ensures (c .if1 .taken) s (omega (arith, b, start e .pre .1)))
+
+counts-with-cycles-requires : tie.Need-counts-with-cycles-requires
+counts-with-cycles-requires c κs =
+    let done = asking (c .before .before .before .before) in
+    let linked = pushing (counting done) in
+    let pre = start (linking linked) .pre in
+    (pre .0, pre .1, pre .2, pre .3, linked .link-arcs .ensures .0, done .count-all .ensures .0)
+
+returns-2 : tie.Need-returns-2
+returns-2 c = c .counts-with-cycles .ensures
 
 pub counts-of-spec : {M : Type 1} → statement M
 counts-of-spec =
-    tie.close (tie.spec count-open-requires by-target-requires push-shut-requires count-all-requires returns)
+    tie.close
+    (tie.spec link-arcs-requires push-shut-requires count-all-requires all-marked-requires returns counts-with-cycles-requires returns-2)

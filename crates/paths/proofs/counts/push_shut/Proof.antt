@@ -2,9 +2,9 @@
 use mathlib.Core.Path.{_≡_, refl}
 use Prim.Native.Nat.{_-_, _≤_, _<_}
 use native.Mathlib.Omega.{arith}
+use Rattle.wire.proofs.Bool.{clash}
 use Rattle.paths.specs.Sweep.{marked}
 use Rattle.paths.specs.Counting.{Stacked}
-use Rattle.paths.proofs.MarksInPlace.{clash}
 use Rattle.paths.proofs.Counting.{stacked-first, stacked-top, stacked-kept, stacked-push}
 use Rattle.paths.proofs.counts.push_shut.Statement.{statement}
 use Rattle.paths.proofs.counts.push_shut.Tie as tie
@@ -49,7 +49,7 @@ loop-again c =
     let t = c .before .before in
     let a = start t .args in
     let l = t .before .loop in (
-      stacked-kept (l .s) (a .marks .now) (a .left .now) (l .stack) (l .top) (l .inv .0) (λ m _. clash (marked (a .marks .now) (l .s)) (c .if1 .taken) m),
+      stacked-kept (l .s) (a .marks .now) (a .left .now) (l .stack) (l .top) (l .inv .0) (λ m _. clash (c .if1 .taken) m),
       omega (arith, t .loop-test .taken),
     )
 

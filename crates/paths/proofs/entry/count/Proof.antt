@@ -8,15 +8,15 @@ use Rattle.transducer.specs.Format.{refusal, decode}
 use Rattle.transducer.specs.Leaf.{Opened}
 use Rattle.transducer.proofs.Offsets.{length-accepted}
 use Rattle.paths.specs.declared.Counted.{Counted}
-use Rattle.paths.specs.Sweep.{Ready, at-state}
+use Rattle.paths.specs.Sweep.{at-state}
 use Rattle.paths.proofs.Ready.{Sized, Headed, sized, headed, headed-opened}
 use Rattle.paths.proofs.CountSays.{count-bad, count-endless, count-found}
 use Rattle.paths.proofs.entry.count.Statement.{statement}
 use Rattle.paths.proofs.entry.count.Tie as tie
 
 -- Places to look back to, from the last one to the first.
-abbrev at-pass : tie.After-counts-unsorted → tie.After-counts-sorted
-at-pass c = c .before .before .before .before .before .before
+abbrev at-pass : tie.After-counts-of → tie.After-counts-sorted
+at-pass c = c .before .before
 
 abbrev at-first : tie.After-counts-sorted → tie.After-arcs-at
 at-first c = c .before .before
@@ -44,13 +44,6 @@ opened : (c : tie.After-arcs-at) → Opened (start (at-header (c .before) .befor
 opened c =
     let header = at-header (c .before) in
     headed-opened (start (header .before) .args .table .now) (header .header .result) (c .arcs-at .result) (head header) (c .arcs-at .ensures)
-
-ready : (c : tie.After-first-arcs-by-blocks)
-    → Ready (start (at-header (at-first (c .before .before) .before) .before) .args .table .now) (at-first (c .before .before) .arcs-at .result)
-    (at-header (at-first (c .before .before) .before) .header .result .states) (c .first-arcs-by-blocks .result)
-ready c =
-    let first = at-first (c .before .before) in
-    record { opened = opened first; states-are = head (at-header (first .before)) .states-are; indexed = c .first-arcs-by-blocks .ensures }
 
 refusal-requires : tie.Need-refusal-requires
 refusal-requires c κs = tt
@@ -100,28 +93,18 @@ returns-2 c =
     (accepted .before .refusal .ensures)
     (accepted .if1 .left) (totals .endless-is) refl (totals .settled) (head header .start-is))
 
-first-arcs-by-blocks-requires : tie.Need-first-arcs-by-blocks-requires
-first-arcs-by-blocks-requires c κs =
-    let first = at-first (c .before) in
+counts-of-requires : tie.Need-counts-of-requires
+counts-of-requires c κs =
+    let pass = c .before in
+    let first = at-first pass in
     let known = head (at-header (first .before)) in
-    (opened first, known .states-are, known .arcs-are)
-
-final-codes-requires : tie.Need-final-codes-requires
-final-codes-requires c κs =
-    let first = at-first (c .before .before) in
-    (opened first .accepted, head (at-header (first .before)) .finals-are)
-
-counts-unsorted-requires : tie.Need-counts-unsorted-requires
-counts-unsorted-requires c κs =
-    let index = c .before .before .before in
-    let known = head (at-header (at-first (index .before .before) .before)) in
-    (ready index, known .arcs-are, known .start-is, c .before .before .final-codes .ensures)
+    (opened first, known .states-are, known .arcs-are, known .start-is, pass .before .empty-paths .ensures)
 
 returns-3 : tie.Need-returns-3
 returns-3 c =
     let asked = c .before in
     let accepted = at-header (at-first (at-pass asked) .before) .before in
-    count-endless (accepted .before .refusal .ensures) (accepted .if1 .left) (asked .counts-unsorted .ensures .endless-is) (c .if3 .taken)
+    count-endless (accepted .before .refusal .ensures) (accepted .if1 .left) (asked .counts-of .ensures .endless-is) (c .if3 .taken)
 
 element-copy-out-all-2 : tie.Need-element-copy-out-all-2
 element-copy-out-all-2 c = head (at-header (at-first (at-pass (c .before)) .before)) .start-below
@@ -133,7 +116,7 @@ returns-4 : tie.Need-returns-4
 unfolding at-state
 returns-4 c =
     let finite = c .before .before in
-    let totals = finite .before .counts-unsorted in
+    let totals = finite .before .counts-of in
     let header = at-header (at-first (at-pass (finite .before)) .before) in
     let accepted = header .before in
     rw (c .counted2 .ensures) (count-found {cs = totals .result .counts} {start = header .header .result .start} (size accepted)
@@ -157,9 +140,7 @@ count-spec =
     element-copy-out-all
     counted-requires
     returns-2
-    first-arcs-by-blocks-requires
-    final-codes-requires
-    counts-unsorted-requires
+    counts-of-requires
     returns-3
     element-copy-out-all-2
     counted-requires-2

@@ -5,6 +5,7 @@ use native.Mathlib.Omega.{arith}
 use lib.ListN.{length, getD}
 use Rattle.wire.specs.Bytes.{Bytes}
 use Rattle.transducer.specs.Format.{decode}
+use Rattle.paths.specs.TopSorted.{Empty-paths}
 use Rattle.paths.proofs.Ready.{Sized, sized, index-last}
 use Rattle.paths.proofs.TopSorted.{empty-stop}
 use Rattle.paths.proofs.entry.counts_by_state.Statement.{statement}
@@ -39,27 +40,30 @@ cast-arcs c = omega (arith, arcs (c .before), size (c .before) .arcs)
 empty-by-codes-requires : tie.Need-empty-by-codes-requires
 empty-by-codes-requires c κs = (c .before .before .pre .2, few (c .before))
 
-counts-sorted-requires : tie.Need-counts-sorted-requires
-counts-sorted-requires c κs =
-    let entry = c .before .before in
-    let start = entry .before in
+empty : (c : tie.After-empty-by-codes) →
+    let t = decode (c .before .before .before .args .table .now) in
+    Empty-paths t (t .states) (c .empty-by-codes .result)
+empty c =
+    let start = c .before .before .before in
     let t = decode (start .args .table .now) in
-    let empty = empty-stop t (t .states) (start .args .states) (c .empty-by-codes .result) (omega (arith, start .pre .0 .states-are))
-    (c .empty-by-codes .ensures) in
-    (start .pre .0 .opened, arcs entry, empty)
+    empty-stop t (t .states) (start .args .states) (c .empty-by-codes .result) (omega (arith, start .pre .0 .states-are)) (c .empty-by-codes .ensures)
+
+counts-sorted-requires : tie.Need-counts-sorted-requires
+counts-sorted-requires c κs = (c .before .before .before .pre .0 .opened, arcs (c .before .before), empty c)
 
 returns : tie.Need-returns
 returns c = c .before .before .counts-sorted .ensures .complete (c .before .if1 .taken)
 
-counts-unsorted-requires : tie.Need-counts-unsorted-requires
-counts-unsorted-requires c κs =
-    let entry = c .before .before .before .before in
+counts-of-requires : tie.Need-counts-of-requires
+counts-of-requires c κs =
+    let made = c .before .before in
+    let entry = made .before .before in
     let pre = entry .before .pre in
-    (pre .0, arcs entry, pre .1, pre .2)
+    (pre .0 .opened, pre .0 .states-are, arcs entry, pre .1, empty made)
 
 returns-2 : tie.Need-returns-2
-returns-2 c = c .counts-unsorted .ensures
+returns-2 c = c .counts-of .ensures
 
 pub counts-by-state-spec : {M : Type 1} → statement M
 counts-by-state-spec =
-    tie.close (tie.spec mul-arcs element-copy-out-arcs cast-arcs empty-by-codes-requires counts-sorted-requires returns counts-unsorted-requires returns-2)
+    tie.close (tie.spec mul-arcs element-copy-out-arcs cast-arcs empty-by-codes-requires counts-sorted-requires returns counts-of-requires returns-2)

@@ -4,11 +4,11 @@ use mathlib.Core.Path.{_≡_, refl}
 use mathlib.Core.Bool.{false}
 use Prim.Native.Nat.{_-_, _<_}
 use native.Mathlib.Omega.{arith}
+use Rattle.wire.proofs.Bool.{clash}
 use Rattle.wire.specs.Bytes.{Bytes}
 use Rattle.transducer.specs.Format.{decode}
 use Rattle.paths.specs.Sweep.{at-state}
 use Rattle.paths.proofs.Ready.{Sized, sized}
-use Rattle.paths.proofs.MarksInPlace.{clash}
 use Rattle.paths.proofs.TopSorted.{Passed, passed-first, passed-next, passed-most, passed-all}
 use Rattle.paths.proofs.sorted.counts_sorted.Statement.{statement}
 use Rattle.paths.proofs.sorted.counts_sorted.Tie as tie
@@ -62,7 +62,7 @@ target-requires c κs =
     (start (turn .before) .pre .0, omega (arith, turn .loop-test .taken, turn .before .loop .inv .within))
 
 returns : tie.Need-returns Inv-loop μ-loop
-returns c = record { complete = λ q. clash false q refl }
+returns c = record { complete = λ q. clash q refl }
 
 array-copy-out-here : tie.Need-array-copy-out-here Inv-loop μ-loop
 array-copy-out-here c = source-below (c .before)

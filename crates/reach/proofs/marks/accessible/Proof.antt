@@ -6,7 +6,7 @@ use lib.ListN.{set, replicate}
 use Rattle.wire.specs.Bytes.{Bytes}
 use Rattle.transducer.specs.Format.{decode}
 use Rattle.reach.proofs.Sized.{Sized, sized}
-use Rattle.reach.proofs.Settled.{Begun, accessible-begun, accessible-settled}
+use Rattle.reach.proofs.Closure.{Begun, accessible-begun, accessible-closure}
 use Rattle.reach.proofs.marks.accessible.Statement.{statement}
 use Rattle.reach.proofs.marks.accessible.Tie as tie
 
@@ -32,7 +32,7 @@ settle-requires : tie.Need-settle-requires
 settle-requires c κs = let pre = c .before .before .pre in (pre .0, pre .1, pre .2, begun (c .before) .long)
 
 returns : tie.Need-returns
-returns c = let entry = c .before .before in accessible-settled (size entry .within) (begun entry) (c .settle .ensures)
+returns c = let entry = c .before .before in accessible-closure (size entry .within) (begun entry) (c .settle .ensures)
 
 pub accessible-spec : {M : Type 1} → statement M
 accessible-spec = tie.close (tie.spec array-write-marks settle-requires returns)

@@ -3,7 +3,7 @@ use native.Mathlib.Omega.{arith}
 use Rattle.wire.specs.Bytes.{Bytes}
 use Rattle.transducer.specs.Format.{decode}
 use Rattle.reach.proofs.Sized.{Sized, sized}
-use Rattle.reach.proofs.Settled.{coaccessible-settled}
+use Rattle.reach.proofs.Closure.{coaccessible-closure}
 use Rattle.reach.proofs.marks.coaccessible.Statement.{statement}
 use Rattle.reach.proofs.marks.coaccessible.Tie as tie
 
@@ -27,7 +27,7 @@ settle-requires c κs =
 returns : tie.Need-returns
 returns c =
     let marked = c .before .before in
-    coaccessible-settled (size marked .within) (marked .final-marks .ensures) (c .settle .ensures)
+    coaccessible-closure (size marked .within) (marked .final-marks .ensures) (c .settle .ensures)
 
 pub coaccessible-spec : {M : Type 1} → statement M
 coaccessible-spec = tie.close (tie.spec final-marks-requires settle-requires returns)

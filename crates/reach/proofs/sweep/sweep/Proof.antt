@@ -1,6 +1,5 @@
--- The invariant, `Sweeping`: marks have spread along the arcs taken in the first `k` turns, and `again` tells whether one of them waits.
-use mathlib.Core.Path.{_≡_, _∙_}
-use mathlib.Core.Bool.{_||_}
+-- The invariant, `Sweeping`: marks have spread along the arcs taken in the first `k` turns, and none of these waits.
+use mathlib.Core.Path.{_≡_, sym, _∙_}
 use Prim.Native.Nat.{_+_, _-_, _≤_, _<_}
 use native.Mathlib.Omega.{arith}
 use lib.ListN.{length}
@@ -8,16 +7,16 @@ use Rattle.wire.specs.Bytes.{Bytes}
 use Rattle.transducer.specs.Format.{decode}
 use Rattle.reach.proofs.Sized.{Sized, sized}
 use Rattle.reach.proofs.Ends.{sources-order}
-use Rattle.reach.proofs.Sweeping.{Sweeping, low-at, high-at, at-turn-below, sweeping-first, sweeping-next, sweeping-stop}
+use Rattle.reach.proofs.Sweeping.{Sweeping, low-at, high-at, at-turn-below, sweeping-first, sweeping-next, sweeping-stop, swept-more}
 use Rattle.reach.proofs.sweep.sweep.Statement.{statement}
 use Rattle.reach.proofs.sweep.sweep.Tie as tie
 
 abbrev Inv-loop : tie.InvT-loop
-Inv-loop table first arcs back marks₀ again₀ k₀ marks again k =
-    (k ≤ arcs) × Sweeping (decode table) back (low-at back arcs k) (high-at back arcs k) marks₀ marks again
+Inv-loop table first arcs back marks₀ k₀ marks k =
+    (k ≤ arcs) × Sweeping (decode table) back (low-at back arcs k) (high-at back arcs k) marks₀ marks
 
 abbrev μ-loop : tie.MeasureT-loop
-μ-loop table first arcs back marks₀ again₀ k₀ marks again k = arcs - k
+μ-loop table first arcs back marks₀ k₀ marks k = arcs - k
 
 -- A turn, its arc known; then both ends of it.
 abbrev Turn : Type 0
@@ -36,7 +35,7 @@ abbrev turn : Ends → Turn
 turn c = c .before .before
 
 abbrev waited : tie.After-spread Inv-loop μ-loop → tie.After-waits Inv-loop μ-loop
-waited c = c .before .before
+waited c = c .before .before .before
 
 abbrev ends-of : tie.After-spread Inv-loop μ-loop → Ends
 ends-of c = waited c .before .before
@@ -54,19 +53,6 @@ inside : (c : Ends) → (c .before .from-end .result < 1024) × (c .to-end .resu
 inside c =
     let few = size (at (turn c)) .states in
     (omega (arith, c .before .from-end .ensures .1, few), omega (arith, c .to-end .ensures .1, few))
-
-next : (c : tie.After-spread Inv-loop μ-loop) →
-    let h = at (turn (ends-of c)) in
-    let x = start h .args in
-    Sweeping (decode (x .table .now)) (x .back) (low-at (x .back) (x .arcs) (h .loop .k + 1)) (high-at (x .back) (x .arcs) (h .loop .k + 1)) (x .marks .now)
-    (c .spread .last .0) (h .loop .again || waited c .waits .result)
-next c =
-    let ends = ends-of c in
-    let t = turn ends in
-    let h = at t in
-    let order = sources-order (start h .args .table .now) (is-bytes h) (start h .pre .0 .accepted) in
-    sweeping-next (start h .args .back) (t .arc-at-turn .result) (waited c .waits .result) order (t .arc-at-turn .ensures) (t .before .loop-test .taken)
-    (start h .pre .1) (ends .before .from-end .ensures .0) (ends .to-end .ensures .0) (waited c .waits .ensures) (h .loop .inv .1) (c .spread .ensures)
 
 loop-holds : tie.Need-loop-holds Inv-loop μ-loop
 loop-holds c =
@@ -89,7 +75,7 @@ waits-requires c κs =
 
 spread-requires : tie.Need-spread-requires Inv-loop μ-loop
 spread-requires c κs =
-    let ends = c .before .before .before in
+    let ends = c .before .before .before .before in
     let h = at (turn ends) in
     (inside ends .0, inside ends .1, h .loop .inv .1 .wider .long ∙ start h .pre .2)
 
@@ -102,10 +88,23 @@ loop-less : tie.Need-loop-less Inv-loop μ-loop
 loop-less c = omega (arith, turn (ends-of c) .before .loop-test .taken)
 
 loop-again : tie.Need-loop-again Inv-loop μ-loop
-loop-again c = (omega (arith, turn (ends-of c) .before .loop-test .taken), next c)
+loop-again c =
+    let wait = waited c .waits in
+    let ends = ends-of c in
+    let t = turn ends in
+    let h = at t in
+    let order = sources-order (start h .args .table .now) (is-bytes h) (start h .pre .0 .accepted) in (
+      omega (arith, t .before .loop-test .taken),
+      sweeping-next (start h .args .back) (t .arc-at-turn .result) order (t .arc-at-turn .ensures) (t .before .loop-test .taken) (start h .pre .1)
+          (ends .before .from-end .ensures .0) (ends .to-end .ensures .0) (sym (wait .ensures) ∙ c .before .before .if1 .left) (h .loop .inv .1)
+          (c .spread .ensures),
+    )
 
 returns : tie.Need-returns Inv-loop μ-loop
-returns c =
+returns c = swept-more (at (turn (c .before .before .before)) .loop .inv .1 .wider)
+
+returns-2 : tie.Need-returns-2 Inv-loop μ-loop
+returns-2 c =
     let h = c .before in
     sweeping-stop (start h .args .back) (start h .pre .1) (omega (arith, c .loop-test .left, h .loop .inv .0)) (h .loop .inv .1)
 
@@ -120,8 +119,9 @@ sweep-spec =
     from-end-requires
     to-end-requires
     waits-requires
+    returns
     spread-requires
     add-k
     loop-less
     loop-again
-    returns)
+    returns-2)

@@ -1,9 +1,9 @@
 -- The bounds are those of `good-up-to`.
 use borrow.Author.Needs.{needs}
-use mathlib.Core.Path.{_≡_}
-use Prim.Native.Nat.{ℕ}
 use native.Mathlib.Omega.{arith}
 use borrow.Author.Tests.{leb-true}
+use Rattle.wire.proofs.Bool.{never}
+use Rattle.transducer.specs.Format.{max-weight}
 use Rattle.transducer.proofs.Glance.{good-up-to}
 use Rattle.transducer.proofs.check.at_a_glance.Statement.{statement}
 use Rattle.transducer.proofs.check.at_a_glance.Tie as tie
@@ -12,18 +12,18 @@ cast-if1 : tie.Need-cast-if1
 cast-if1 c = search needs
 
 returns : tie.Need-returns
-returns c = λ e. let z : _≡_ {A = ℕ} 0 1 = cc in absurd (omega arith)
+returns c = λ e. never e
 
 cast-if2 : tie.Need-cast-if2
 cast-if2 c = search needs
 
 returns-2 : tie.Need-returns-2
-returns-2 c = λ e. let z : _≡_ {A = ℕ} 0 1 = cc in absurd (omega arith)
+returns-2 c = λ e. never e
 
 returns-3 : tie.Need-returns-3
 returns-3 c =
     let start = c .before .before in
-    λ e. good-up-to (start .args .labels) (start .args .weights) (omega arith) (omega arith) (leb-true (start .args .weights) 1000000 e)
+    λ e. good-up-to (start .args .labels) (start .args .weights) (omega arith) (omega arith) (leb-true (start .args .weights) max-weight e)
 
 pub at-a-glance-spec : {M : Type 1} → statement M
 at-a-glance-spec = tie.close (tie.spec cast-if1 returns cast-if2 returns-2 returns-3)

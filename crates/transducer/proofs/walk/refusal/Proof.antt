@@ -2,16 +2,64 @@
 use borrow.Author.Needs.{needs}
 use mathlib.Core.Path.{_≡_, sym, ap, _∙_}
 use mathlib.Core.Bool.{true, false}
-use Prim.Native.Nat.{_+_, _*_}
+use mathlib.Core.List.{List}
+use Prim.Native.Nat.{ℕ, _+_, _*_}
+use native.Mathlib.Omega.{arith}
 use borrow.Author.Tests.{not-true, not-false}
 use lib.ListN.{length}
 use Rattle.wire.specs.Bytes.{Bytes, four}
-use Rattle.transducer.specs.Format.{head-states, head-arcs, head-finals, head-start, head-good}
+use Rattle.transducer.specs.declared.Checks.{Checks}
+use Rattle.transducer.specs.Format.{arcs-at, arc-bytes, head-states, head-arcs, head-finals, head-start, head-good}
 use Rattle.transducer.specs.Check.{all-checked}
 use Rattle.transducer.proofs.Accept.{refused-head}
 use Rattle.transducer.proofs.Tested.{refused-short, refused-head-word, refused-long, refused-heads, refusal-checked}
 use Rattle.transducer.proofs.walk.refusal.Statement.{statement}
 use Rattle.transducer.proofs.walk.refusal.Tie as tie
+
+-- The way back: from the tested head to the entry, and from the tests of all records to where the arcs begin and to the head.
+abbrev bytes-of : tie.After-head-ok → List ℕ
+bytes-of h = h .before .before .before .before .before .before .before .before .before .args .bytes .now
+
+abbrev headed : tie.After-arcs-at → tie.After-head-ok
+headed a = a .before .before
+
+abbrev placed : tie.After-check-all → tie.After-arcs-at
+placed k = k .before .before
+
+is-bytes : (h : tie.After-head-ok) → Bytes (bytes-of h)
+is-bytes h = λ i. h .before .before .before .before .before .before .before .before .shared-slice-known .given i .fits
+
+-- What was read of the head.
+
+states-read : (h : tie.After-head-ok) → h .before .before .before .before .u16-at .result ≡ head-states (bytes-of h)
+unfolding head-states
+states-read h = h .before .before .before .before .u16-at .ensures
+
+arcs-read : (h : tie.After-head-ok) → h .before .before .before .u16-at2 .result ≡ head-arcs (bytes-of h)
+unfolding head-arcs
+arcs-read h = h .before .before .before .u16-at2 .ensures
+
+finals-read : (h : tie.After-head-ok) → h .before .before .u16-at3 .result ≡ head-finals (bytes-of h)
+unfolding head-finals
+finals-read h = h .before .before .u16-at3 .ensures
+
+start-read : (h : tie.After-head-ok) → h .before .u16-at4 .result ≡ head-start (bytes-of h)
+unfolding head-start
+start-read h = h .before .u16-at4 .ensures
+
+head-tested : (h : tie.After-head-ok)
+    → h .head-ok .result ≡ head-good (head-states (bytes-of h)) (head-arcs (bytes-of h)) (head-finals (bytes-of h)) (head-start (bytes-of h))
+head-tested h = rw (← states-read h, ← arcs-read h, ← finals-read h, ← start-read h) (h .head-ok .ensures)
+
+abbrev tests : tie.After-check-all → Checks
+tests k =
+    let bs = bytes-of (headed (placed k)) in
+    all-checked bs (head-states bs) (head-arcs bs) (head-finals bs)
+
+all-tested : (k : tie.After-check-all) → k .check-all .result ≡ tests k
+all-tested k =
+    let h = headed (placed k) in
+    rw (← states-read h, ← arcs-read h, ← finals-read h) (k .check-all .ensures)
 
 walk-requires : tie.Need-walk-requires
 walk-requires c κs = search needs
@@ -65,17 +113,9 @@ walk-requires-3 : tie.Need-walk-requires-3
 walk-requires-3 c κs = search needs
 
 returns-3 : tie.Need-returns-3
-unfolding head-states head-arcs head-finals head-start
 returns-3 c =
-    let bs = c .before .before .before .before .before .before .before .before .before .before .before .args .bytes .now in
-    let b : Bytes bs = λ i. c .before .before .before .before .before .before .before .before .before .before .shared-slice-known .given i .fits in
-    let n : c .before .before .before .before .before .before .u16-at .result ≡ head-states bs = c .before .before .before .before .before .before .u16-at .ensures in
-    let m : c .before .before .before .before .before .u16-at2 .result ≡ head-arcs bs = c .before .before .before .before .before .u16-at2 .ensures in
-    let f : c .before .before .before .before .u16-at3 .result ≡ head-finals bs = c .before .before .before .before .u16-at3 .ensures in
-    let start : c .before .before .before .u16-at4 .result ≡ head-start bs = c .before .before .before .u16-at4 .ensures in
-    let bad : head-good (head-states bs) (head-arcs bs) (head-finals bs) (head-start bs) ≡ false =
-    rw (← n, ← m, ← f, ← start) (sym (c .before .before .head-ok .ensures) ∙ not-true (c .before .before .head-ok .result) (c .before .if3 .taken)) in
-    c .walk3 .ensures ∙ sym (refused-head bs bad)
+    let h = c .before .before in
+    c .walk3 .ensures ∙ sym (refused-head (bytes-of h) (sym (head-tested h) ∙ not-true (h .head-ok .result) (c .before .if3 .taken)))
 
 cast-arcs-at : tie.Need-cast-arcs-at
 cast-arcs-at c = search needs
@@ -96,15 +136,11 @@ walk-requires-4 : tie.Need-walk-requires-4
 walk-requires-4 c κs = search needs
 
 returns-4 : tie.Need-returns-4
-unfolding head-states head-arcs head-finals head-start
 returns-4 c =
-    let bs = c .before .before .before .before .before .before .before .before .before .before .before .before .before .args .bytes .now in
-    let b : Bytes bs = λ i. c .before .before .before .before .before .before .before .before .before .before .before .before .shared-slice-known .given i .fits in
-    let n : c .before .before .before .before .before .before .before .before .u16-at .result ≡ head-states bs = c .before .before .before .before .before .before .before .before .u16-at .ensures in
-    let m : c .before .before .before .before .before .before .before .u16-at2 .result ≡ head-arcs bs = c .before .before .before .before .before .before .before .u16-at2 .ensures in
-    let f : c .before .before .before .before .before .before .u16-at3 .result ≡ head-finals bs = c .before .before .before .before .before .before .u16-at3 .ensures in
-    let start : c .before .before .before .before .before .u16-at4 .result ≡ head-start bs = c .before .before .before .before .before .u16-at4 .ensures in
-    c .walk4 .ensures ∙ sym (refused-long bs b (λ e. c .before .if4 .taken (rw (c .before .before .arcs-at .ensures, f, m) e)))
+    let a = c .before .before in
+    let h = headed a in
+    c .walk4 .ensures
+    ∙ sym (refused-long (bytes-of h) (is-bytes h) (λ e. c .before .if4 .taken (omega (arith, e, a .arcs-at .ensures, finals-read h, arcs-read h))))
 
 cast-check-all : tie.Need-cast-check-all
 cast-check-all c = search needs
@@ -119,38 +155,28 @@ walk-requires-5 : tie.Need-walk-requires-5
 walk-requires-5 c κs = search needs
 
 returns-5 : tie.Need-returns-5
-unfolding head-states head-arcs head-finals head-start
 returns-5 c =
-    let bs = c .before .before .before .before .before .before .before .before .before .before .before .before .before .before .before .before .args .bytes .now in
-    let b : Bytes bs = λ i. c .before .before .before .before .before .before .before .before .before .before .before .before .before .before .before .shared-slice-known .given i .fits in
-    let n : c .before .before .before .before .before .before .before .before .before .before .before .u16-at .result ≡ head-states bs = c .before .before .before .before .before .before .before .before .before .before .before .u16-at .ensures in
-    let m : c .before .before .before .before .before .before .before .before .before .before .u16-at2 .result ≡ head-arcs bs = c .before .before .before .before .before .before .before .before .before .before .u16-at2 .ensures in
-    let f : c .before .before .before .before .before .before .before .before .before .u16-at3 .result ≡ head-finals bs = c .before .before .before .before .before .before .before .before .before .u16-at3 .ensures in
-    let start : c .before .before .before .before .before .before .before .before .u16-at4 .result ≡ head-start bs = c .before .before .before .before .before .before .before .before .u16-at4 .ensures in
-    let bad : all-checked bs (head-states bs) (head-arcs bs) (head-finals bs) .heads ≡ false =
-    rw (← n, ← m, ← f) (sym (ap (λ (k : _). k .heads) (c .before .before .before .check-all .ensures)) ∙ not-true _ (c .before .if5 .taken)) in
-    c .walk5 .ensures ∙ sym (refused-heads bs b bad)
+    let k = c .before .before .before in
+    let h = headed (placed k) in
+    let bad : tests k .heads ≡ false = ap (λ (t : Checks). t .heads) (sym (all-tested k)) ∙ not-true _ (c .before .if5 .taken) in
+    c .walk5 .ensures ∙ sym (refused-heads (bytes-of h) (is-bytes h) bad)
 
 number-requires : tie.Need-number-requires
 number-requires c κs = search needs
 
 returns-6 : tie.Need-returns-6
-unfolding head-states head-arcs head-finals head-start
 returns-6 c =
-    let bs = c .before .before .before .before .before .before .before .before .before .before .before .before .before .before .before .before .args .bytes .now in
-    let b : Bytes bs = λ i. c .before .before .before .before .before .before .before .before .before .before .before .before .before .before .before .shared-slice-known .given i .fits in
-    let n : c .before .before .before .before .before .before .before .before .before .before .before .u16-at .result ≡ head-states bs = c .before .before .before .before .before .before .before .before .before .before .before .u16-at .ensures in
-    let m : c .before .before .before .before .before .before .before .before .before .before .u16-at2 .result ≡ head-arcs bs = c .before .before .before .before .before .before .before .before .before .before .u16-at2 .ensures in
-    let f : c .before .before .before .before .before .before .before .before .before .u16-at3 .result ≡ head-finals bs = c .before .before .before .before .before .before .before .before .before .u16-at3 .ensures in
-    let start : c .before .before .before .before .before .before .before .before .u16-at4 .result ≡ head-start bs = c .before .before .before .before .before .before .before .before .u16-at4 .ensures in
+    let k = c .before .before .before in
+    let a = placed k in
+    let h = headed a in
+    let bs : List ℕ = bytes-of h in
+    let word : four bs 0 ≡ 65544 = sym (h .before .before .before .before .before .before .u32-at .ensures) ∙ h .before .before .before .before .before .if2 .left in
     let good : head-good (head-states bs) (head-arcs bs) (head-finals bs) (head-start bs) ≡ true =
-    rw (← n, ← m, ← f, ← start) (sym (c .before .before .before .before .before .before .before .head-ok .ensures) ∙ not-false (c .before .before .before .before .before .before .before .head-ok .result) (c .before .before .before .before .before .before .if3 .left)) in
-    let long : length bs ≡ 12 + 10 * head-finals bs + 16 * head-arcs bs =
-    rw (← f, ← m, ← c .before .before .before .before .before .arcs-at .ensures) (c .before .before .before .before .if4 .left) in
-    let is : c .before .before .before .check-all .result ≡ all-checked bs (head-states bs) (head-arcs bs) (head-finals bs) = rw (← n, ← m, ← f) (c .before .before .before .check-all .ensures) in
-    let heads : all-checked bs (head-states bs) (head-arcs bs) (head-finals bs) .heads ≡ true =
-    ap (λ (k : _). k .heads) (sym is) ∙ not-false _ (c .before .if5 .left) in
-    c .number .ensures ∙ rw is (refusal-checked bs b (sym (c .before .before .before .before .before .before .before .before .before .before .before .before .before .u32-at .ensures) ∙ c .before .before .before .before .before .before .before .before .before .before .before .before .if2 .left) good long heads)
+    sym (head-tested h) ∙ not-false (h .head-ok .result) (a .before .if3 .left) in
+    let long : length bs ≡ arcs-at (head-finals bs) + arc-bytes * head-arcs bs =
+    rw (← finals-read h, ← arcs-read h, ← a .arcs-at .ensures) (k .before .if4 .left) in
+    let heads : tests k .heads ≡ true = ap (λ (t : Checks). t .heads) (sym (all-tested k)) ∙ not-false _ (c .before .if5 .left) in
+    c .number .ensures ∙ rw (all-tested k) (refusal-checked bs (is-bytes h) word good long heads)
 
 pub refusal-spec : {M : Type 1} → statement M
 refusal-spec =

@@ -1,6 +1,7 @@
 -- A running sum. The invariant, `Running`: the numbers up to `s` are stored, and `next` is the last.
 use Prim.Native.Nat.{_-_, _≤_, _<_}
 use native.Mathlib.Omega.{arith}
+use Rattle.transducer.specs.Format.{max-states}
 use Rattle.trim.proofs.Running.{has-both, Running, running-first, running-few, one-more, running-next, running-stop}
 use Rattle.trim.proofs.renumber.running.Statement.{statement}
 use Rattle.trim.proofs.renumber.running.Tie as tie
@@ -15,7 +16,7 @@ loop-holds : tie.Need-loop-holds Inv-loop μ-loop
 loop-holds c = (omega arith, running-first (has-both (c .args .t1) (c .args .t2)))
 
 -- In a turn there is a state of this number.
-below : (c : tie.In-loop Inv-loop μ-loop) → c .before .loop .s < 1024
+below : (c : tie.In-loop Inv-loop μ-loop) → c .before .loop .s < max-states
 below c = omega (arith, c .loop-test .taken, c .before .before .pre .0)
 
 array-read-both : tie.Need-array-read-both Inv-loop μ-loop

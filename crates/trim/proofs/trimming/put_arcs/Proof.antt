@@ -7,7 +7,7 @@ use Prim.Native.Nat.{ℕ, _-_, _+_, _*_, _≤_, _<_}
 use native.Mathlib.Omega.{arith}
 use lib.ListN.{length}
 use Rattle.wire.specs.Bytes.{Bytes}
-use Rattle.transducer.specs.Format.{decode}
+use Rattle.transducer.specs.Format.{arc-bytes, decode}
 use Rattle.transducer.proofs.Offsets.{length-arcs, accepted-within}
 use Rattle.reach.proofs.Ends.{Arc-ends, arc-ends}
 use Rattle.trim.proofs.Running.{index-no, index-yes, index-arc}
@@ -21,12 +21,15 @@ Inv-loop bytes first arcs index at out₀ origins₀ i₀ count₀ out origins i
 abbrev μ-loop : tie.MeasureT-loop
 μ-loop bytes first arcs index at out₀ origins₀ i₀ count₀ out origins i count = arcs - i
 
--- The way back from a place to an earlier one.
+-- Places to look back to.
 abbrev start : tie.In-loop Inv-loop μ-loop → tie.Start Inv-loop μ-loop
 start c = c .before .before .before .before .before
 
 abbrev bytes-of : tie.In-loop Inv-loop μ-loop → List ℕ
 bytes-of c = start c .args .bytes .now
+
+abbrev read : tie.Then1 Inv-loop μ-loop → tie.After-arc-of Inv-loop μ-loop
+read c = c .before .before .before .before .before
 
 abbrev loaded : tie.Else1 Inv-loop μ-loop → tie.After-arc-of Inv-loop μ-loop
 loaded c = c .before .before .before .before .before
@@ -54,7 +57,7 @@ ends c =
 
 -- The place of the record and of the origin stay inside: no more are kept than passed.
 room : (c : tie.Else2 Inv-loop μ-loop) →
-    (start (turn-of c) .args .at + 16 * turn-of c .before .loop .count + 16 ≤ length (start (turn-of c) .args .out .now))
+    (start (turn-of c) .args .at + arc-bytes * turn-of c .before .loop .count + arc-bytes ≤ length (start (turn-of c) .args .out .now))
     × (turn-of c .before .loop .count < length (start (turn-of c) .args .origins .now))
 room c =
     let turn = turn-of c in (
@@ -93,11 +96,11 @@ element-copy-out-if1-2 : tie.Need-element-copy-out-if1-2 Inv-loop μ-loop
 element-copy-out-if1-2 c = omega (arith, ends (c .before .before .before))
 
 loop-less : tie.Need-loop-less Inv-loop μ-loop
-loop-less c = omega (arith, c .before .before .before .before .before .before .loop-test .taken)
+loop-less c = omega (arith, read c .before .loop-test .taken)
 
 loop-again : tie.Need-loop-again Inv-loop μ-loop
 loop-again c =
-    let here = c .before .before .before .before .before in
+    let here = read c in
     let turn = here .before in
     let a = here .arc-of .result in
     let unused = index-no (start turn .pre .2) (a .source) (ends here .source-below) (c .if1 .taken) in
@@ -193,7 +196,9 @@ same-length-2 : tie.Need-same-length-2 Inv-loop μ-loop
 same-length-2 c = c .before .loop .inv .origins-long
 
 returns : tie.Need-returns Inv-loop μ-loop
-returns c = arcs-stop (omega (arith, c .loop-test .left, c .before .before .before .before .before .pre .1)) (c .before .loop .inv)
+returns c =
+    let s = c .before .before .before .before .before in
+    arcs-stop (omega (arith, c .loop-test .left, s .pre .1)) (c .before .loop .inv)
 
 pub put-arcs-spec : {M : Type 1} → statement M
 put-arcs-spec =

@@ -1,15 +1,14 @@
 -- One test after the other, each with its law in `TrimSays`; then what `trim_into` leaves.
 use borrow.Author.Needs.{needs}
-use mathlib.Core.Path.{refl, sym, _∙_}
-use mathlib.Core.Bool.{false}
+use mathlib.Core.Path.{sym, _∙_}
 use native.Mathlib.Omega.{arith}
 use Rattle.wire.specs.Bytes.{Bytes}
-use Rattle.reach.proofs.Spreading.{never}
+use Rattle.wire.proofs.Bool.{never}
 use Rattle.trim.proofs.TrimSays.{says-bad, says-short-table, says-short-origins, says-trimmed, trims-short}
 use Rattle.trim.proofs.trimming.trim.Statement.{statement}
 use Rattle.trim.proofs.trimming.trim.Tie as tie
 
--- The way back from a place to an earlier one.
+-- Places to look back to.
 abbrev entry : tie.After-refusal → tie.Start
 entry c = c .before .before .before .before
 
@@ -46,7 +45,7 @@ trim-into-requires : tie.Need-trim-into-requires
 trim-into-requires c κs =
     let passed = c .before .before in
     let ok = sym (passed .before .before .before .refusal .ensures) ∙ passed .before .before .if1 .left in
-    (ok, passed .before .if2 .left, passed .if3 .left, λ e. never false refl e)
+    (ok, passed .before .if2 .left, passed .if3 .left, λ e. never e)
 
 cast-t12 : tie.Need-cast-t12
 cast-t12 c =

@@ -1,0 +1,72 @@
+-- The limits of paper 01, and the tests of numbers against them. Assumes nothing: these are definitions.
+use mathlib.Core.Bool.{Bool, _&&_, not, cond}
+use Prim.Native.Nat.{ℕ, _+_, _*_, _-_}
+use lib.Dec.{ltb, leb}
+
+-- The limits of paper 01.
+abbrev pub max-states : ℕ
+max-states = 1024
+
+abbrev pub max-arcs : ℕ
+max-arcs = 3072
+
+-- An index by state has one entry more than there are states.
+abbrev pub index-long : ℕ
+index-long = max-states + 1
+
+abbrev pub max-weight : ℕ
+max-weight = 1000000
+
+-- The longest string, the longest accepting path where there are finitely many, and where counting stops.
+abbrev pub max-symbols : ℕ
+max-symbols = 64
+
+abbrev pub max-path : ℕ
+max-path = max-states - 1
+
+abbrev pub max-count : ℕ
+max-count = 99
+
+-- Four fields to an arc, and two origins to a composed arc.
+abbrev pub max-fields : ℕ
+max-fields = 4 * max-arcs
+
+abbrev pub max-origins : ℕ
+max-origins = 2 * max-arcs
+
+-- The bytes of a head's, a final's and an arc's record, and where the arcs begin behind a number of finals.
+abbrev pub head-bytes : ℕ
+head-bytes = 12
+
+abbrev pub final-bytes : ℕ
+final-bytes = 10
+
+abbrev pub arc-bytes : ℕ
+arc-bytes = 16
+
+abbrev pub arcs-at : (finals : ℕ) → ℕ
+arcs-at f = head-bytes + final-bytes * f
+
+-- The length of the largest transducer.
+abbrev pub max-bytes : ℕ
+max-bytes = arcs-at max-states + arc-bytes * max-arcs
+
+-- The label that no arc may bear.
+abbrev pub barred : ℕ
+barred = 65535
+
+-- 3: the head's numbers are in range
+unfoldable pub head-good : (states arcs finals start : ℕ) → Bool
+head-good n m f s = (leb 1 n && leb n max-states) && (leb m max-arcs && (leb f n && ltb s n))
+
+-- 7: whether an arc may bear these two labels.
+unfoldable pub labels-good : (input output : ℕ) → Bool
+labels-good input output = ltb input barred && ltb output barred
+
+-- 8: whether a weight is in range.
+unfoldable pub weight-good : ℕ → Bool
+weight-good w = leb w max-weight
+
+-- The first of four tests that fails, as refusal 5, 6, 7 or 8; 0 where none does.
+unfoldable pub first-of : (states order labels weights : Bool) → ℕ
+first-of a b c d = cond (not a) 5 (cond (not b) 6 (cond (not c) 7 (cond (not d) 8 0)))

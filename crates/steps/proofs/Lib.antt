@@ -1,0 +1,9 @@
+pub mod Moves
+pub mod Labels
+pub mod SameState
+pub mod Packing
+pub mod RunSteps
+pub mod Leaving
+pub mod Reading
+pub mod RunCode
+pub mod Links

@@ -1,0 +1,4 @@
+pub mod Steps
+pub mod Packing
+pub mod Lookup
+pub mod Runs

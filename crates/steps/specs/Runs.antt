@@ -1,0 +1,82 @@
+-- The steps of a composed state as runs: where the next one begins, and its steps with keys for targets. Assumes nothing: these are definitions.
+use mathlib.Core.Path.{_≡_}
+use mathlib.Core.Bool.{true, false, _||_, cond}
+use mathlib.Core.List.{List, [], _∷_}
+use Prim.Native.Nat.{ℕ, zero, suc, _+_, _*_, _≤_, _<_}
+use lib.Dec.{ltb, eqb}
+use lib.ListN.{length}
+use Rattle.transducer.specs.Format.{Transducer, barred}
+use Rattle.transducer.specs.Path.{arc}
+use Rattle.transducer.specs.Weight.{plus}
+use Rattle.explore.specs.Explore as explore
+use Rattle.steps.specs.declared.State.{State}
+use Rattle.steps.specs.declared.Origin.{Origin}
+use Rattle.steps.specs.declared.Origin.the-variants.{Left, Right, Both}
+use Rattle.steps.specs.declared.Step.{Step}
+use Rattle.steps.specs.declared.Run.{Run}
+use Rattle.steps.specs.declared.Begin.{Begin}
+use Rattle.steps.specs.Lookup.{Rest}
+use Rattle.steps.specs.Packing.{pack}
+
+-- A step as the code has it: its target is a key.
+unfoldable pub coded : explore.Step State Origin → Step
+coded s =
+    record { origin = s .origin; input = s .input; output = s .output; target = pack (s .target); weight = s .weight }
+
+-- The steps of a run: of a left arc alone, or with each of `count` right arcs from j on that reads the run's label.
+unfoldable pub run-step : (right : Transducer) → Run → (j : ℕ) → Step
+run-step u r j =
+    cond (r .alone)
+    (record { origin = Left (r .left); input = r .input; output = 0; target = r .target; weight = r .weight })
+    (record {
+      origin = cond (eqb (r .left) barred) (Right j) (Both (r .left) j);
+      input = r .input;
+      output = arc u j .output;
+      target = r .target + 2 * arc u j .target;
+      weight = plus (r .weight) (arc u j .weight);
+    })
+
+unfoldable pub run-steps : (right : Transducer) → Run → (count j : ℕ) → List Step
+run-steps u r zero j = []
+run-steps u r (suc count) j =
+    cond (r .alone || eqb (arc u j .input) (r .label)) (run-step u r j ∷ run-steps u r count (suc j)) (run-steps u r count (suc j))
+
+-- The first arc from j on, among `count`, that reads a label; the arc behind them where none does.
+unfoldable pub reading-from : Transducer → (label count j : ℕ) → ℕ
+reading-from u label zero j = j
+reading-from u label (suc count) j = cond (eqb (arc u j .input) label) j (reading-from u label count (suc j))
+
+-- Where the next run with a step begins, from left arc i on, among `count` of them; the right state's arcs are `width` from `from` on.
+unfoldable pub begin-from : (t u : Transducer) → (filter from width count i : ℕ) → Begin
+begin-from t u filter from width zero i = record { alone = false; i = i; j = reading-from u 0 width from }
+begin-from t u filter from width (suc count) i =
+    let more = begin-from t u filter from width count (suc i) in
+    let label = arc t i .output in
+    let j = reading-from u label width from in
+    cond (eqb label 0) (cond (eqb filter 0) (record { alone = true; i = i; j = 0 }) more)
+    (cond (ltb j (from + width)) (record { alone = false; i = i; j = j }) more)
+
+-- The run that begins there; behind the last left arc it is that of the right arcs alone.
+unfoldable pub run-at : (t : Transducer) → (last : ℕ) → State → Begin → Run
+run-at t last x b =
+    let a = arc t (b .i) in
+    cond (eqb (b .i) last)
+    (record { alone = false; left = barred; label = 0; input = 0; target = x .left * 2048 + 1; weight = 0 })
+    (cond (b .alone)
+    (record { alone = true; left = b .i; label = 0; input = a .input; target = 2048 * a .target + 2 * x .right; weight = a .weight })
+    (record { alone = false; left = b .i; label = a .output; input = a .input; target = 2048 * a .target; weight = a .weight }))
+
+-- A run can be taken from right arc j to below `to`: its numbers are in range, and unless j is at the end, arc j fits and the arcs of its state
+-- end at `to`.
+pub record Ready (u : Transducer) (r : Run) (j to : ℕ) : Type 0 where
+  pub target-fits : r .target ≤ 2097152
+  pub weight-fits : r .weight ≤ 1000000
+  pub inside : r .alone ≡ false → to ≤ length (u .arcs)
+  pub single : r .alone ≡ true → to ≤ j + 1
+  pub rest : r .alone ≡ false → j < to → Rest u (arc u j .source) j to
+  pub fits-here : j < to → r .alone || eqb (arc u j .input) (r .label) ≡ true
+
+-- The parts of a composed state are states of the two transducers.
+pub record In-both (t u : Transducer) (x : State) : Type 0 where
+  pub left-in : x .left < t .states
+  pub right-in : x .right < u .states

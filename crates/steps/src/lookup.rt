@@ -1,0 +1,90 @@
+// The arcs that a state has for a label, found by look-up. Arcs are in chains by bucket, in arc order; a link is the number of an arc and
+// one more, 0 for none.
+ghost use mathlib.Core.Path.{_≡_};
+ghost use Prim.Native.Nat.{ℕ, _+_, _*_, _-_, _≤_, _<_};
+ghost use lib.ListN.{length, getD, replicate};
+ghost use Rattle.transducer.specs.Format.{decode};
+ghost use Rattle.transducer.specs.Leaf.{Opened};
+ghost use Rattle.steps.specs.Lookup.{label-bucket, reads, first-from, Leads, Heads, Chain, Lookup, Leaving};
+ghost use Rattle.steps.specs.Runs.{reading-from};
+
+// The bucket of a state and a label.
+fn label_bucket(state: u16, label: u16) -> usize
+    ensures { λ r. ⌜ (r ≡ label-bucket state label) × (r < 4096) ⌝ }
+{
+    ((state as usize) * 61 + (label as usize)) % 4096
+}
+
+// The link to the first arc that leaves state `q` and reads `label`, along the chain that `head` leads to. An arc's source and label stand side
+// by side and are compared as one number.
+fn along(right: &[u8], rfirst: usize, chain: &[u16; 3072], head: u16, q: u16, label: u16) -> u16
+    requires { ⌜ Opened (now right) rfirst × ((from : ℕ) × Leads (decode (now right)) q label from (now chain) head) ⌝ }
+    ensures { λ r. ⌜ ((from : ℕ) → Leads (decode (now (right .entry))) q label from (now (chain .entry)) head →
+        r ≡ first-from (decode (now (right .entry))) (reads (decode (now (right .entry))) q label) from) ⌝ }
+{
+    let both = (q as u32) + 65536 * (label as u32);
+    let mut next = head;
+    while next != 0 {
+        let j = (next - 1) as usize;
+        if wire::u32_at(right, rfirst + 16 * j + 4) == both {
+            return next;
+        }
+        next = chain[j];
+    }
+    0
+}
+
+// Puts the right arcs in chains, from the last to the first; `again` leads from each arc to the next one that leaves
+// the same state and reads the same label.
+pub fn put_chains(
+    right: &[u8],
+    rfirst: usize,
+    arcs: usize,
+    heads: &mut [u16; 4096],
+    chain: &mut [u16; 3072],
+    again: &mut [u16; 3072],
+)
+    requires { ⌜ Opened (now right) rfirst × (arcs ≡ length (decode (now right) .arcs)) × (now heads ≡ replicate 4096 0)
+        × (length (now chain) ≡ 3072) × (length (now again) ≡ 3072) ⌝ }
+    ensures { λ _. ⌜ Lookup (decode (now (right .entry))) (now (heads .exit)) (now (chain .exit)) (now (again .exit)) ⌝ }
+{
+    let mut left = arcs;
+    while 0 < left {
+        let j = left - 1;
+        let link = left as u16;
+        left = j;
+        let place = rfirst + 16 * j + 4;
+        let q = wire::u16_at(right, place);
+        let label = wire::u16_at(right, place + 2);
+        let b = label_bucket(q, label);
+        let head = heads[b];
+        again[j] = along(right, rfirst, chain, head, q, label);
+        chain[j] = head;
+        heads[b] = link;
+    }
+}
+
+// The first arc of right state `q` that reads `label`; `to`, the arc behind those of the state, where none does.
+pub fn first_fit(
+    right: &[u8],
+    rfirst: usize,
+    heads: &[u16; 4096],
+    chain: &[u16; 3072],
+    q: u16,
+    label: u16,
+    to: usize,
+) -> usize
+    requires { ⌜ Opened (now right) rfirst × Heads (decode (now right)) 0 (now heads) × Chain (decode (now right)) 0 (now chain) ⌝ }
+    ensures { λ r. ⌜ ((from : ℕ) → Leaving (decode (now (right .entry))) q from to →
+        r ≡ reading-from (decode (now (right .entry))) label (to - from) from) ⌝ }
+{
+    let head = heads[label_bucket(q, label)];
+    if head == 0 {
+        return to;
+    }
+    let link = along(right, rfirst, chain, head, q, label) as usize;
+    if link == 0 {
+        return to;
+    }
+    link - 1
+}

@@ -1,0 +1,190 @@
+// Runs of steps: where the next one begins, and each of its steps.
+ghost use mathlib.Core.Path.{_≡_};
+ghost use mathlib.Core.Bool.{false, cond};
+ghost use lib.Dec.{eqb};
+ghost use Prim.Native.Nat.{ℕ, _+_, _*_, _-_, _≤_, _<_};
+ghost use lib.ListN.{length};
+ghost use Rattle.transducer.specs.Format.{decode, barred};
+ghost use Rattle.transducer.specs.Leaf.{Opened};
+ghost use Rattle.steps.specs.Steps.{left-origin, right-origin};
+ghost use Rattle.steps.specs.Lookup.{Heads, Chain, Leaving};
+ghost use Rattle.steps.specs.Packing.{pack, unpacked};
+ghost use Rattle.steps.specs.Runs.{run-step, run-at, begin-from};
+use crate::Begin;
+use crate::Origin;
+use crate::Run;
+use crate::State;
+use crate::Step;
+use crate::lookup;
+
+const STILL: u16 = 65535;
+
+// The filter state that a step leads to: of a left arc alone, of a right arc alone, of one of each.
+const AFTER_LEFT: u32 = 0;
+
+const AFTER_RIGHT: u32 = 1;
+
+const AFTER_BOTH: u32 = 0;
+
+// A composed state as one number.
+pub fn pack(left: u32, right: u32, filter: u32) -> u32
+    requires { ⌜ (left < 1024) × (right < 1024) × (filter < 2) ⌝ }
+    ensures { λ r. ⌜ r ≡ pack (record { left = left; right = right; filter = filter }) ⌝ }
+{
+    (left * 1024 + right) * 2 + filter
+}
+
+// The parts of a packed state.
+pub fn unpack(key: u32) -> State
+    ensures { λ r. ⌜ r ≡ unpacked key ⌝ }
+{
+    State {
+        left: key / 2048,
+        right: key / 2 % 1024,
+        filter: key % 2,
+    }
+}
+
+// Where the next run with a step begins, from left arc `i` on: a left arc that writes nothing, where the filter state allows it; one
+// whose output some right arc reads; or behind the last left arc, with the first right arc that reads nothing.
+pub fn next_run(
+    left: &[u8],
+    lfirst: usize,
+    i: usize,
+    last: usize,
+    filter: u32,
+    right: &[u8],
+    rfirst: usize,
+    heads: &[u16; 4096],
+    chain: &[u16; 3072],
+    q: u16,
+    to: usize,
+) -> Begin
+    requires { ⌜ Opened (now left) lfirst × (i ≤ last) × (last ≤ length (decode (now left) .arcs)) ⌝ }
+    requires { ⌜ Opened (now right) rfirst × Heads (decode (now right)) 0 (now heads) × Chain (decode (now right)) 0 (now chain) ⌝ }
+    ensures { λ r. ⌜ ((from : ℕ) → Leaving (decode (now (right .entry))) q from to →
+        r ≡ begin-from (decode (now (left .entry))) (decode (now (right .entry))) filter from (to - from) (last - i) i) ⌝ }
+{
+    let mut k = i;
+    while k < last {
+        let at = k;
+        let label = wire::u16_at(left, lfirst + 16 * at + 8);
+        k += 1;
+        if label == 0 {
+            if filter == 0 {
+                return Begin {
+                    alone: true,
+                    i: at,
+                    j: 0,
+                };
+            }
+        } else {
+            let j = lookup::first_fit(right, rfirst, heads, chain, q, label, to);
+            if j < to {
+                return Begin {
+                    alone: false,
+                    i: at,
+                    j: j,
+                };
+            }
+        }
+    }
+    Begin {
+        alone: false,
+        i: last,
+        j: lookup::first_fit(right, rfirst, heads, chain, q, 0, to),
+    }
+}
+
+// The run that begins there.
+pub fn run_of(left: &[u8], lfirst: usize, at: Begin, last: usize, x: State) -> Run
+    requires { ⌜ Opened (now left) lfirst × (at .i ≤ last) × (last ≤ length (decode (now left) .arcs)) × (x .left < 1024) × (x .right < 1024) ⌝ }
+    ensures { λ r. ⌜ r ≡ run-at (decode (now (left .entry))) last x at ⌝ }
+{
+    let i = at.i;
+    if i == last {
+        return Run {
+            alone: false,
+            left: STILL,
+            label: 0,
+            input: 0,
+            target: x.left * 2048 + AFTER_RIGHT,
+            weight: 0,
+        };
+    }
+    let a = transducer::arc_of(left, lfirst, i);
+    let base = 2048 * (a.target as u32);
+    if at.alone {
+        return Run {
+            alone: true,
+            left: i as u16,
+            label: 0,
+            input: a.input,
+            target: base + 2 * x.right + AFTER_LEFT,
+            weight: a.weight,
+        };
+    }
+    Run {
+        alone: false,
+        left: i as u16,
+        label: a.output,
+        input: a.input,
+        target: base + AFTER_BOTH,
+        weight: a.weight,
+    }
+}
+
+// The origin of a step with right arc `j`.
+fn with_right(left: u16, j: u16) -> Origin
+    ensures { λ r. ⌜ r ≡ cond (eqb left barred) (Origin.Right j) (Origin.Both left j) ⌝ }
+{
+    if left == STILL {
+        return Origin::Right(j);
+    }
+    Origin::Both(left, j)
+}
+
+// The step of a run with right arc `j`.
+pub fn step_of(run: Run, right: &[u8], rfirst: usize, j: usize) -> Step
+    requires { ⌜ Opened (now right) rfirst × (run .alone ≡ false → j < length (decode (now right) .arcs)) × (run .target ≤ 2097152) × (run .weight ≤ 1000000) ⌝ }
+    ensures { λ r. ⌜ r ≡ run-step (decode (now (right .entry))) run j ⌝ }
+{
+    if run.alone {
+        return Step {
+            origin: Origin::Left(run.left),
+            input: run.input,
+            output: 0,
+            target: run.target,
+            weight: run.weight,
+        };
+    }
+    let b = transducer::arc_of(right, rfirst, j);
+    Step {
+        origin: with_right(run.left, j as u16),
+        input: run.input,
+        output: b.output,
+        target: run.target + 2 * (b.target as u32),
+        weight: run.weight + b.weight,
+    }
+}
+
+// The left and the right arc of an origin, 65,535 where that side stood still.
+pub fn left_origin(o: Origin) -> u16
+    ensures { λ r. ⌜ r ≡ left-origin o ⌝ }
+{
+    match o {
+        Origin::Left(i) => i,
+        Origin::Right(_) => STILL,
+        Origin::Both(i, _) => i,
+    }
+}
+
+pub fn right_origin(o: Origin) -> u16
+    ensures { λ r. ⌜ r ≡ right-origin o ⌝ }
+{
+    match o {
+        Origin::Left(_) => STILL,
+        Origin::Right(j) => j,
+        Origin::Both(_, j) => j,
+    }
+}
