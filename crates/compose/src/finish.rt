@@ -53,7 +53,8 @@ pub fn put_finals(
 
 // Refuses with 11, 12 or 13: every buffer is all zeros.
 pub fn refuse(table: &mut [u8], origins: &mut [u16], states: &mut [u32], number: u32) -> Written
-    ensures { λ r. ⌜ Refused-with number r (now (table .entry)) (now (table .exit)) (now (origins .entry)) (now (origins .exit)) (now (states .entry)) (now (states .exit)) ⌝ }
+    ensures { λ r. ⌜ Refused-with number r (now (table .entry)) (now (table .exit)) (now (origins .entry)) (now (origins .exit))
+        (now (states .entry)) (now (states .exit)) ⌝ }
 {
     wire::clear8(table, 0);
     wire::clear16(origins, 0);

@@ -4,9 +4,6 @@ ghost use Rattle.io.specs.Counts.{Counts};
 // A file is read up to this many bytes.
 const MOST: usize = 65536;
 
-// The bytes that the longest listing takes.
-const ROOM: usize = 602898;
-
 // Reads a file from its start into `bytes`, and answers how many bytes there are; a missing file counts as empty.
 fn load(path: &[u8], bytes: &mut [u8]) -> usize
     ensures { λ r. ⌜ Counts r (now (bytes .exit)) ⌝ }
@@ -22,7 +19,7 @@ fn load(path: &[u8], bytes: &mut [u8]) -> usize
 
 // Prints the listing.
 fn print(left: &[u8], right: &[u8], code: &[u8]) {
-    let mut out = [0u8; ROOM];
+    let mut out = [0u8; listing::LEAST_ROOM];
     let text = listing::list(left, right, code, &mut out);
     let len = text.len as usize;
     io::write_all(1, &out[..len]);

@@ -9,11 +9,11 @@ use borrow.Author.Tests.{ltb-true, ltb-false}
 use lib.Dec.{eqb, ltb}
 use lib.ListN.{length, getD, take, length-append}
 use lib.Seq.{take-suc}
-use Rattle.transducer.specs.Format.{Transducer}
+use Rattle.transducer.specs.Format.{Transducer, max-weight, max-path, barred}
 use Rattle.transducer.specs.Path.{arc, no-arc, non-empty, ends, final-weight, written-by, arcs-cost, path-cost}
 use Rattle.transducer.proofs.Good.{arc-weight-most, arc-labels-below, final-weight-most}
 use Rattle.transducer.proofs.Runs.{Accepting, AcceptingBy, accepts-accepting, accepting-cons}
-use Rattle.paths.specs.Count.{endless, path-count, nth-path}
+use Rattle.paths.specs.Count.{endless, path-count, nth-path, most-counted}
 use Rattle.paths.proofs.Ready.{Sized}
 use Rattle.paths.proofs.Telling.{final-weight-low}
 use Rattle.paths.proofs.NthPath.{nth-path-accepts, nth-path-short, path-count-listed}
@@ -69,7 +69,7 @@ pub length-line : (k cost : ℕ) (labels : List ℕ)
 unfolding line
 length-line k cost labels = simp length-append (omega arith)
 
-line-short : (k cost : ℕ) (labels : List ℕ) → cost < 10000000000 → length labels ≤ 1023 → ((i : ℕ) → getD labels i 0 < 65536)
+line-short : (k cost : ℕ) (labels : List ℕ) → cost < 10000000000 → length labels ≤ max-path → ((i : ℕ) → getD labels i 0 < 65536)
     → length (line k cost labels) ≤ length (decimal k) + 6150
 line-short k cost labels b few h = omega (arith, length-line k cost labels, ten-digits cost b, labels-text-short labels h)
 
@@ -84,13 +84,13 @@ written-by-short t (i ∷ p) = on (eqb (arc t i .output) 0) (written-by-short t 
     on true h = omega arith
     on false h = omega arith
 
-arcs-cost-low : (t : Transducer) → Sized t → (s : ℕ) (p : List ℕ) → Accepting t s p → arcs-cost t p ≤ 1000000 * length p
+arcs-cost-low : (t : Transducer) → Sized t → (s : ℕ) (p : List ℕ) → Accepting t s p → arcs-cost t p ≤ max-weight * length p
 unfolding arcs-cost arc
 arcs-cost-low t z s [] a = omega arith
 arcs-cost-low t z s (i ∷ p) a =
     let by : AcceptingBy t s i p = accepting-cons t s i p a in
-    let here : getD (t .arcs) i no-arc .weight ≤ 1000000 = arc-weight-most t (z .content) i no-arc (by .below) in
-    let rest : arcs-cost t p ≤ 1000000 * length p = arcs-cost-low t z (arc t i .target) p (by .rest) in
+    let here : getD (t .arcs) i no-arc .weight ≤ max-weight = arc-weight-most t (z .content) i no-arc (by .below) in
+    let rest : arcs-cost t p ≤ max-weight * length p = arcs-cost-low t z (arc t i .target) p (by .rest) in
     omega arith
 
 labels-low : (t : Transducer) → Sized t → (s : ℕ) (p : List ℕ) → Accepting t s p → (k : ℕ) → getD (written-by t p) k 0 < 65536
@@ -98,10 +98,10 @@ unfolding written-by non-empty arc
 labels-low t z s [] a k = omega arith
 labels-low t z s (i ∷ p) a k =
     let by : AcceptingBy t s i p = accepting-cons t s i p a in
-    let here : getD (t .arcs) i no-arc .output < 65535 = arc-labels-below t (z .content) i no-arc (by .below) .1 in
+    let here : getD (t .arcs) i no-arc .output < barred = arc-labels-below t (z .content) i no-arc (by .below) .1 in
     on (eqb (getD (t .arcs) i no-arc .output) 0) here k (λ j. labels-low t z (arc t i .target) p (by .rest) j)
   where
-    on : (b : Bool) → getD (t .arcs) i no-arc .output < 65535 → (k : ℕ) → ((j : ℕ) → getD (written-by t p) j 0 < 65536)
+    on : (b : Bool) → getD (t .arcs) i no-arc .output < barred → (k : ℕ) → ((j : ℕ) → getD (written-by t p) j 0 < 65536)
         → getD (cond b (written-by t p) (getD (t .arcs) i no-arc .output ∷ written-by t p)) k 0 < 65536
     on true here k rest = rest k
     on false here zero rest = omega arith
@@ -109,9 +109,9 @@ labels-low t z s (i ∷ p) a k =
 
 -- A path that is handed out has fewer arcs than there are states, so its cost has at most ten digits.
 pub record Listable (t : Transducer) (k : ℕ) : Type 0 where
-  pub number : k < 99
+  pub number : k < most-counted
   pub cost : path-cost t (nth-path t k) < 10000000000
-  pub few : length (written-by t (nth-path t k)) ≤ 1023
+  pub few : length (written-by t (nth-path t k)) ≤ max-path
   pub labels : (i : ℕ) → getD (written-by t (nth-path t k)) i 0 < 65536
 
 pub listable : (t : Transducer) → Sized t → endless t ≡ false → (k : ℕ) → k < path-count t → Listable t k
@@ -121,8 +121,9 @@ listable t z finite k there =
     let listed = path-count-listed t k there in
     let a : Accepting t (t .start) p = accepts-accepting t p (nth-path-accepts t k (listed .0)) in
     let short : length p < t .states = nth-path-short t (z .within) finite k there in
-    let last : final-weight (t .finals) (ends t (t .start) p) ≤ 1000000 =
-    final-weight-low (t .finals) (ends t (t .start) p) (record { state = 0; weight = 0 }) (λ i b. final-weight-most t (z .content) i (record { state = 0; weight = 0 }) b) in
+    let last : final-weight (t .finals) (ends t (t .start) p) ≤ max-weight =
+    final-weight-low (t .finals) (ends t (t .start) p) (record { state = 0; weight = 0 })
+    (λ i b. final-weight-most t (z .content) i (record { state = 0; weight = 0 }) b) in
     record {
       number = listed .1;
       cost = omega (arith, arcs-cost-low t z (t .start) p a, short, last, z .states);
@@ -161,7 +162,7 @@ line-fits t k (suc n) h = on (ltb k n) refl (λ l. line-fits t k n l)
         rw last (omega (arith, length-lines t n))
 
 -- Ten numbers have one digit, the others two.
-pub lines-short : (t : Transducer) (n : ℕ) → n ≤ 98 → ((k : ℕ) → k < n → Listable t k) → length (lines t n) + min n 10 ≤ 6152 * n
+pub lines-short : (t : Transducer) (n : ℕ) → n < most-counted → ((k : ℕ) → k < n → Listable t k) → length (lines t n) + min n 10 ≤ 6152 * n
 unfolding lines
 lines-short t zero few h = omega arith
 lines-short t (suc n) few h =

@@ -8,7 +8,7 @@ use lib.ListN.{length, getD, take, length-append}
 use lib.Seq.{sets-eq, take-suc}
 use Rattle.wire.specs.Bytes.{cleared, filled}
 use Rattle.wire.proofs.Places.{sets-append, cleared-front}
-use Rattle.listing.specs.Text.{Wrote, Whole}
+use Rattle.listing.specs.Text.{least-room, Wrote, Whole}
 
 pub wrote-none : (out : List ℕ) (at : ℕ) → Wrote out out at at []
 wrote-none out at = record { ends = omega arith; bytes = refl }
@@ -32,7 +32,8 @@ wrote-front {a} {b} {end} {xs} p h =
     let behind : 0 + length xs ≡ end = omega arith in
     rw (p .bytes, sets-eq xs a 0 (omega arith), behind) (cleared-front end xs a e (omega arith))
 
-pub wrote-whole : {a b c : List ℕ} {end : ℕ} {xs : List ℕ} → Wrote a b 0 end xs → length xs ≤ 602898 → 602898 ≤ length a → c ≡ cleared end b → (number : ℕ)
+pub wrote-whole : {a b c : List ℕ} {end : ℕ} {xs : List ℕ} → Wrote a b 0 end xs → length xs ≤ least-room → least-room ≤ length a → c ≡ cleared end b
+    → (number : ℕ)
     → Whole a c (record { refusal = 0; len = end; said = number }) number xs
 wrote-whole p short room e number =
     record { refusal-is = refl; len-is = omega (arith, p .ends); said-is = refl; bytes = e ∙ wrote-front p (omega arith) }

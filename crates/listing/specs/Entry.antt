@@ -5,7 +5,7 @@ use mathlib.Core.List.{List}
 use Prim.Native.Nat.{ℕ, _%_}
 use lib.Dec.{eqb, ltb}
 use lib.ListN.{length}
-use Rattle.transducer.specs.Format.{Transducer, decode}
+use Rattle.transducer.specs.Format.{Transducer, max-states, max-bytes, max-origins, decode}
 use Rattle.transducer.specs.Entry.{or-else, unless, left-in}
 use Rattle.explore.specs.Explore.{built-refusal}
 use Rattle.compose.specs.Compose.{composed}
@@ -34,7 +34,8 @@ applied-text t cs = text-unless (applied-refusal t cs) (listing-text (lattice (l
 
 -- The refusal for two transducers and a code: the composition's comes before the code's.
 unfoldable pub listing-refusal : (left right code : List ℕ) → ℕ
-listing-refusal xs ys cs = or-else (compose-refusal xs ys 59404 6144 1024) (applied-refusal (composed (decode xs) (decode ys) .result) cs)
+listing-refusal xs ys cs =
+    or-else (compose-refusal xs ys max-bytes max-origins max-states) (applied-refusal (composed (decode xs) (decode ys) .result) cs)
 
 -- The text for two transducers and a code.
 unfoldable pub text-of : (left right code : List ℕ) → List ℕ

@@ -9,7 +9,8 @@ use crate::Listed;
 use crate::code;
 use crate::lines;
 
-const LEAST_ROOM: usize = 602898;
+// The bytes that the longest text takes.
+pub const LEAST_ROOM: usize = 602898;
 
 // Applies a code to an accepted transducer and lists what comes of it.
 fn list_applied(table: &[u8], bytes: &[u8], out: &mut [u8]) -> Listed
@@ -20,11 +21,11 @@ fn list_applied(table: &[u8], bytes: &[u8], out: &mut [u8]) -> Listed
     if bytes.len() % 2 != 0 {
         return lines::refuse_into(9, out);
     }
-    let mut string = [0u16; 65];
+    let mut string = [0u16; code::MOST_LOADED];
     let count = code::load_labels(bytes, &mut string);
-    let mut lattice = [0u8; 59404];
-    let mut origins = [0u16; 3072];
-    let mut pairs = [0u32; 1024];
+    let mut lattice = [0u8; transducer::MAX_BYTES];
+    let mut origins = [0u16; transducer::MAX_ARCS];
+    let mut pairs = [0u32; transducer::MAX_STATES];
     let applied = lattice::apply(
         &string[..count],
         table,
@@ -46,9 +47,9 @@ fn list_composed(left: &[u8], right: &[u8], bytes: &[u8], out: &mut [u8]) -> Lis
     ensures { λ r. ⌜ Whole (now (out .entry)) (now (out .exit)) r (listing-refusal (now (left .entry)) (now (right .entry)) (now (bytes .entry)))
         (text-of (now (left .entry)) (now (right .entry)) (now (bytes .entry))) ⌝ }
 {
-    let mut table = [0u8; 59404];
-    let mut origins = [0u16; 6144];
-    let mut states = [0u32; 1024];
+    let mut table = [0u8; transducer::MAX_BYTES];
+    let mut origins = [0u16; transducer::MAX_ORIGINS];
+    let mut states = [0u32; transducer::MAX_STATES];
     let composed = compose::compose(left, right, &mut table, &mut origins, &mut states);
     let number = composed.refusal;
     if number != 0 {
@@ -59,7 +60,8 @@ fn list_composed(left: &[u8], right: &[u8], bytes: &[u8], out: &mut [u8]) -> Lis
 }
 
 // The listing of two transducers and a code: the text from the front of `out`, zeros behind, its length, and the number of the refusal that it says:
-// a refusal of theirs is a text too. Where `out` is too short for the longest text, 10 is answered and nothing written.
+// a refusal of theirs is a text too. Where `out` is too short for the longest text, 10 is answered and nothing written. Time is that of composing,
+// applying and counting, and of a walk along each path listed.
 pub fn listing(left: &[u8], right: &[u8], bytes: &[u8], out: &mut [u8]) -> Listed
     ensures { λ r. ⌜ Listing-says (now (left .entry)) (now (right .entry)) (now (bytes .entry)) (text-room (length (now (out .entry))))
         r (now (out .entry)) (now (out .exit)) ⌝ }

@@ -4,6 +4,7 @@ mod entry;
 mod lines;
 mod text;
 
+pub use entry::LEAST_ROOM;
 pub use entry::listing as list;
 
 // What the listing answers: 10 or 0, then how long the text is and the number of the refusal that the text says, 0 where it lists. Both are 0 on 10.

@@ -1,54 +1,27 @@
 -- What is known of accepted bytes and their first-arc index: states, arcs and their ranges. Assumes nothing.
-use mathlib.Core.Path.{_≡_, refl, sym, ap, _∙_}
+use mathlib.Core.Path.{_≡_, refl, ap, _∙_}
 use mathlib.Core.Bool.{Bool, true, false, not, cond}
 use mathlib.Core.List.{List}
-use Prim.Native.Nat.{ℕ, _+_, _*_, _≤_, _<_}
+use Prim.Native.Nat.{ℕ, _+_, _≤_, _<_}
 use native.Mathlib.Omega.{arith}
 use lib.Dec.{eqb}
 use lib.ListN.{length, getD}
 use borrow.Author.Tests.{eq-eqb, ne-eqb}
-use Rattle.wire.specs.Bytes.{Bytes}
-use Rattle.transducer.specs.declared.Header.{Header}
-use Rattle.transducer.specs.Format.{Transducer, arcs-at, decode, refusal, head-finals, head-start}
+use Rattle.transducer.specs.Format.{Transducer}
 use Rattle.transducer.specs.Path.{arc, is-final, final-weight}
-use Rattle.transducer.specs.Leaf.{header-of, Opened, arcs-below, Indexed, final-code, Finals-by-state}
+use Rattle.transducer.specs.Leaf.{arcs-below, Indexed, final-code, Finals-by-state}
 use Rattle.transducer.proofs.Good.{Content}
 use Rattle.transducer.proofs.Index.{arcs-below-length, arcs-below-mono, arcs-of-state, state-of-arcs, arcs-below-states}
-use Rattle.transducer.proofs.Offsets.{length-accepted, accepted-within, decode-states, decode-start, length-arcs}
+pub use Rattle.transducer.proofs.Headed.{Headed, headed, headed-opened}
 pub use Rattle.reach.proofs.Sized.{Sized, sized}
+use Rattle.transducer.specs.declared.preparing.Shape.{Shape}
+use Rattle.transducer.specs.Prepare.{Prepared}
+use Rattle.paths.specs.Sweep.{Ready}
 use Rattle.paths.specs.Tally.{own}
 
--- The numbers of an accepted head.
-pub record Headed (bs : List ℕ) (head : Header) : Type 0 where
-  pub opened : Opened bs (12 + 10 * head .finals)
-  pub states-are : head .states ≡ decode bs .states
-  pub arcs-are : head .arcs ≡ length (decode bs .arcs)
-  pub start-is : head .start ≡ decode bs .start
-  pub finals-are : head .finals ≡ head-finals bs
-  pub few-finals : head .finals ≤ 1024
-  pub start-below : head .start < 1024
-  pub long : 12 ≤ length bs
-
-pub headed : (bs : List ℕ) → Bytes bs → refusal bs ≡ 0 → (head : Header) → head ≡ header-of bs → Headed bs head
-unfolding header-of
-headed bs bytes ok head e =
-    let within = accepted-within bs bytes ok in
-    let f : head .finals ≡ head-finals bs = ap (λ (h : Header). h .finals) e in
-    let s : head .start ≡ head-start bs = ap (λ (h : Header). h .start) e in
-    record {
-      opened = record { accepted = ok; first-is = omega (arith, f) };
-      states-are = ap (λ (h : Header). h .states) e ∙ sym (decode-states bs bytes ok);
-      arcs-are = ap (λ (h : Header). h .arcs) e ∙ sym (length-arcs bs bytes ok);
-      start-is = s ∙ sym (decode-start bs bytes ok);
-      finals-are = f;
-      few-finals = omega (arith, f, within .finals, within .states);
-      start-below = omega (arith, s, within .start, within .states);
-      long = omega (arith, length-accepted bs bytes ok);
-    }
-
--- Where the arcs begin, as it is computed.
-pub headed-opened : (bs : List ℕ) (head : Header) (first : ℕ) → Headed bs head → first ≡ arcs-at (head .finals) → Opened bs first
-headed-opened bs head first h e = rw e (h .opened)
+-- What is prepared has where the arcs begin, the states and the index.
+pub prepared-ready : {bs index codes : List ℕ} {shape : Shape} → Prepared bs shape index codes → Ready bs (shape .first) (shape .states) index
+prepared-ready p = record { opened = p .opened; states-are = p .states-are; indexed = p .indexed }
 
 -- The arcs of a state: from one entry of the index to below the next.
 pub record Range (t : Transducer) (s from to : ℕ) : Type 0 where

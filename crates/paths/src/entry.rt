@@ -95,7 +95,7 @@ pub fn refused(number: u32) -> Told
     }
 }
 
-// The k-th path: its arc numbers and the labels that it writes go into two lent buffers.
+// The k-th path: its arc numbers and the labels that it writes go into two lent buffers. Linear in states and arcs.
 pub fn nth(table: &[u8], k: u32, arcs: &mut [u16], labels: &mut [u16]) -> Told
     ensures { λ r. ⌜ Nth-says (now (table .entry)) k
         (nth-refusal (now (table .entry)) k (length (now (arcs .entry))) (length (now (labels .entry))))
@@ -105,22 +105,17 @@ pub fn nth(table: &[u8], k: u32, arcs: &mut [u16], labels: &mut [u16]) -> Told
     if number != 0 {
         return refused(number);
     }
-    if arcs.len() < 1023 {
+    if arcs.len() < transducer::MAX_PATH {
         return refused(10);
     }
-    if labels.len() < 1023 {
+    if labels.len() < transducer::MAX_PATH {
         return refused(10);
     }
-    let head = transducer::head_of(table);
-    let n = head.states as usize;
-    let f = head.finals as usize;
-    let start = head.start as usize;
-    let first = transducer::arcs_at(f);
-    let mut index = [0u16; 1025];
-    transducer::put_index(table, first, n, head.arcs as usize, &mut index);
-    let mut codes = [0u32; 1024];
-    transducer::put_codes(table, f, &mut codes);
-    let totals = counts_by_state(table, first, n, start, &index, &codes);
+    let mut index = [0u16; transducer::INDEX_LEN];
+    let mut codes = [0u32; transducer::MAX_STATES];
+    let shape = transducer::prepare(table, &mut index, &mut codes);
+    let start = shape.start;
+    let totals = counts_by_state(table, shape.first, shape.states, start, &index, &codes);
     if totals.endless {
         return refused(14);
     }
@@ -129,6 +124,16 @@ pub fn nth(table: &[u8], k: u32, arcs: &mut [u16], labels: &mut [u16]) -> Told
     if (all.value as u32) <= k {
         return refused(15);
     }
-    let len = path::walk(table, first, n, start, k, &index, &codes, counts, arcs);
-    path::tell(table, first, start, &codes, arcs, len, labels)
+    let len = path::walk(
+        table,
+        shape.first,
+        shape.states,
+        start,
+        k,
+        &index,
+        &codes,
+        counts,
+        arcs,
+    );
+    path::tell(table, shape.first, start, &codes, arcs, len, labels)
 }

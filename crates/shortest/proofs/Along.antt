@@ -29,7 +29,8 @@ pub record Walked (t : Transducer) (v : ℕ → ℕ) (start len room : ℕ) (out
   pub rest : runs t s (follow (len - n) t v s) ≡ true
   pub whole : take n out ++ follow (len - n) t v s ≡ follow len t v start
 
-pub walked-first : (t : Transducer) (v : ℕ → ℕ) (start len : ℕ) (out : List ℕ) → len ≤ length out → start < t .states → runs t start (follow len t v start) ≡ true
+pub walked-first : (t : Transducer) (v : ℕ → ℕ) (start len : ℕ) (out : List ℕ) → len ≤ length out → start < t .states
+    → runs t start (follow len t v start) ≡ true
     → Walked t v start len (length out) out start 0
 walked-first t v start len out h b r =
     let z : len - 0 ≡ len = omega arith in

@@ -10,7 +10,7 @@ use lib.ListN.{length, take, replicate}
 use lib.Seq.{take-at}
 use Rattle.wire.specs.Bytes.{filled}
 use Rattle.wire.proofs.Places.{length-filled}
-use Rattle.transducer.specs.Format.{Transducer, decode, refusal}
+use Rattle.transducer.specs.Format.{Transducer, max-states, max-path, decode, refusal}
 use Rattle.transducer.specs.Path.{accepts, runs}
 use Rattle.transducer.specs.Entry.{or-else}
 use Rattle.transducer.proofs.Runs.{accepting-accepts}
@@ -20,33 +20,33 @@ use Rattle.paths.specs.Entry.{Tells}
 use Rattle.paths.proofs.PathTold.{refused-told, told-refused, told-found}
 use Rattle.paths.proofs.Ready.{Sized}
 use Rattle.shortest.specs.Shortest.{shortest, no-path}
-use Rattle.shortest.specs.Nearest.{by-state, Settled, Settled-says, first-tight, follow}
+use Rattle.shortest.specs.Nearest.{by-state, All-relaxed, Distances-settled, first-tight, follow}
 use Rattle.shortest.specs.Entry.{shortest-refusal, Shortest-says}
-use Rattle.shortest.proofs.Settled.{Followed, followed, follow-shortest, few-arcs, reached-accepting, no-path-none}
+use Rattle.shortest.proofs.Distances.{Followed, followed, follow-shortest, few-arcs, reached-accepting, no-path-none}
 
 -- The shortest path along an arc for each state.
 pub record Found (t : Transducer) (v : ℕ → ℕ) (start len : ℕ) : Type 0 where
   pub some : coaccessible (t .states) t (t .start) ≡ true
   pub goes : runs t start (follow len t v start) ≡ true
-  pub few : len ≤ 1023
+  pub few : len ≤ max-path
   pub many : length (follow len t v start) ≡ len
   pub is : follow len t v start ≡ shortest t
   pub accepted : accepts t (follow len t v start) ≡ true
 
-pub found : (t : Transducer) → Sized t → (cs ls : List ℕ) (start len : ℕ) → Settled-says t cs ls → start ≡ t .start → (by-state cs start ≡ no-path → ⊥)
+pub found : (t : Transducer) → Sized t → (cs ls : List ℕ) (start len : ℕ) → Distances-settled t cs ls → start ≡ t .start → (by-state cs start ≡ no-path → ⊥)
     → len ≡ by-state ls start → Found t (first-tight t (by-state cs) (by-state ls)) start len
 found t z cs ls start len says e there l =
     let c : ℕ → ℕ = by-state cs in
     let m : ℕ → ℕ = by-state ls in
     let v : ℕ → ℕ = first-tight t c m in
-    let k : Settled t c m = says .settled in
+    let k : All-relaxed t c m = says .settled in
     let s : ℕ = t .start in
     let below : s < t .states = z .within .starts in
     let apart : by-state cs s ≡ no-path → ⊥ = rw e at there in
     let some : c s < no-path = omega (arith, apart, k .nearing .high s below) in
     let few : m s < t .states = few-arcs t z c m k s below some in
     let f : Followed t z c m k s (m s) = followed t z c m k (m s) s below some refl in
-    let most : t .states ≤ 1024 = z .states in
+    let most : t .states ≤ max-states = z .states in
     rw (l, e) (record {
       some = reached-accepting t z c m k s below some;
       goes = f .accepting .goes;
@@ -62,12 +62,13 @@ pub record Stored (t : Transducer) (len : ℕ) (a' : List ℕ) : Type 0 where
   pub inside : len ≤ length a'
   pub accepted : accepts t (take len a') ≡ true
 
-pub stored : (t : Transducer) (v : ℕ → ℕ) (start len : ℕ) (a a' : List ℕ) → Found t v start len → 1023 ≤ length a → a' ≡ filled (length a) (follow len t v start) → Stored t len a'
+pub stored : (t : Transducer) (v : ℕ → ℕ) (start len : ℕ) (a a' : List ℕ) → Found t v start len → max-path ≤ length a
+    → a' ≡ filled (length a) (follow len t v start) → Stored t len a'
 unfolding filled
 stored t v start len a a' f room put =
     let p : List ℕ = follow len t v start in
     let many : length p ≡ len = f .many in
-    let few : len ≤ 1023 = f .few in
+    let few : len ≤ max-path = f .few in
     let whole : length a' ≡ length a = ap length put ∙ length-filled (length a) p (omega arith) in
     let taken : take len a' ≡ p = ap (λ (x : List ℕ). take len x) put ∙ take-at p (replicate (length a - length p) 0) len many in
     record { taken = taken ∙ f .is; inside = omega arith; accepted = rw taken (f .accepted) }
@@ -77,29 +78,31 @@ module _ (bs : List ℕ) {a b : List ℕ} {n : ℕ} {r : Told} where
   pub shortest-bad : n ≡ refusal bs → (n ≡ 0 → ⊥) → r ≡ refused-told n → Shortest-says bs (shortest-refusal bs (length a) (length b)) r a a b b
   unfolding shortest-refusal or-else
   shortest-bad e nonzero h =
-      let rest : ℕ = cond (ltb (length a) 1023 || ltb (length b) 1023) 10 (cond (coaccessible (decode bs .states) (decode bs) (decode bs .start)) 0 16) in
+      let rest : ℕ = cond (ltb (length a) max-path || ltb (length b) max-path) 10 (cond (coaccessible (decode bs .states) (decode bs) (decode bs .start)) 0 16) in
       let number : cond (eqb (refusal bs) 0) rest (refusal bs) ≡ n = rw (← e, ne-eqb n 0 nonzero) in
       told-refused (decode bs) (shortest (decode bs)) (shortest-refusal bs (length a) (length b)) n r a b number nonzero h
 
   -- 10
-  pub shortest-short-arcs : n ≡ refusal bs → n ≡ 0 → length a < 1023 → r ≡ refused-told 10 → Shortest-says bs (shortest-refusal bs (length a) (length b)) r a a b b
+  pub shortest-short-arcs : n ≡ refusal bs → n ≡ 0 → length a < max-path → r ≡ refused-told 10
+      → Shortest-says bs (shortest-refusal bs (length a) (length b)) r a a b b
   unfolding shortest-refusal or-else
   shortest-short-arcs e z l h =
       let ok : refusal bs ≡ 0 = sym e ∙ z in
-      told-refused (decode bs) (shortest (decode bs)) (shortest-refusal bs (length a) (length b)) 10 r a b (rw (ok, lt-ltb (length a) 1023 l))
+      told-refused (decode bs) (shortest (decode bs)) (shortest-refusal bs (length a) (length b)) 10 r a b (rw (ok, lt-ltb (length a) max-path l))
       (λ q. omega arith) h
 
-  pub shortest-short-labels : n ≡ refusal bs → n ≡ 0 → 1023 ≤ length a → length b < 1023 → r ≡ refused-told 10
+  pub shortest-short-labels : n ≡ refusal bs → n ≡ 0 → max-path ≤ length a → length b < max-path → r ≡ refused-told 10
       → Shortest-says bs (shortest-refusal bs (length a) (length b)) r a a b b
   unfolding shortest-refusal or-else
   shortest-short-labels e z la l h =
       let ok : refusal bs ≡ 0 = sym e ∙ z in
       told-refused (decode bs) (shortest (decode bs)) (shortest-refusal bs (length a) (length b)) 10 r a b
-      (rw (ok, le-ltb (length a) 1023 la, lt-ltb (length b) 1023 l)) (λ q. omega arith) h
+      (rw (ok, le-ltb (length a) max-path la, lt-ltb (length b) max-path l)) (λ q. omega arith) h
 
-  module _ (e : n ≡ refusal bs) (z : n ≡ 0) (la : 1023 ≤ length a) (lb : 1023 ≤ length b) where
+  module _ (e : n ≡ refusal bs) (z : n ≡ 0) (la : max-path ≤ length a) (lb : max-path ≤ length b) where
     -- 16
-    pub shortest-none : {cs ls : List ℕ} {start : ℕ} → Sized (decode bs) → Settled-says (decode bs) cs ls → start ≡ decode bs .start → by-state cs start ≡ no-path
+    pub shortest-none : {cs ls : List ℕ} {start : ℕ} → Sized (decode bs) → Distances-settled (decode bs) cs ls → start ≡ decode bs .start
+        → by-state cs start ≡ no-path
         → r ≡ refused-told 16 → Shortest-says bs (shortest-refusal bs (length a) (length b)) r a a b b
     unfolding shortest-refusal or-else
     shortest-none {cs} {ls} size says s q h =
@@ -107,7 +110,7 @@ module _ (bs : List ℕ) {a b : List ℕ} {n : ℕ} {r : Told} where
         let none : coaccessible (decode bs .states) (decode bs) (decode bs .start) ≡ false =
         no-path-none (decode bs) size (by-state cs) (by-state ls) (says .settled) (decode bs .start) (size .within .starts) (rw s at q) in
         told-refused (decode bs) (shortest (decode bs)) (shortest-refusal bs (length a) (length b)) 16 r a b
-        (rw (ok, le-ltb (length a) 1023 la, le-ltb (length b) 1023 lb, none)) (λ q'. omega arith) h
+        (rw (ok, le-ltb (length a) max-path la, le-ltb (length b) max-path lb, none)) (λ q'. omega arith) h
 
     pub shortest-told : {v : ℕ → ℕ} {start len : ℕ} {a' b' : List ℕ} → Found (decode bs) v start len → a' ≡ filled (length a) (follow len (decode bs) v start)
         → Tells (decode bs) (take len a') r b b' → Shortest-says bs (shortest-refusal bs (length a) (length b)) r a a' b b'
@@ -117,4 +120,4 @@ module _ (bs : List ℕ) {a b : List ℕ} {n : ℕ} {r : Told} where
         let told : Tells (decode bs) (shortest (decode bs)) r b b' = rw (st .taken) at told' in
         let ok : refusal bs ≡ 0 = sym e ∙ z in
         told-found (decode bs) (shortest (decode bs)) (shortest-refusal bs (length a) (length b)) r a a' b b'
-        (rw (ok, le-ltb (length a) 1023 la, le-ltb (length b) 1023 lb, f .some)) (put ∙ ap (filled (length a)) (f .is)) told
+        (rw (ok, le-ltb (length a) max-path la, le-ltb (length b) max-path lb, f .some)) (put ∙ ap (filled (length a)) (f .is)) told

@@ -10,17 +10,13 @@ use native.Mathlib.Omega.{arith}
 use lib.Dec.{ltb, eqb}
 use lib.ListN.{length}
 use borrow.Author.Tests.{eqb-true, eq-eqb, ltb-true, ltb-false, lt-ltb}
-use Rattle.wire.proofs.Places.{and-true, true-and}
+use Rattle.wire.proofs.Bool.{clash, and-true, true-and, or-true, or-left, or-right}
 use Rattle.transducer.specs.Format.{Transducer}
 use Rattle.transducer.specs.Path.{path-cost}
 use Rattle.paths.specs.Count.{before}
 use Rattle.paths.proofs.Order.{Compared, earlier, same, after, before-total, before-irreflexive, before-transitive}
-use Rattle.wire.proofs.Bool.{or-true, or-left as true-or, or-right as or-true-right}
 use Rattle.shortest.specs.Shortest.{nearer, better, best-of, best}
 use Rattle.shortest.specs.Nearest.{No-worse, Nearer}
-
-pub clash : {A : Type 0} (b : Bool) → b ≡ true → b ≡ false → A
-clash b p q = let z : _≡_ {A = ℕ} 0 1 = cc in absurd (omega arith)
 
 -- A cost and a number of arcs before another.
 
@@ -40,21 +36,21 @@ nearer-true x l y k h = on (or-true (ltb x y) (eqb x y && ltb l k) h)
 
 pub cheaper-nearer : (x l y k : ℕ) → x < y → nearer x l y k ≡ true
 unfolding nearer
-cheaper-nearer x l y k h = true-or (ltb x y) (eqb x y && ltb l k) (lt-ltb x y h)
+cheaper-nearer x l y k h = or-left (ltb x y) (eqb x y && ltb l k) (lt-ltb x y h)
 
 pub fewer-nearer : (x l y k : ℕ) → x ≡ y → l < k → nearer x l y k ≡ true
 unfolding nearer
-fewer-nearer x l y k e h = or-true-right (ltb x y) (eqb x y && ltb l k) (true-and (eqb x y) (ltb l k) (eq-eqb x y e) (lt-ltb l k h))
+fewer-nearer x l y k e h = or-right (ltb x y) (eqb x y && ltb l k) (true-and (eqb x y) (ltb l k) (eq-eqb x y e) (lt-ltb l k h))
 
 pub nearer-false : (x l y k : ℕ) → nearer x l y k ≡ false → No-worse y k x l
 nearer-false x l y k h = record { cost = cost (ltb x y) refl; arcs = λ e. arcs e (cost (ltb x y) refl) (ltb l k) refl }
   where
     cost : (b : Bool) → ltb x y ≡ b → y ≤ x
-    cost true e = clash (nearer x l y k) (cheaper-nearer x l y k (ltb-true x y e)) h
+    cost true e = clash (cheaper-nearer x l y k (ltb-true x y e)) h
     cost false e = ltb-false x y e
 
     arcs : x ≤ y → y ≤ x → (b : Bool) → ltb l k ≡ b → k ≤ l
-    arcs u v true e = clash (nearer x l y k) (fewer-nearer x l y k (omega arith) (ltb-true l k e)) h
+    arcs u v true e = clash (fewer-nearer x l y k (omega arith) (ltb-true l k e)) h
     arcs u v false e = ltb-false l k e
 
 -- The three ways for a path to be better.
@@ -113,10 +109,10 @@ wins-better t p q w = on w
     tie = eqb x y && (eqb l k && before p q)
 
     on : Wins t p q → nearer x l y k || tie ≡ true
-    on (cheaper h) = true-or (nearer x l y k) tie (cheaper-nearer x l y k h)
-    on (fewer e h) = true-or (nearer x l y k) tie (fewer-nearer x l y k e h)
+    on (cheaper h) = or-left (nearer x l y k) tie (cheaper-nearer x l y k h)
+    on (fewer e h) = or-left (nearer x l y k) tie (fewer-nearer x l y k e h)
     on (sooner e f h) =
-        or-true-right (nearer x l y k) tie
+        or-right (nearer x l y k) tie
         (true-and (eqb x y) (eqb l k && before p q) (eq-eqb x y e) (true-and (eqb l k) (before p q) (eq-eqb l k f) h))
 
 -- A strict order.
@@ -169,15 +165,15 @@ better-false t p q h =
     y = path-cost t q
 
     cost : (b : Bool) → ltb x y ≡ b → y ≤ x
-    cost true e = clash (better t p q) (wins-better t p q (cheaper (ltb-true x y e))) h
+    cost true e = clash (wins-better t p q (cheaper (ltb-true x y e))) h
     cost false e = ltb-false x y e
 
     arcs : x ≤ y → y ≤ x → (b : Bool) → ltb (length p) (length q) ≡ b → length q ≤ length p
-    arcs u v true e = clash (better t p q) (wins-better t p q (fewer (omega arith) (ltb-true (length p) (length q) e))) h
+    arcs u v true e = clash (wins-better t p q (fewer (omega arith) (ltb-true (length p) (length q) e))) h
     arcs u v false e = ltb-false (length p) (length q) e
 
     order : x ≡ y → length p ≡ length q → (b : Bool) → before p q ≡ b → before p q ≡ false
-    order e f true g = clash (better t p q) (wins-better t p q (sooner e f g)) h
+    order e f true g = clash (wins-better t p q (sooner e f g)) h
     order e f false g = g
 
 pub not-better : (t : Transducer) (p q : List ℕ) → Not-better t p q → better t p q ≡ false
@@ -186,7 +182,7 @@ not-better t p q n = on (better t p q) refl
     lost : Wins t p q → better t p q ≡ false
     lost (cheaper h) = absurd (omega (arith, n .near .cost))
     lost (fewer e h) = absurd (omega (arith, n .near .arcs (omega arith)))
-    lost (sooner e f h) = clash (before p q) h (n .order e f)
+    lost (sooner e f h) = clash h (n .order e f)
 
     on : (b : Bool) → better t p q ≡ b → better t p q ≡ false
     on true e = lost (better-wins t p q e)
@@ -206,7 +202,7 @@ better-total t p q h = on (ltb y x) refl
     n = better-false t p q h
 
     level : x ≡ y → length p ≡ length q → Compared p q → (p ≡ q) ⊎ (better t q p ≡ true)
-    level e f (earlier b) = clash (before p q) b (n .order e f)
+    level e f (earlier b) = clash b (n .order e f)
     level e f (same s) = inl s
     level e f (after b) = inr (wins-better t q p (sooner (sym e) (sym f) b))
 
@@ -224,7 +220,7 @@ neither-better-same t p q a b = on (better-total t p q a)
   where
     on : (p ≡ q) ⊎ (better t q p ≡ true) → p ≡ q
     on (inl e) = e
-    on (inr c) = clash (better t q p) c b
+    on (inr c) = clash c b
 
 -- The best of a list.
 
@@ -256,13 +252,13 @@ best-of-least t p (r ∷ l) q m = on (better t r p) refl (λ x y h. best-of-leas
       where
         next : (p ≡ best-of t p l) ⊎ (better t (best-of t p l) p ≡ true) → better t y (best-of t p l) ≡ false
         next (inl s) = rw (← s) h
-        next (inr b) = clash (better t y p) (better-transitive t y (best-of t p l) p e b) h
+        next (inr b) = clash (better-transitive t y (best-of t p l) p e b) h
 
     -- What is worse than r is not better than the best of r and others.
     worse : Below → (y : List ℕ) → better t r y ≡ true → (b : Bool) → better t y (best-of t r l) ≡ b → better t y (best-of t r l) ≡ false
     worse below y h false e = e
     worse below y h true e =
-        clash (better t r (best-of t r l)) (better-transitive t r y (best-of t r l) h e) (below r r (first refl))
+        clash (better-transitive t r y (best-of t r l) h e) (below r r (first refl))
 
     won : Below → better t r p ≡ true → (q ≡ p) ⊎ Mem q (r ∷ l) → better t q (best-of t r l) ≡ false
     won below h (inl e) = rw e (worse below p h (better t p (best-of t r l)) refl)

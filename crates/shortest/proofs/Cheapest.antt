@@ -9,6 +9,7 @@ use native.Mathlib.Omega.{arith}
 use lib.Dec.{leb}
 use lib.ListN.{length}
 use borrow.Author.Tests.{leb-true, leb-false}
+use Rattle.wire.proofs.Bool.{clash}
 use Rattle.transducer.specs.Format.{Transducer}
 use Rattle.transducer.specs.Path.{accepts, path-cost}
 use Rattle.transducer.proofs.Runs.{accepts-accepting, accepting-accepts, Within}
@@ -17,7 +18,7 @@ use Rattle.reach.proofs.Reach.{coaccessible-path, path-coaccessible}
 use Rattle.paths.specs.Count.{paths-from}
 use Rattle.paths.proofs.Listed.{in-paths-from, paths-from-has}
 use Rattle.shortest.specs.Shortest.{better, shortest}
-use Rattle.shortest.proofs.Best.{Not-better, better-false, not-better, neither-better-same, best-in, best-least, clash}
+use Rattle.shortest.proofs.Best.{Not-better, better-false, not-better, neither-better-same, best-in, best-least}
 use Rattle.shortest.proofs.Cheaper.{cost-start, Shorter, cheap-and-short}
 
 module _ (t : Transducer) (w : Within t) (p : List ℕ) (a : accepts t p ≡ true) where
@@ -82,10 +83,10 @@ nothing-accepts t w = (λ h p. there h p (accepts t p) refl, λ h. back h (coacc
     there : coaccessible (t .states) t (t .start) ≡ false → (p : List ℕ) → (b : Bool) → accepts t p ≡ b → accepts t p ≡ false
     there h p false e = e
     there h p true e =
-        clash (coaccessible (t .states) t (t .start)) (path-coaccessible t w (t .start) p (accepts-accepting t p e)) h
+        clash (path-coaccessible t w (t .start) p (accepts-accepting t p e)) h
 
     back : ((p : List ℕ) → accepts t p ≡ false) → (b : Bool) → coaccessible (t .states) t (t .start) ≡ b → coaccessible (t .states) t (t .start) ≡ false
     back h false e = e
     back h true e =
         let found = coaccessible-path (t .states) t (t .start) e in
-        clash (accepts t (found .0)) (accepting-accepts t (found .0) (found .1)) (h (found .0))
+        clash (accepting-accepts t (found .0) (found .1)) (h (found .0))

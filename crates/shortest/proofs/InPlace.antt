@@ -9,16 +9,16 @@ use native.Mathlib.Decide.{ℕ-discrete}
 use lib.Dec.{ltb, leb}
 use lib.ListN.{length, getD}
 use borrow.Author.Tests.{ltb-true, ltb-false, leb-false}
+use Rattle.wire.proofs.Bool.{clash}
 use Rattle.transducer.specs.declared.Arc.{Arc}
 use Rattle.transducer.specs.Format.{Transducer}
 use Rattle.transducer.specs.Path.{arc}
 use Rattle.transducer.specs.Leaf.{arcs-below}
 use Rattle.transducer.proofs.Index.{arcs-of-state, state-of-arcs}
 use Rattle.paths.proofs.Ready.{Sized}
-use Rattle.shortest.specs.Nearest.{by-state, is-nearest, Nearing, Settled, Long, No-better, Relaxed, Swept-says, Settled-says}
-use Rattle.shortest.proofs.Best.{clash}
+use Rattle.shortest.specs.Nearest.{by-state, is-nearest, Nearing, All-relaxed, Long, No-better, Relaxed, Swept-says, Distances-settled}
 use Rattle.shortest.proofs.Relaxed.{nothing-nearer}
-use Rattle.shortest.proofs.Settled.{settled-least}
+use Rattle.shortest.proofs.Distances.{distances-least}
 
 -- A state that no arc makes better.
 abbrev Nearest : (cs ls : List ℕ) → (s : ℕ) → Type 0
@@ -47,7 +47,7 @@ sweeping-stop t low i cs ls again k h =
 
 -- Whether more may change, after a change at state s.
 pub not-again : (again : Bool) (s low : ℕ) → again || leb low s ≡ false → (again ≡ false) × (s < low)
-not-again true s low h = clash true refl h
+not-again true s low h = clash refl h
 not-again false s low h = (refl, leb-false low s h)
 
 -- One arc
@@ -135,7 +135,7 @@ module _ (t : Transducer) (z : Sized t) (low i : ℕ) (cs ls : List ℕ) (again 
 
     module _ (low' : ℕ) (cs' ls' : List ℕ) (better : Bool) (f : low' ≤ low) (g : low' ≤ a .target) (r : Relaxed t (i - 1) cs ls cs' ls' better) where
       pub sweeping-kept : better ≡ false → Sweeping t low' (i - 1) cs' ls' again
-      sweeping-kept q = relaxed low' cs' ls' better again f (rw is at g) (λ e. (e, λ v. clash better v q)) r
+      sweeping-kept q = relaxed low' cs' ls' better again f (rw is at g) (λ e. (e, λ v. clash v q)) r
 
       pub sweeping-better : (again' : Bool) → (again' ≡ false → (again ≡ false) × (a .source < low')) → Sweeping t low' (i - 1) cs' ls' again'
       sweeping-better again' asked =
@@ -144,5 +144,5 @@ module _ (t : Transducer) (z : Sized t) (low i : ℕ) (cs ls : List ℕ) (again 
 
 -- In the end
 
-pub settled-says : (t : Transducer) → Sized t → (cs ls : List ℕ) → Settled t (by-state cs) (by-state ls) → Settled-says t cs ls
-settled-says t z cs ls k = record { settled = k; least = settled-least t z (by-state cs) (by-state ls) k }
+pub distances-settled : (t : Transducer) → Sized t → (cs ls : List ℕ) → All-relaxed t (by-state cs) (by-state ls) → Distances-settled t cs ls
+distances-settled t z cs ls k = record { settled = k; least = distances-least t z (by-state cs) (by-state ls) k }

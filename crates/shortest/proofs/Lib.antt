@@ -1,12 +1,17 @@
+-- In reading order.
+-- Paths: which is better, what they cost, and the shortest one.
 pub mod Best
 pub mod Cheaper
 pub mod Cheapest
+-- Costs and numbers of arcs by state: an arc that gives them, and what they are once no arc makes them better.
 pub mod Tight
-pub mod Settled
+pub mod Distances
+-- How they get there: what is known first, one arc relaxed, a sweep, a queue, and what relaxing by it leaves.
+pub mod EmptyPaths
 pub mod Relaxed
 pub mod InPlace
 pub mod Waiting
-pub mod Settling
-pub mod EmptyPaths
+pub mod Draining
+-- The path along them, and what is answered.
 pub mod Along
 pub mod Answers

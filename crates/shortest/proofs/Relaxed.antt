@@ -10,9 +10,9 @@ use lib.Dec.{eqb, leb}
 use lib.ListN.{length, getD, set, length-set}
 use lib.Seq.{getD-set-same, getD-set-other}
 use borrow.Author.Tests.{eqb-true, leb-true}
-use Rattle.wire.proofs.Places.{and-true}
+use Rattle.wire.proofs.Bool.{and-true}
 use Rattle.transducer.specs.declared.Arc.{Arc}
-use Rattle.transducer.specs.Format.{Transducer}
+use Rattle.transducer.specs.Format.{Transducer, max-states}
 use Rattle.transducer.specs.Path.{arc}
 use Rattle.transducer.specs.Weight.{plus}
 use Rattle.transducer.proofs.Runs.{Accepting, cons-accepting}
@@ -109,13 +109,13 @@ module _ (t : Transducer) (z : Sized t) (c l : ℕ → ℕ) (n : Nearing t c l) 
   better-falls =
       total-grows (t .states) src (height c' l') (height c l) (z .within .leaves i b) here (λ x e. rw (pc .others x e, pl .others x e))
     where
-      here : 65536 * c' src + l' src < 65536 * c src + l src
+      here : (most-arcs + 1) * c' src + l' src < (most-arcs + 1) * c src + l src
       here = rw (pc .here, pl .here) (falls (cost-by t c i) (arcs-by t l i) (c src) (l src) (better .cost) (better .arcs) (arcs-by-most t l i))
         where
-          falls : (x k y m : ℕ) → x ≤ y → (y ≤ x → k < m) → k ≤ 65535 → 65536 * x + k < 65536 * y + m
+          falls : (x k y m : ℕ) → x ≤ y → (y ≤ x → k < m) → k ≤ most-arcs → (most-arcs + 1) * x + k < (most-arcs + 1) * y + m
           falls x k y m le less small = on (ℕ-discrete x y)
             where
-              on : Dec (x ≡ y) → 65536 * x + k < 65536 * y + m
+              on : Dec (x ≡ y) → (most-arcs + 1) * x + k < (most-arcs + 1) * y + m
               on (yes e) = let q : k < m = less (omega arith) in rw e (omega arith)
               on (no e) = omega arith
 
@@ -148,6 +148,11 @@ module _ (t : Transducer) (z : Sized t) (c l : ℕ → ℕ) (n : Nearing t c l) 
       on (inl e) = rw (e, pc .here, pl .here) (record { cost = omega arith; arcs = λ _. omega arith })
       on (inr w) = still (arc t x .source) (cost-by t c x) (arcs-by t l x) w (ℕ-discrete (arc t x .source) src)
 
+-- What is left in either case, by the comparison of the arc's cost and number of arcs with those of its source.
+pub record Relaxes (t : Transducer) (i : ℕ) (cs ls : List ℕ) (s cost len : ℕ) (r : Bool) : Type 0 where
+  pub kept : r ≡ false → Relaxed t i cs ls cs ls false
+  pub better : r ≡ true → Relaxed t i cs ls (set cs s cost) (set ls s len) true
+
 -- Relaxing an arc, as it was read and with the sums as they were made.
 module _ (t : Transducer) (z : Sized t) (cs ls : List ℕ) (long : Long cs ls) (n : Nearing t (by-state cs) (by-state ls)) (i : ℕ) (b : i < length (t .arcs))
     (a : Arc) (is : a ≡ arc t i) where
@@ -160,7 +165,7 @@ module _ (t : Transducer) (z : Sized t) (cs ls : List ℕ) (long : Long cs ls) (
   abbrev s : ℕ
   s = arc t i .source
 
-  pub relaxed-states : (a .source < 1024) × (a .target < 1024)
+  pub relaxed-states : (a .source < max-states) × (a .target < max-states)
   relaxed-states = rw is (omega (arith, z .within .leaves i b, z .states), omega (arith, z .within .arrives i b, z .states))
 
   kept : No-better t cs ls i → Relaxed t i cs ls cs ls false
@@ -201,15 +206,18 @@ module _ (t : Transducer) (z : Sized t) (cs ls : List ℕ) (long : Long cs ls) (
     unfolding arcs-by
     len-is = rw is at el
 
-    pub relaxed-kept : {r : Bool} → r ≡ nearer cost len (getD cs (a .source) 0) (getD ls (a .source) 0) → r ≡ false → Relaxed t i cs ls cs ls false
+    relaxed-kept : {r : Bool} → r ≡ nearer cost len (getD cs (a .source) 0) (getD ls (a .source) 0) → r ≡ false → Relaxed t i cs ls cs ls false
     relaxed-kept e q =
         let w : No-worse (getD cs (a .source) 0) (getD ls (a .source) 0) cost len =
         nearer-false cost len (getD cs (a .source) 0) (getD ls (a .source) 0) (sym e ∙ q) in
         kept (rw (is, cost-is, len-is) at w)
 
-    pub relaxed-better : {r : Bool} → r ≡ nearer cost len (getD cs (a .source) 0) (getD ls (a .source) 0) → r ≡ true
+    relaxed-better : {r : Bool} → r ≡ nearer cost len (getD cs (a .source) 0) (getD ls (a .source) 0) → r ≡ true
         → Relaxed t i cs ls (set cs (a .source) cost) (set ls (a .source) len) true
     relaxed-better e q =
         let w : Nearer cost len (getD cs (a .source) 0) (getD ls (a .source) 0) =
         nearer-true cost len (getD cs (a .source) 0) (getD ls (a .source) 0) (sym e ∙ q) in
         rw (is, cost-is, len-is) (better (rw (is, cost-is, len-is) at w))
+
+    pub relaxes : {r : Bool} → r ≡ nearer cost len (getD cs (a .source) 0) (getD ls (a .source) 0) → Relaxes t i cs ls (a .source) cost len r
+    relaxes e = record { kept = relaxed-kept e; better = relaxed-better e }

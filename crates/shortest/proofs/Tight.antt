@@ -8,14 +8,13 @@ use native.Mathlib.Decide.{ℕ-discrete}
 use lib.Dec.{eqb}
 use lib.ListN.{length}
 use borrow.Author.Tests.{eqb-true, eq-eqb}
-use Rattle.wire.proofs.Places.{and-true, true-and}
+use Rattle.wire.proofs.Bool.{clash, and-true, true-and}
 use Rattle.transducer.specs.Format.{Transducer}
 use Rattle.transducer.specs.Path.{arc}
 use Rattle.transducer.specs.Leaf.{arcs-below}
 use Rattle.transducer.proofs.Good.{Content}
 use Rattle.transducer.proofs.Index.{arcs-of-state, state-of-arcs}
 use Rattle.shortest.specs.Nearest.{cost-by, arcs-by, Tight, First, gives, first-giving, first-tight}
-use Rattle.shortest.proofs.Best.{clash}
 
 module _ (t : Transducer) (c l : ℕ → ℕ) (s : ℕ) where
   -- The first arc that gives them, no later than any other.
@@ -35,7 +34,7 @@ module _ (t : Transducer) (c l : ℕ → ℕ) (s : ℕ) where
       on false e below = behind (ℕ-discrete i j)
         where
           behind : Dec (i ≡ j) → Found-first i j (first-giving n t c l s (suc i))
-          behind (yes q) = clash (gives t c l s i) (rw q g) e
+          behind (yes q) = clash {b = gives t c l s i} (rw q g) e
           behind (no q) =
               let f : Found-first (suc i) j (first-giving n t c l s (suc i)) = below (omega arith) (omega arith) in
               record { gives-them = f .gives-them; low = omega (arith, f .low); high = f .high }
@@ -81,7 +80,8 @@ module _ (t : Transducer) (c l : ℕ → ℕ) (s : ℕ) where
           whole = ap (λ (j : ℕ). first-giving (to - (i + 1)) t c l s j) one ∙ (rw (test false e) at all);
         }
 
-  pub giving-tight : (from to r : ℕ) → from ≡ arcs-below s (t .arcs) → to ≡ arcs-below (s + 1) (t .arcs) → r ≡ first-giving (to - from) t c l s from → r ≡ first-tight t c l s
+  pub giving-tight : (from to r : ℕ) → from ≡ arcs-below s (t .arcs) → to ≡ arcs-below (s + 1) (t .arcs) → r ≡ first-giving (to - from) t c l s from
+      → r ≡ first-tight t c l s
   unfolding first-tight
   giving-tight from to r e f q = rw (e, f) at q
 
@@ -101,6 +101,7 @@ tight-first t good c l i d =
     let leaves : arc t v .source ≡ s = state-of-arcs t v s good below (f .low) (omega (arith, f .high, mine .1)) in
     record {
       leaves = leaves;
-      tight = record { below = below; costs = rw leaves (eqb-true (cost-by t c v) (c s) (both .0)); arcs = rw leaves (eqb-true (arcs-by t l v) (l s) (both .1)) };
+      tight =
+          record { below = below; costs = rw leaves (eqb-true (cost-by t c v) (c s) (both .0)); arcs = rw leaves (eqb-true (arcs-by t l v) (l s) (both .1)) };
       first = f .high;
     }

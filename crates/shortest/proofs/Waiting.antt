@@ -7,10 +7,11 @@ use native.Mathlib.Omega.{arith}
 use native.Mathlib.Decide.{ℕ-discrete}
 use lib.ListN.{length, getD, set, replicate, length-set, length-replicate, getD-replicate}
 use lib.Seq.{getD-set-same, getD-set-other}
+use Rattle.transducer.specs.Format.{max-states}
+use Rattle.wire.proofs.Bool.{clash}
 use Rattle.reach.specs.Counted.{count}
 use Rattle.reach.proofs.Counted.{count-most, count-none, count-before}
 use Rattle.shortest.specs.Queue.{cell, waiting, Queue}
-use Rattle.shortest.proofs.Best.{clash}
 
 -- One more that has a property.
 
@@ -30,7 +31,7 @@ count-more (suc n) f g u b e p q = on (ℕ-discrete n u) (λ c. count-more n f g
 
 -- The cells
 
-cell-first : (head : ℕ) → head < 1024 → cell head 0 ≡ head
+cell-first : (head : ℕ) → head < max-states → cell head 0 ≡ head
 unfolding cell
 cell-first head h = omega arith
 
@@ -38,11 +39,11 @@ cell-next : (head k : ℕ) → cell (cell head 1) k ≡ cell head (k + 1)
 unfolding cell
 cell-next head k = omega arith
 
-cell-other : (head j k : ℕ) → j < k → k < 1024 → cell head j ≡ cell head k → ⊥
+cell-other : (head j k : ℕ) → j < k → k < max-states → cell head j ≡ cell head k → ⊥
 unfolding cell
 cell-other head j k a b e = omega (arith, e)
 
-pub cell-below : (head k : ℕ) → cell head k < 1024
+pub cell-below : (head k : ℕ) → cell head k < max-states
 unfolding cell
 cell-below head k = omega arith
 
@@ -61,13 +62,14 @@ queue-empty {n} {waits = waits} q e s b = on (waiting waits s) refl
     on false w = w
     on true w = absurd (omega (arith, q .counted, count-before (waiting waits) s n b w))
 
-pub queue-none : (n : ℕ) {ring : List ℕ} {waits : List Bool} → n ≤ 1024 → length ring ≡ 1024 → waits ≡ replicate 1024 false → Queue n ring waits 0 0
+pub queue-none : (n : ℕ) {ring : List ℕ} {waits : List Bool} → n ≤ max-states → length ring ≡ max-states → waits ≡ replicate max-states false
+    → Queue n ring waits 0 0
 queue-none n {ring} {waits} few long e =
     record {
       ring-long = long;
-      waits-long = rw e (length-replicate {A = Bool} 1024 false);
+      waits-long = rw e (length-replicate {A = Bool} max-states false);
       head-below = omega arith;
-      counted = sym (count-none n (waiting waits) (λ u b. rw e (getD-replicate {A = Bool} 1024 u false false (omega arith))));
+      counted = sym (count-none n (waiting waits) (λ u b. rw e (getD-replicate {A = Bool} max-states u false false (omega arith))));
       state = λ k c. absurd (omega arith);
       waits-there = λ k c. absurd (omega arith);
       once = λ j k c. absurd (omega arith);
@@ -75,7 +77,7 @@ queue-none n {ring} {waits} few long e =
 
 -- A state comes on.
 
-module _ {n head many : ℕ} {ring : List ℕ} {waits : List Bool} (few : n ≤ 1024) (q : Queue n ring waits head many) (s : ℕ) (b : s < n)
+module _ {n head many : ℕ} {ring : List ℕ} {waits : List Bool} (few : n ≤ max-states) (q : Queue n ring waits head many) (s : ℕ) (b : s < n)
     (w : waiting waits s ≡ false) where
   inside : s < length waits
   inside = omega (arith, q .waits-long)
@@ -90,7 +92,7 @@ module _ {n head many : ℕ} {ring : List ℕ} {waits : List Bool} (few : n ≤ 
   push-here = mark-here waits s true inside
 
   pub push-stays : (u : ℕ) → waiting waits u ≡ true → waiting (set waits s true) u ≡ true
-  push-stays u e = mark-other waits s u true (λ i. clash (waiting waits s) (ap (waiting waits) (sym i) ∙ e) w) ∙ e
+  push-stays u e = mark-other waits s u true (λ i. clash {b = waiting waits s} (ap (waiting waits) (sym i) ∙ e) w) ∙ e
 
   pub queue-push : Queue n (set ring (cell head many) s) (set waits s true) head (many + 1)
   queue-push =
@@ -123,7 +125,7 @@ module _ {n head many : ℕ} {ring : List ℕ} {waits : List Bool} (few : n ≤ 
 
       -- What waits is another state.
       new : (k : ℕ) → k < many → at k ≡ s → ⊥
-      new k c e = clash (waiting waits s) (ap (waiting waits) (sym e ∙ before k c) ∙ q .waits-there k c) w
+      new k c e = clash {b = waiting waits s} (ap (waiting waits) (sym e ∙ before k c) ∙ q .waits-there k c) w
 
       once : (j k : ℕ) → j < many + 1 → k < many + 1 → Dec (j ≡ many) → Dec (k ≡ many) → at j ≡ at k → j ≡ k
       once j k c d (yes e) (yes f) i = e ∙ sym f
@@ -133,7 +135,7 @@ module _ {n head many : ℕ} {ring : List ℕ} {waits : List Bool} (few : n ≤ 
 
 -- The first comes off.
 
-module _ {n head many : ℕ} {ring : List ℕ} {waits : List Bool} (few : n ≤ 1024) (q : Queue n ring waits head many) (some : 0 < many) where
+module _ {n head many : ℕ} {ring : List ℕ} {waits : List Bool} (few : n ≤ max-states) (q : Queue n ring waits head many) (some : 0 < many) where
   abbrev first : ℕ
   first = getD ring head 0
 

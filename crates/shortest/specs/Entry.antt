@@ -3,7 +3,7 @@ use mathlib.Core.Bool.{_||_, cond}
 use mathlib.Core.List.{List}
 use Prim.Native.Nat.{ℕ}
 use lib.Dec.{ltb}
-use Rattle.transducer.specs.Format.{refusal, decode}
+use Rattle.transducer.specs.Format.{max-path, refusal, decode}
 use Rattle.transducer.specs.Entry.{or-else}
 use Rattle.paths.specs.declared.Told.{Told}
 use Rattle.reach.specs.Reach.{coaccessible}
@@ -14,7 +14,7 @@ use Rattle.shortest.specs.Shortest.{shortest}
 unfoldable pub shortest-refusal : List ℕ → (arcs labels : ℕ) → ℕ
 shortest-refusal bs a b =
     or-else (refusal bs)
-    (cond (ltb a 1023 || ltb b 1023) 10
+    (cond (ltb a max-path || ltb b max-path) 10
     (cond (coaccessible (decode bs .states) (decode bs) (decode bs .start)) 0 16))
 
 abbrev pub Shortest-says : (bs : List ℕ) → (number : ℕ) → Told → (a a' b b' : List ℕ) → Type 0

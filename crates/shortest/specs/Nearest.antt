@@ -7,7 +7,7 @@ use mathlib.Core.List.{List, [], _∷_}
 use Prim.Native.Nat.{ℕ, zero, suc, _+_, _-_, _*_, _≤_, _<_, min}
 use lib.Dec.{eqb, leb}
 use lib.ListN.{length, getD}
-use Rattle.transducer.specs.Format.{Transducer}
+use Rattle.transducer.specs.Format.{Transducer, max-states}
 use Rattle.transducer.specs.Path.{arc, is-final, final-weight, runs, ends}
 use Rattle.transducer.specs.Weight.{plus}
 use Rattle.transducer.specs.Leaf.{arcs-below}
@@ -77,18 +77,18 @@ pub record First (t : Transducer) (c l : ℕ → ℕ) (v i : ℕ) : Type 0 where
   pub first : v ≤ i
 
 -- Costs and numbers of arcs that no arc makes better.
-pub record Settled (t : Transducer) (c l : ℕ → ℕ) : Type 0 where
+pub record All-relaxed (t : Transducer) (c l : ℕ → ℕ) : Type 0 where
   pub nearing : Nearing t c l
   pub by-arc : (i : ℕ) → i < length (t .arcs) → No-worse (c (arc t i .source)) (l (arc t i .source)) (cost-by t c i) (arcs-by t l i)
 
 -- Cost and number of arcs as one number, which falls where they get better.
 unfoldable pub height : (c l : ℕ → ℕ) → (s : ℕ) → ℕ
-height c l s = 65536 * c s + l s
+height c l s = (most-arcs + 1) * c s + l s
 
 -- Arrays with a number for each state.
 pub record Long (cs ls : List ℕ) : Type 0 where
-  pub costs : length cs ≡ 1024
-  pub lens : length ls ≡ 1024
+  pub costs : length cs ≡ max-states
+  pub lens : length ls ≡ max-states
 
 -- An arc that does not make its source better.
 abbrev pub No-better : Transducer → (cs ls : List ℕ) → (i : ℕ) → Type 0
@@ -107,11 +107,11 @@ pub record Relaxed (t : Transducer) (i : ℕ) (cs ls cs' ls' : List ℕ) (better
 pub record Swept-says (t : Transducer) (cs ls : List ℕ) (again : Bool) : Type 0 where
   pub long : Long cs ls
   pub nearing : Nearing t (by-state cs) (by-state ls)
-  pub settled : again ≡ false → Settled t (by-state cs) (by-state ls)
+  pub settled : again ≡ false → All-relaxed t (by-state cs) (by-state ls)
 
 -- What is left in the end: the least cost to come from each state, with the fewest arcs at that cost.
-pub record Settled-says (t : Transducer) (cs ls : List ℕ) : Type 0 where
-  pub settled : Settled t (by-state cs) (by-state ls)
+pub record Distances-settled (t : Transducer) (cs ls : List ℕ) : Type 0 where
+  pub settled : All-relaxed t (by-state cs) (by-state ls)
   pub least : (s : ℕ) → s < t .states → getD cs s 0 ≡ least-to-come t s
 
 -- Whether an arc gives a state's cost and number of arcs.

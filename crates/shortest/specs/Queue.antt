@@ -5,7 +5,7 @@ use mathlib.Core.Logic.{_⊎_}
 use mathlib.Core.List.{List}
 use Prim.Native.Nat.{ℕ, _+_, _%_, _≤_, _<_}
 use lib.ListN.{length, getD}
-use Rattle.transducer.specs.Format.{Transducer}
+use Rattle.transducer.specs.Format.{Transducer, max-states}
 use Rattle.transducer.specs.Path.{arc}
 use Rattle.paths.specs.Sweep.{total}
 use Rattle.reach.specs.Counted.{count}
@@ -13,7 +13,7 @@ use Rattle.shortest.specs.Nearest.{by-state, Nearing, No-better, Long, h
 
 -- The cell of a ring of 1,024 that stands so many behind its head.
 unfoldable pub cell : (head k : ℕ) → ℕ
-cell head k = (head + k) % 1024
+cell head k = (head + k) % max-states
 
 -- Whether a state waits.
 abbrev pub waiting : List Bool → (s : ℕ) → Bool
@@ -21,9 +21,9 @@ waiting waits s = getD waits s false
 
 -- The states below n that wait stand in a ring from its head on, none twice.
 pub record Queue (n : ℕ) (ring : List ℕ) (waits : List Bool) (head many : ℕ) : Type 0 where
-  pub ring-long : length ring ≡ 1024
-  pub waits-long : length waits ≡ 1024
-  pub head-below : head < 1024
+  pub ring-long : length ring ≡ max-states
+  pub waits-long : length waits ≡ max-states
+  pub head-below : head < max-states
   pub counted : many ≡ count n (waiting waits)
   pub state : (k : ℕ) → k < many → getD ring (cell head k) 0 < n
   pub waits-there : (k : ℕ) → k < many → waiting waits (getD ring (cell head k) 0) ≡ true
@@ -45,7 +45,7 @@ pub record Joined (t : Transducer) (i : ℕ) (cs ls : List ℕ) (waits : List Bo
   pub falls : to-do t cs' ls' many' ≤ to-do t cs ls many
 
 -- Costs and numbers of arcs on their way: an arc that makes its source better leads to a state that waits, or is one of those left to relax.
-pub record Settling (t : Transducer) (left : ℕ → Bool) (cs ls ring : List ℕ) (waits : List Bool) (head many : ℕ) : Type 0 where
+pub record Draining (t : Transducer) (left : ℕ → Bool) (cs ls ring : List ℕ) (waits : List Bool) (head many : ℕ) : Type 0 where
   pub long : Long cs ls
   pub nearing : Nearing t (by-state cs) (by-state ls)
   pub queue : Queue (t .states) ring waits head many

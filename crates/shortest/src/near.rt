@@ -4,16 +4,19 @@ ghost use Prim.Native.Nat.{ℕ, _+_, _-_, _≤_, _<_, min};
 ghost use mathlib.Core.Bool.{true, false};
 ghost use lib.ListN.{length, getD, replicate};
 ghost use Rattle.wire.specs.Bytes.{filled};
-ghost use Rattle.transducer.specs.Format.{decode};
+ghost use Rattle.transducer.specs.Format.{max-states, decode};
 ghost use Rattle.transducer.specs.Leaf.{Opened, Indexed};
 ghost use Rattle.transducer.specs.Path.{runs};
 ghost use Rattle.transducer.specs.Weight.{plus};
 ghost use Rattle.shortest.specs.Shortest.{no-path, nearer};
 ghost use Rattle.reach.specs.Index.{leads-to, By-target};
-ghost use Rattle.shortest.specs.Nearest.{by-state, most-arcs, cost-by, arcs-by, is-nearest, code-cost, Nearing, Settled, Long};
-ghost use Rattle.shortest.specs.Nearest.{Relaxed, Swept-says, Settled-says, first-giving, first-tight, follow};
-ghost use Rattle.shortest.specs.Queue.{Queue, Joined, Settling, none, to-do};
+ghost use Rattle.shortest.specs.Nearest.{by-state, most-arcs, cost-by, arcs-by, is-nearest, code-cost, Nearing, All-relaxed, Long};
+ghost use Rattle.shortest.specs.Nearest.{Relaxed, Swept-says, Distances-settled, first-giving, first-tight, follow};
+ghost use Rattle.shortest.specs.Queue.{Queue, Joined, Draining, none, to-do};
 use crate::queue;
+use transducer::INDEX_LEN;
+use transducer::MAX_ARCS;
+use transducer::MAX_STATES;
 
 pub const NO_PATH: u32 = 4294967295;
 
@@ -68,22 +71,30 @@ fn is_nearest(cost: u32, arcs: u16) -> bool
     (cost == 0) & (arcs <= 1)
 }
 
-// The cost to come by way of arc `i`.
-fn cost_by(table: &[u8], first: usize, i: usize, costs: &[u32; 1024]) -> u32
-    requires { ⌜ Opened (now table) first × (i < length (decode (now table) .arcs)) ⌝ }
-    ensures { λ r. ⌜ r ≡ cost-by (decode (now (table .entry))) (by-state (now (costs .entry))) i ⌝ }
-{
-    let a = transducer::arc_of(table, first, i);
-    sum(a.weight, costs[a.target as usize])
+// A cost to come and a number of arcs.
+struct Distance {
+    cost: u32,
+    arcs: u16,
 }
 
-// The number of arcs by way of arc `i`.
-fn arcs_by(table: &[u8], first: usize, i: usize, lens: &[u16; 1024]) -> u16
+// The cost to come and the number of arcs by way of arc `i`.
+fn by_arc(
+    table: &[u8],
+    first: usize,
+    i: usize,
+    costs: &[u32; MAX_STATES],
+    lens: &[u16; MAX_STATES],
+) -> Distance
     requires { ⌜ Opened (now table) first × (i < length (decode (now table) .arcs)) ⌝ }
-    ensures { λ r. ⌜ r ≡ arcs-by (decode (now (table .entry))) (by-state (now (lens .entry))) i ⌝ }
+    ensures { λ r. ⌜ (r .cost ≡ cost-by (decode (now (table .entry))) (by-state (now (costs .entry))) i)
+        × (r .arcs ≡ arcs-by (decode (now (table .entry))) (by-state (now (lens .entry))) i) ⌝ }
 {
     let a = transducer::arc_of(table, first, i);
-    one_more(lens[a.target as usize])
+    let to = a.target as usize;
+    Distance {
+        cost: sum(a.weight, costs[to]),
+        arcs: one_more(lens[to]),
+    }
 }
 
 // The cost of the empty path, by a state's final code.
@@ -97,9 +108,9 @@ fn own(code: u32) -> u32
 }
 
 // Puts the cost of the empty path from each state into `costs`.
-pub fn own_costs(states: usize, codes: &[u32; 1024], costs: &mut [u32; 1024])
-    requires { ⌜ (states ≤ 1024) × (length (now costs) ≡ 1024) ⌝ }
-    ensures { λ _. ⌜ (length (now (costs .exit)) ≡ 1024)
+pub fn own_costs(states: usize, codes: &[u32; MAX_STATES], costs: &mut [u32; MAX_STATES])
+    requires { ⌜ (states ≤ max-states) × (length (now costs) ≡ max-states) ⌝ }
+    ensures { λ _. ⌜ (length (now (costs .exit)) ≡ max-states)
         × ((s : ℕ) → s < states → getD (now (costs .exit)) s 0 ≡ code-cost (getD (now (codes .entry)) s 0)) ⌝ }
 {
     let mut s = 0;
@@ -114,8 +125,8 @@ fn relax(
     table: &[u8],
     first: usize,
     i: usize,
-    costs: &mut [u32; 1024],
-    lens: &mut [u16; 1024],
+    costs: &mut [u32; MAX_STATES],
+    lens: &mut [u16; MAX_STATES],
 ) -> bool
     requires { ⌜ Opened (now table) first × (i < length (decode (now table) .arcs))
         × Nearing (decode (now table)) (by-state (now costs)) (by-state (now lens)) × Long (now costs) (now lens) ⌝ }
@@ -140,9 +151,9 @@ fn sweep(
     table: &[u8],
     first: usize,
     arcs: usize,
-    index: &[u16; 1025],
-    costs: &mut [u32; 1024],
-    lens: &mut [u16; 1024],
+    index: &[u16; INDEX_LEN],
+    costs: &mut [u32; MAX_STATES],
+    lens: &mut [u16; MAX_STATES],
 ) -> bool
     requires { ⌜ Opened (now table) first × (arcs ≡ length (decode (now table) .arcs)) × Indexed (decode (now table)) (now index)
         × Nearing (decode (now table)) (by-state (now costs)) (by-state (now lens)) × Long (now costs) (now lens) ⌝ }
@@ -173,10 +184,10 @@ fn relax_and_join(
     table: &[u8],
     first: usize,
     i: usize,
-    costs: &mut [u32; 1024],
-    lens: &mut [u16; 1024],
-    ring: &mut [u16; 1024],
-    waits: &mut [bool; 1024],
+    costs: &mut [u32; MAX_STATES],
+    lens: &mut [u16; MAX_STATES],
+    ring: &mut [u16; MAX_STATES],
+    waits: &mut [bool; MAX_STATES],
     head: usize,
     count: usize,
 ) -> usize
@@ -201,14 +212,15 @@ fn relax_all(
     table: &[u8],
     first: usize,
     arcs: usize,
-    costs: &mut [u32; 1024],
-    lens: &mut [u16; 1024],
-    ring: &mut [u16; 1024],
-    waits: &mut [bool; 1024],
+    costs: &mut [u32; MAX_STATES],
+    lens: &mut [u16; MAX_STATES],
+    ring: &mut [u16; MAX_STATES],
+    waits: &mut [bool; MAX_STATES],
 ) -> usize
-    requires { ⌜ Opened (now table) first × (arcs ≡ length (decode (now table) .arcs)) × Nearing (decode (now table)) (by-state (now costs)) (by-state (now lens))
-        × Long (now costs) (now lens) × (length (now ring) ≡ 1024) × (now waits ≡ replicate 1024 false) ⌝ }
-    ensures { λ r. ⌜ Settling (decode (now (table .entry))) none (now (costs .exit)) (now (lens .exit)) (now (ring .exit)) (now (waits .exit)) 0 r ⌝ }
+    requires { ⌜ Opened (now table) first × (arcs ≡ length (decode (now table) .arcs))
+        × Nearing (decode (now table)) (by-state (now costs)) (by-state (now lens)) × Long (now costs) (now lens)
+        × (length (now ring) ≡ max-states) × (now waits ≡ replicate max-states false) ⌝ }
+    ensures { λ r. ⌜ Draining (decode (now (table .entry))) none (now (costs .exit)) (now (lens .exit)) (now (ring .exit)) (now (waits .exit)) 0 r ⌝ }
 {
     let mut count = 0;
     let mut i = 0;
@@ -224,18 +236,18 @@ fn relax_into(
     table: &[u8],
     first: usize,
     s: usize,
-    heads: &[u16; 1025],
-    into: &[u16; 3072],
-    costs: &mut [u32; 1024],
-    lens: &mut [u16; 1024],
-    ring: &mut [u16; 1024],
-    waits: &mut [bool; 1024],
+    heads: &[u16; INDEX_LEN],
+    into: &[u16; MAX_ARCS],
+    costs: &mut [u32; MAX_STATES],
+    lens: &mut [u16; MAX_STATES],
+    ring: &mut [u16; MAX_STATES],
+    waits: &mut [bool; MAX_STATES],
     head: usize,
     count: usize,
 ) -> usize
     requires { ⌜ Opened (now table) first × By-target (decode (now table)) (now heads) (now into) × (s < decode (now table) .states)
-        × Settling (decode (now table)) (leads-to (decode (now table)) s) (now costs) (now lens) (now ring) (now waits) head count ⌝ }
-    ensures { λ r. ⌜ Settling (decode (now (table .entry))) none (now (costs .exit)) (now (lens .exit)) (now (ring .exit)) (now (waits .exit)) head r
+        × Draining (decode (now table)) (leads-to (decode (now table)) s) (now costs) (now lens) (now ring) (now waits) head count ⌝ }
+    ensures { λ r. ⌜ Draining (decode (now (table .entry))) none (now (costs .exit)) (now (lens .exit)) (now (ring .exit)) (now (waits .exit)) head r
         × (to-do (decode (now (table .entry))) (now (costs .exit)) (now (lens .exit)) r
         ≤ to-do (decode (now (table .entry))) (now (costs .entry)) (now (lens .entry)) count) ⌝ }
 {
@@ -251,18 +263,23 @@ fn relax_into(
 }
 
 // Settles what a sweep may leave, by a queue of the states that got better: when one comes off, the arcs that lead to it are relaxed.
-fn drain(table: &[u8], first: usize, arcs: usize, costs: &mut [u32; 1024], lens: &mut [u16; 1024])
-    requires { ⌜ Opened (now table) first × (arcs ≡ length (decode (now table) .arcs))
+fn drain(
+    table: &[u8],
+    first: usize,
+    states: usize,
+    arcs: usize,
+    costs: &mut [u32; MAX_STATES],
+    lens: &mut [u16; MAX_STATES],
+)
+    requires { ⌜ Opened (now table) first × (states ≡ decode (now table) .states) × (arcs ≡ length (decode (now table) .arcs))
         × Nearing (decode (now table)) (by-state (now costs)) (by-state (now lens)) × Long (now costs) (now lens) ⌝ }
-    ensures { λ _. ⌜ Settled (decode (now (table .entry))) (by-state (now (costs .exit))) (by-state (now (lens .exit))) ⌝ }
+    ensures { λ _. ⌜ All-relaxed (decode (now (table .entry))) (by-state (now (costs .exit))) (by-state (now (lens .exit))) ⌝ }
 {
-    let known = transducer::head_of(table);
-    let states = known.states as usize;
-    let mut heads = [0u16; 1025];
-    let mut into = [0u16; 3072];
+    let mut heads = [0u16; INDEX_LEN];
+    let mut into = [0u16; MAX_ARCS];
     reach::by_target(table, first, states, arcs, &mut heads, &mut into);
-    let mut ring = [0u16; 1024];
-    let mut waits = [false; 1024];
+    let mut ring = [0u16; MAX_STATES];
+    let mut waits = [false; MAX_STATES];
     let mut count = relax_all(table, first, arcs, costs, lens, &mut ring, &mut waits);
     let mut head = 0;
     while count > 0 {
@@ -286,22 +303,24 @@ fn drain(table: &[u8], first: usize, arcs: usize, costs: &mut [u32; 1024], lens:
 
 // The least cost to come from each state, with the fewest arcs at that cost; `costs` begins with the empty paths' costs.
 // Arcs most often lead to higher numbers, so that one sweep, the last arc first, most often settles all.
-pub fn settle(
+pub fn distances(
     table: &[u8],
     first: usize,
+    states: usize,
     arcs: usize,
-    index: &[u16; 1025],
-    costs: &mut [u32; 1024],
-    lens: &mut [u16; 1024],
+    index: &[u16; INDEX_LEN],
+    costs: &mut [u32; MAX_STATES],
+    lens: &mut [u16; MAX_STATES],
 )
-    requires { ⌜ Opened (now table) first × (arcs ≡ length (decode (now table) .arcs)) × Indexed (decode (now table)) (now index)
+    requires { ⌜ Opened (now table) first × (states ≡ decode (now table) .states) × (arcs ≡ length (decode (now table) .arcs))
+        × Indexed (decode (now table)) (now index)
         × Nearing (decode (now table)) (by-state (now costs)) (by-state (now lens)) × Long (now costs) (now lens) ⌝ }
-    ensures { λ _. ⌜ Settled-says (decode (now (table .entry))) (now (costs .exit)) (now (lens .exit)) ⌝ }
+    ensures { λ _. ⌜ Distances-settled (decode (now (table .entry))) (now (costs .exit)) (now (lens .exit)) ⌝ }
 {
     if !sweep(table, first, arcs, index, costs, lens) {
         return;
     }
-    drain(table, first, arcs, costs, lens);
+    drain(table, first, states, arcs, costs, lens);
 }
 
 // The first of the arcs from `from` to below `to` that gives the cost and number of arcs of state `s`, or `to` where none does.
@@ -311,19 +330,18 @@ fn first_giving(
     s: usize,
     from: usize,
     to: usize,
-    costs: &[u32; 1024],
-    lens: &[u16; 1024],
+    costs: &[u32; MAX_STATES],
+    lens: &[u16; MAX_STATES],
 ) -> usize
-    requires { ⌜ Opened (now table) first × (s < 1024) × (from ≤ to) × (to ≤ length (decode (now table) .arcs)) ⌝ }
+    requires { ⌜ Opened (now table) first × (s < max-states) × (from ≤ to) × (to ≤ length (decode (now table) .arcs)) ⌝ }
     ensures { λ r. ⌜ r ≡ first-giving (to - from) (decode (now (table .entry))) (by-state (now (costs .entry))) (by-state (now (lens .entry))) s from ⌝ }
 {
     let cost = costs[s];
     let len = lens[s];
     let mut i = from;
     while i < to {
-        let x = cost_by(table, first, i, costs);
-        let k = arcs_by(table, first, i, lens);
-        if (x == cost) & (k == len) {
+        let by = by_arc(table, first, i, costs, lens);
+        if (by.cost == cost) & (by.arcs == len) {
             return i;
         }
         i += 1;
@@ -337,15 +355,17 @@ pub fn walk(
     first: usize,
     start: usize,
     len: usize,
-    index: &[u16; 1025],
-    costs: &[u32; 1024],
-    lens: &[u16; 1024],
+    index: &[u16; INDEX_LEN],
+    costs: &[u32; MAX_STATES],
+    lens: &[u16; MAX_STATES],
     out: &mut [u16],
 )
     requires { ⌜ Opened (now table) first × Indexed (decode (now table)) (now index) × (start < decode (now table) .states) × (len ≤ length (now out))
-        × (runs (decode (now table)) start (follow len (decode (now table)) (first-tight (decode (now table)) (by-state (now costs)) (by-state (now lens))) start) ≡ true) ⌝ }
+        × (runs (decode (now table)) start
+        (follow len (decode (now table)) (first-tight (decode (now table)) (by-state (now costs)) (by-state (now lens))) start) ≡ true) ⌝ }
     ensures { λ _. ⌜ now (out .exit) ≡ filled (length (now (out .entry)))
-        (follow len (decode (now (table .entry))) (first-tight (decode (now (table .entry))) (by-state (now (costs .entry))) (by-state (now (lens .entry)))) start) ⌝ }
+        (follow len (decode (now (table .entry)))
+        (first-tight (decode (now (table .entry))) (by-state (now (costs .entry))) (by-state (now (lens .entry)))) start) ⌝ }
 {
     let mut s = start;
     let mut n: usize = 0;

@@ -3,19 +3,27 @@ ghost use mathlib.Core.Path.{_≡_};
 ghost use mathlib.Core.Bool.{true, false};
 ghost use Prim.Native.Nat.{_<_};
 ghost use lib.ListN.{length, getD, set};
+ghost use Rattle.transducer.specs.Format.{max-states};
 ghost use Rattle.shortest.specs.Queue.{cell};
+use transducer::MAX_STATES;
 
 // The cell so many behind the head.
 pub fn behind(head: usize, k: usize) -> usize
-    requires { ⌜ (head < 1024) × (k < 1024) ⌝ }
-    ensures { λ r. ⌜ (r ≡ cell head k) × (r < 1024) ⌝ }
+    requires { ⌜ (head < max-states) × (k < max-states) ⌝ }
+    ensures { λ r. ⌜ (r ≡ cell head k) × (r < max-states) ⌝ }
 {
-    (head + k) % 1024
+    (head + k) % MAX_STATES
 }
 
 // Puts a state behind the `count` that wait.
-pub fn push(ring: &mut [u16; 1024], waits: &mut [bool; 1024], head: usize, count: usize, s: usize)
-    requires { ⌜ (head < 1024) × (count < 1024) × (s < 1024) × (length (now ring) ≡ 1024) × (length (now waits) ≡ 1024) ⌝ }
+pub fn push(
+    ring: &mut [u16; MAX_STATES],
+    waits: &mut [bool; MAX_STATES],
+    head: usize,
+    count: usize,
+    s: usize,
+)
+    requires { ⌜ (head < max-states) × (count < max-states) × (s < max-states) × (length (now ring) ≡ max-states) × (length (now waits) ≡ max-states) ⌝ }
     ensures { λ _. ⌜ (now (ring .exit) ≡ set (now (ring .entry)) (cell head count) s) × (now (waits .exit) ≡ set (now (waits .entry)) s true) ⌝ }
 {
     let at = behind(head, count);
@@ -24,8 +32,8 @@ pub fn push(ring: &mut [u16; 1024], waits: &mut [bool; 1024], head: usize, count
 }
 
 // Takes the state at the head off.
-pub fn pop(ring: &[u16; 1024], waits: &mut [bool; 1024], head: usize) -> usize
-    requires { ⌜ (head < 1024) × (getD (now ring) head 0 < 1024) × (length (now waits) ≡ 1024) ⌝ }
+pub fn pop(ring: &[u16; MAX_STATES], waits: &mut [bool; MAX_STATES], head: usize) -> usize
+    requires { ⌜ (head < max-states) × (getD (now ring) head 0 < max-states) × (length (now waits) ≡ max-states) ⌝ }
     ensures { λ r. ⌜ (r ≡ getD (now (ring .entry)) head 0) × (now (waits .exit) ≡ set (now (waits .entry)) r false) ⌝ }
 {
     let s = ring[head] as usize;

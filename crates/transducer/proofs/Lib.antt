@@ -12,6 +12,7 @@ pub mod Accept
 pub mod Tested
 pub mod Most
 pub mod Offsets
+pub mod Headed
 -- Records written, and read back.
 pub mod Encode
 pub mod WriteBack

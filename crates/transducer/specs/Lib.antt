@@ -4,5 +4,6 @@ pub mod Path
 pub mod Each
 pub mod Check
 pub mod Leaf
+pub mod Prepare
 pub mod Entry
 pub mod Weight

@@ -3,6 +3,7 @@ ghost use mathlib.Core.Path.{_≡_};
 
 mod check;
 mod leaf;
+mod preparing;
 mod store;
 mod walk;
 
@@ -38,6 +39,8 @@ pub use leaf::first_arcs_by_blocks;
 pub use leaf::header as head_of;
 pub use leaf::put_codes;
 pub use leaf::put_index;
+pub use preparing::Shape;
+pub use preparing::prepare;
 pub use store::put_arc;
 pub use store::put_final;
 pub use store::put_head;

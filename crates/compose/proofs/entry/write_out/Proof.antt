@@ -19,6 +19,34 @@ finals-put c = c .before .before .before .before
 abbrev arcs-moved : tie.After-put-head → tie.After-move-arcs
 arcs-moved c = c .before .before .before .before
 
+-- Refused for an arc's weight, for a final weight; and the places of what is written.
+abbrev refused-arcs : tie.After-slice-known7 → tie.After-refuse
+refused-arcs c = c .before .before .before .before .before .before
+
+abbrev dear-arcs : tie.After-refuse → tie.Then1
+dear-arcs c = c .before .before .before .before
+
+abbrev refused-finals : tie.After-slice-known10 → tie.After-refuse2
+refused-finals c = c .before .before .before .before .before .before
+
+abbrev dear-finals : tie.After-refuse2 → tie.Then2
+dear-finals c = c .before .before .before .before
+
+abbrev in-range : tie.After-put-head-arg → tie.Else2
+in-range c = c .before .before .before .before .before
+
+abbrev head-put : tie.After-clear8 → tie.After-put-head
+head-put c = c .before .before .before .before
+
+abbrev table-cleared : tie.After-clear16 → tie.After-clear8
+table-cleared c = c .before .before .before .before
+
+abbrev origins-cleared : tie.After-slice-known15 → tie.After-clear16
+origins-cleared c = c .before .before .before .before .before .before
+
+abbrev all-moved : tie.After-slice-known15 → tie.After-move-arcs
+all-moved c = arcs-moved (head-put (table-cleared (origins-cleared c)))
+
 -- The bytes are bytes.
 left-bytes : (c : tie.After-shared-slice-known2) → Bytes (entry c .args .left .now)
 left-bytes c = λ i. omega (arith, c .before .shared-slice-known .given i)
@@ -54,11 +82,12 @@ same-length-3 c = search needs
 
 returns : tie.Need-returns
 returns c =
-    let put = c .before .before .before .before .before .before .before .before .before .before .before .before .before in
+    let put = dear-arcs (refused-arcs c) .before .before .before in
     let k = lent (put .before) in
     let pre = entry k .pre in
     says-13-arcs _ _ (left-bytes k) (right-bytes k) (pre .0 .left-accepted) (pre .0 .right-accepted) _ _ _ _ (pre .1 .1 .told) (pre .1 .1 .few-arcs) _ _
-    (pre .1 .0 .0) (pre .1 .0 .1) _ _ (put .put-finals .ensures) _ _ _ _ (c .before .before .before .before .before .before .before .before .before .before .if1 .taken) (c .before .before .before .before .before .before .refuse .ensures)
+    (pre .1 .0 .0) (pre .1 .0 .1) _ _ (put .put-finals .ensures) _ _ _ _ (dear-arcs (refused-arcs c) .if1 .taken)
+    (refused-arcs c .refuse .ensures)
 
 refuse-requires-2 : tie.Need-refuse-requires-2
 refuse-requires-2 c κs = search needs
@@ -74,11 +103,12 @@ same-length-6 c = search needs
 
 returns-2 : tie.Need-returns-2
 returns-2 c =
-    let put = c .before .before .before .before .before .before .before .before .before .before .before .before .before .before in
+    let put = dear-finals (refused-finals c) .before .before .before .before in
     let k = lent (put .before) in
     let pre = entry k .pre in
     says-13-finals _ _ (left-bytes k) (right-bytes k) (pre .0 .left-accepted) (pre .0 .right-accepted) _ _ _ _ (pre .1 .1 .told) (pre .1 .1 .few-arcs) _ _
-    (pre .1 .0 .0) (pre .1 .0 .1) _ _ (put .put-finals .ensures) _ _ _ _ (c .before .before .before .before .before .before .before .before .before .before .if2 .taken) (c .before .before .before .before .before .before .refuse2 .ensures)
+    (pre .1 .0 .0) (pre .1 .0 .1) _ _ (put .put-finals .ensures) _ _ _ _ (dear-finals (refused-finals c) .if2 .taken)
+    (refused-finals c .refuse2 .ensures)
 
 mul-behind : tie.Need-mul-behind
 mul-behind c = omega (arith, fits (finals-put c))
@@ -103,22 +133,22 @@ move-arcs-requires c κs =
     (omega (arith, fits put), omega (arith, fits put, kept, pre .0 .table-long))
 
 cast-put-head : tie.Need-cast-put-head
-cast-put-head c = omega (arith, fits (finals-put (c .before .before .before .before .before)))
+cast-put-head c = omega (arith, fits (finals-put (in-range c)))
 
 cast-put-head-2 : tie.Need-cast-put-head-2
-cast-put-head-2 c = omega (arith, fits (finals-put (c .before .before .before .before .before)))
+cast-put-head-2 c = omega (arith, fits (finals-put (in-range c)))
 
 cast-put-head-3 : tie.Need-cast-put-head-3
-cast-put-head-3 c = omega (arith, fits (finals-put (c .before .before .before .before .before)))
+cast-put-head-3 c = omega (arith, fits (finals-put (in-range c)))
 
 put-head-requires : tie.Need-put-head-requires
 put-head-requires c κs = search needs
 
 clear8-requires : tie.Need-clear8-requires
 clear8-requires c κs =
-    let put = finals-put (c .before .before .before .before .before .before .before .before .before) in
     let head = c .before .before .before in
     let moved = arcs-moved head in
+    let put = finals-put (moved .before .before) in
     let k = lent (put .before) in
     let pre = entry k .pre in
     let kept =
@@ -136,7 +166,7 @@ clear32-requires : tie.Need-clear32-requires
 clear32-requires c κs = search needs
 
 cast-t47 : tie.Need-cast-t47
-cast-t47 c = omega (arith, fits (finals-put (c .before .before .before .before .before .before .before .before .before .before .before .before .before .before .before .before .before .before .before .before)))
+cast-t47 c = omega (arith, fits (finals-put (all-moved c .before .before)))
 
 same-length-7 : tie.Need-same-length-7
 same-length-7 c = search needs
@@ -149,14 +179,15 @@ same-length-9 c = search needs
 
 returns-3 : tie.Need-returns-3
 returns-3 c =
-    let else2 = c .before .before .before .before .before .before .before .before .before .before .before .before .before .before .before .before .before .before .before .before in
+    let cleared = origins-cleared c in
+    let written = table-cleared cleared in
+    let else2 = all-moved c .before .before in
     let put = finals-put else2 in
     let k = lent (put .before) in
     let pre = entry k .pre in
     says-written _ _ (left-bytes k) (right-bytes k) (pre .0 .left-accepted) (pre .0 .right-accepted) _ _ _ _ (pre .1 .1 .told) (pre .1 .1 .few-arcs) _ _
     (pre .1 .0 .0) (pre .1 .0 .1) _ _ (put .put-finals .ensures) _ _ _ _ _ (else2 .before .if1 .left) (else2 .if2 .left) (pre .0 .table-long)
-    (c .before .before .before .before .before .before .before .before .before .before .before .before .before .before .before .before .before .before .move-arcs .ensures) (c .before .before .before .before .before .before .before .before .before .before .before .before .before .before .put-head .ensures)
-    (c .before .before .before .before .before .before .before .before .before .before .clear8 .ensures) (c .before .before .before .before .before .before .clear16 .ensures)
+    (all-moved c .move-arcs .ensures) (head-put written .put-head .ensures) (written .clear8 .ensures) (cleared .clear16 .ensures)
     (c .before .before .clear32 .ensures)
 
 pub write-out-spec : {M : Type 1} → statement M

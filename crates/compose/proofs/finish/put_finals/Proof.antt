@@ -22,6 +22,12 @@ abbrev μ-loop : tie.MeasureT-loop
 abbrev unpacking : tie.After-b Inv-loop μ-loop → tie.After-unpack Inv-loop μ-loop
 unpacking c = c .before .before .before .before
 
+abbrev codes : tie.After-weight-ok Inv-loop μ-loop → tie.After-b Inv-loop μ-loop
+codes c = c .before .before .before .before .before .before .before
+
+abbrev right-final : tie.After-weight-ok Inv-loop μ-loop → tie.Then2 Inv-loop μ-loop
+right-final c = c .before .before .before .before .before
+
 abbrev turn : tie.After-unpack Inv-loop μ-loop → tie.At-loop Inv-loop μ-loop
 turn c = c .before .before .before
 
@@ -99,16 +105,15 @@ weight-ok-requires c κs = search needs
 
 add-finals : tie.Need-add-finals Inv-loop μ-loop
 add-finals c =
-    let h = turn (unpacking (c .before .before .before .before .before .before .before)) in
+    let h = turn (unpacking (codes c)) in
     omega (arith, h .loop .inv .few, h .loop .inv .within, h .before .before .before .pre .few)
 
 loop-less : tie.Need-loop-less Inv-loop μ-loop
-loop-less c = omega (arith, unpacking (c .before .before .before .before .before .before .before) .before .before .loop-test .taken)
+loop-less c = omega (arith, unpacking (codes c) .before .before .loop-test .taken)
 
 loop-again : tie.Need-loop-again Inv-loop μ-loop
 loop-again c =
-    let b = c .before .before .before .before .before .before .before in
-    let here = unpacking b in
+    let here = unpacking (codes c) in
     let h = turn here in
     let start = h .before .before .before in
     let x = start .args in
@@ -119,7 +124,7 @@ loop-again c =
     let p = here .unpack .result in
     finishing-more (key-final ls rs) (key-weight ls rs) (x .states .now) (h .loop .inv) (here .before .before .loop-test .taken) (start .pre .stored) _
     ((getD ls (p .left) 0 - 1) + (getD rs (p .right) 0 - 1)) (c .weight-ok .result)
-    (both-final ls rs key p (here .unpack .ensures) (c .before .before .before .before .before .before .if1 .taken) (c .before .before .before .before .before .if2 .taken))
+    (both-final ls rs key p (here .unpack .ensures) (right-final c .before .if1 .taken) (right-final c .if2 .taken))
     (sym (both-weight ls rs key p (here .unpack .ensures))) (put .ensures) (put .kept .0)
     (c .weight-ok .ensures)
 

@@ -6,8 +6,15 @@ use Rattle.explore.proofs.EncodeStored.{filled-front}
 use Rattle.compose.proofs.finish.refuse.Statement.{statement}
 use Rattle.compose.proofs.finish.refuse.Tie as tie
 
-abbrev entry : tie.After-slice-known6 → tie.Start
-entry c = c .before .before .before .before .before .before .before .before .before .before .before .before .before .before .before
+-- The way back from a place to an earlier one.
+abbrev origins-cleared : tie.After-slice-known6 → tie.After-clear16
+origins-cleared c = c .before .before .before .before .before .before
+
+abbrev table-cleared : tie.After-clear16 → tie.After-clear8
+table-cleared c = c .before .before .before .before
+
+abbrev entry : tie.After-clear8 → tie.Start
+entry c = c .before .before .before .before .before
 
 clear8-requires : tie.Need-clear8-requires
 clear8-requires c κs = search needs
@@ -33,11 +40,13 @@ same-length-3 c = search needs
 returns : tie.Need-returns
 returns c =
     let done = c .before in
-    let x = entry done .args in
+    let origins = origins-cleared done in
+    let table = table-cleared origins in
+    let x = entry table .args in
     record {
       answer = c .refused .ensures;
-      table = filled-front [] (x .table .now) _ 0 refl refl (done .before .before .before .before .before .before .before .before .before .before .clear8 .ensures);
-      origins = filled-front [] (x .origins .now) _ 0 refl refl (done .before .before .before .before .before .before .clear16 .ensures);
+      table = filled-front [] (x .table .now) _ 0 refl refl (table .clear8 .ensures);
+      origins = filled-front [] (x .origins .now) _ 0 refl refl (origins .clear16 .ensures);
       states = filled-front [] (x .states .now) _ 0 refl refl (done .before .before .clear32 .ensures);
     }
 

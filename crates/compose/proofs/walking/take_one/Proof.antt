@@ -34,6 +34,18 @@ start c = c .before .before .before .before .before .before .before .before .bef
 abbrev stepped : tie.After-find → tie.After-step-of
 stepped c = c .before .before .before .before
 
+abbrev not-full : tie.After-record-step-arg2 → tie.Else2
+not-full c = c .before .before .before .before .before .before .before .before
+
+abbrev recorded : tie.After-slice-known6 → tie.After-record-step
+recorded c = c .before .before .before .before
+
+abbrev stored : tie.After-record-step → tie.After-store-new
+stored c = c .before .before .before .before .before
+
+abbrev found-at : tie.After-store-new → tie.After-find
+found-at c = c .before .before .before .before .before
+
 returns : tie.Need-returns
 returns c = λ b k.
     let s = c .before .before .before .before .before in
@@ -92,7 +104,7 @@ store-new-requires c κs =
 
 record-step-requires : tie.Need-record-step-requires
 record-step-requires c κs =
-    let e = c .before .before .before .before .before .before .before .before in
+    let e = not-full c in
     let k = start (e .before) .pre .1 .1 in
     (number-lt e, k .recorded .arcs-held .table-long, k .recorded .origins-held .origins-long)
 
@@ -107,16 +119,16 @@ same-length-4 c = search needs
 
 returns-3 : tie.Need-returns-3
 returns-3 c = λ b k.
-    let put = c .before .before .before .before .record-step in
-    let store = c .before .before .before .before .before .before .before .before .before .store-new in
-    let found = c .before .before .before .before .before .before .before .before .before .before .before .before .before .before in
+    let put = recorded c .record-step in
+    let store = stored (recorded c) .store-new in
+    let found = found-at (stored (recorded c)) in
     let s = start found in
     let a = s .args in
     let step = stepped found .step-of in
     let g = first s b k in
     let w = g .walked in
     let is = number-is found (g .sofar .keys) (w .chained) (sym (w .states-are)) in
-    let stored = store .ensures (g .sofar .keys) (sym (w .states-are)) is (w .chained) in
+    let kept = store .ensures (g .sofar .keys) (sym (w .states-are)) is (w .chained) in
     let u = decode (a .right .now) in
     taking-stop
     (taking-next g (keyed-step (step .result)) (run-left u (a .r) (a .to) (a .to))
@@ -125,7 +137,7 @@ returns-3 c = λ b k.
     (put .last .0) (put .last .1 .0) (store .last .0) (store .last .1 .0) (store .last .1 .1 .0)
     (step-walked (g .sofar) (a .source) (found .find .result) (store .result) (step .result) (a .w) (put .result) (a .table .now) (put .last .0)
     (a .origins .now) (put .last .1 .0) (a .states .now) (store .last .0) (a .heads .now) (store .last .1 .0) (a .links .now) (store .last .1 .1 .0) w is
-    (stored .0) (stored .1) (put .ensures .0) (put .ensures .1)))
+    (kept .0) (kept .1) (put .ensures .0) (put .ensures .1)))
     (run-left-none u (a .r) (a .to) (a .to) (omega arith))
 
 pub take-one-spec : {M : Type 1} → statement M

@@ -3,20 +3,20 @@ use mathlib.Core.Path.{_≡_, refl, _∙_}
 use Prim.Native.Nat.{_*_, _-_, _≤_}
 use native.Mathlib.Omega.{arith}
 use lib.ListN.{length, take, length-set}
-use Rattle.listing.specs.Code.{labels-in}
+use Rattle.listing.specs.Code.{labels-in, most-loaded}
 use Rattle.listing.proofs.Loading.{load-next, load-done}
 use Rattle.listing.proofs.code.load_labels.Statement.{statement}
 use Rattle.listing.proofs.code.load_labels.Tie as tie
 
 abbrev Inv-loop : tie.InvT-loop
 Inv-loop bytes string₀ i₀ string i =
-    (i ≤ 65)
+    (i ≤ most-loaded)
     × (2 * i ≤ length bytes)
-    × (length string ≡ 65)
+    × (length string ≡ most-loaded)
     × (take i string ≡ take i (labels-in bytes))
 
 abbrev μ-loop : tie.MeasureT-loop
-μ-loop bytes string₀ i₀ string i = 65 - i
+μ-loop bytes string₀ i₀ string i = most-loaded - i
 
 loop-holds : tie.Need-loop-holds Inv-loop μ-loop
 loop-holds c = (omega arith, omega arith, c .before .pre, refl)
@@ -57,7 +57,8 @@ loop-again c =
       omega arith,
       omega arith,
       length-set (l .string) (l .i) (c .u16-at .result) ∙ l .inv .2,
-      load-next (x .bytes .now) (l .string) (l .i) (c .u16-at .result) (l .inv .2) (c .before .before .loop-test .taken) (c .before .if1 .left) (c .u16-at .ensures) (l .inv .3),
+      load-next (x .bytes .now) (l .string) (l .i) (c .u16-at .result) (l .inv .2) (c .before .before .loop-test .taken) (c .before .if1 .left)
+          (c .u16-at .ensures) (l .inv .3),
     )
 
 returns-2 : tie.Need-returns-2 Inv-loop μ-loop

@@ -1,13 +1,14 @@
 -- `odd-refused` and `apply-refused` have the text of a refusal, and `lattice-..` what is listed.
-use mathlib.Core.Path.{_≡_, sym}
-use Prim.Native.Nat.{ℕ, _%_, _≤_}
+use mathlib.Core.Path.{sym}
+use mathlib.Core.List.{List}
+use Prim.Native.Nat.{ℕ, _≤_}
 use native.Mathlib.Omega.{arith}
 use borrow.Author.Needs.{needs}
-use lib.ListN.{length, length-replicate}
+use lib.ListN.{length, take, replicate, length-replicate}
 use lib.Seq.{length-take-le}
-use Rattle.wire.specs.Bytes.{Bytes}
-use Rattle.transducer.specs.Format.{decode}
-use Rattle.listing.proofs.Steps.{odd-refused, apply-refused, lattice-front, lattice-accepted, lattice-listed}
+use Rattle.transducer.specs.Format.{max-states, max-arcs, max-bytes, decode}
+use Rattle.listing.specs.Code.{most-loaded}
+use Rattle.listing.proofs.Steps.{Applying, odd-refused, apply-refused, lattice-front, lattice-accepted, lattice-listed}
 use Rattle.listing.proofs.entry.list_applied.Statement.{statement}
 use Rattle.listing.proofs.entry.list_applied.Tie as tie
 
@@ -17,11 +18,26 @@ loaded c = c .before .before .before .before .before
 abbrev start : tie.After-apply → tie.Start
 start c = loaded c .before .before .before .before .before .before
 
-is-bytes : (c : tie.After-apply) → Bytes (start c .args .table .now)
-is-bytes c = λ i. omega (arith, loaded c .before .before .before .before .before .shared-slice-known .given i)
+abbrev string : tie.After-apply → List ℕ
+string c = take (loaded c .load-labels .result) (loaded c .load-labels .last .1 .0)
 
-even : (c : tie.After-apply) → length (start c .args .bytes .now) % 2 ≡ 0
-even c = loaded c .before .before .if1 .left
+applying : (c : tie.After-apply)
+    → Applying (start c .args .table .now) (start c .args .bytes .now) (string c) (c .apply .result) (replicate max-bytes 0) (c .apply .last .1 .1 .0)
+    (replicate max-arcs 0) (c .apply .last .1 .1 .1 .0) (replicate max-states 0) (c .apply .last .1 .1 .1 .1 .0)
+applying c =
+    record {
+      bytes = λ i. omega (arith, loaded c .before .before .before .before .before .shared-slice-known .given i);
+      accepted = start c .pre .0;
+      even = loaded c .before .before .if1 .left;
+      string = loaded c .load-labels .ensures .labels;
+      table-room = omega (arith, length-replicate {A = ℕ} max-bytes 0);
+      origins-room = omega (arith, length-replicate {A = ℕ} max-arcs 0);
+      states-room = omega (arith, length-replicate {A = ℕ} max-states 0);
+      says = c .apply .ensures;
+    }
+
+abbrev refused-by : tie.Then2 → tie.After-apply
+refused-by c = c .before .before .before .before
 
 abbrev called : tie.After-struct-known → tie.After-apply
 called c = c .before .before .before .before .before
@@ -39,7 +55,7 @@ returns c =
     odd-refused (decode (x .table .now)) (x .bytes .now) (odd .if1 .taken) (c .before .before .refuse-into .ensures)
 
 load-labels-requires : tie.Need-load-labels-requires
-load-labels-requires c κs = length-replicate {A = ℕ} 65 0
+load-labels-requires c κs = length-replicate {A = ℕ} most-loaded 0
 
 prefix : (c : tie.After-load-labels) → c .load-labels .result ≤ length (c .load-labels .last .1 .0)
 prefix c = omega (arith, c .load-labels .ensures .long, c .load-labels .ensures .many)
@@ -70,10 +86,8 @@ same-length-2 c = c .before .before .refuse-into2 .kept .1 .0
 
 returns-2 : tie.Need-returns-2
 returns-2 c =
-    let asked = c .before .before .before .before .before .before .before .before in
-    apply-refused (start asked .args .bytes .now) (is-bytes asked) (start asked .pre .0) (even asked) (loaded asked .load-labels .ensures .labels)
-    (omega (arith, length-replicate {A = ℕ} 59404 0)) (omega (arith, length-replicate {A = ℕ} 3072 0)) (omega (arith, length-replicate {A = ℕ} 1024 0)) (asked .apply .ensures)
-    (c .before .before .before .before .if2 .taken) (c .before .before .refuse-into2 .ensures)
+    let asked = refused-by (c .before .before .before .before) in
+    apply-refused (applying asked) (c .before .before .before .before .if2 .taken) (c .before .before .refuse-into2 .ensures)
 
 cast-len : tie.Need-cast-len
 cast-len c = search needs
@@ -81,9 +95,7 @@ cast-len c = search needs
 inside : (c : tie.After-struct-known) → called c .apply .result .len ≤ length (called c .apply .last .1 .1 .0)
 inside c =
     let asked = called c in
-    lattice-front (start asked .args .bytes .now) (is-bytes asked) (start asked .pre .0) (even asked) (loaded asked .load-labels .ensures .labels)
-    (omega (arith, length-replicate {A = ℕ} 59404 0)) (omega (arith, length-replicate {A = ℕ} 3072 0)) (omega (arith, length-replicate {A = ℕ} 1024 0)) (asked .apply .ensures)
-    (c .before .if2 .left) .1
+    lattice-front (applying asked) (c .before .if2 .left) .1
 
 array-share-prefix-lattice : tie.Need-array-share-prefix-lattice
 array-share-prefix-lattice c = inside c
@@ -94,9 +106,7 @@ slice-aggregate-list-into c = sym (length-take-le (called (c .before) .apply .re
 list-into-requires : tie.Need-list-into-requires
 list-into-requires c κs =
     let asked = called (c .before .before) in (
-      lattice-accepted (start asked .args .bytes .now) (is-bytes asked) (start asked .pre .0) (even asked) (loaded asked .load-labels .ensures .labels)
-          (omega (arith, length-replicate {A = ℕ} 59404 0)) (omega (arith, length-replicate {A = ℕ} 3072 0)) (omega (arith, length-replicate {A = ℕ} 1024 0)) (asked .apply .ensures)
-          (c .before .before .before .if2 .left),
+      lattice-accepted (applying asked) (c .before .before .before .if2 .left),
       start asked .pre .1,
     )
 
@@ -107,9 +117,7 @@ returns-3 : tie.Need-returns-3
 returns-3 c =
     let known = c .before .before .before .before .before in
     let asked = called known in
-    lattice-listed (start asked .args .bytes .now) (is-bytes asked) (start asked .pre .0) (even asked) (loaded asked .load-labels .ensures .labels)
-    (omega (arith, length-replicate {A = ℕ} 59404 0)) (omega (arith, length-replicate {A = ℕ} 3072 0)) (omega (arith, length-replicate {A = ℕ} 1024 0)) (asked .apply .ensures)
-    (known .before .if2 .left) (c .before .before .list-into .ensures)
+    lattice-listed (applying asked) (known .before .if2 .left) (c .before .before .list-into .ensures)
 
 pub list-applied-spec : {M : Type 1} → statement M
 list-applied-spec =

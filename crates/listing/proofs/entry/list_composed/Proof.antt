@@ -3,21 +3,31 @@ use mathlib.Core.Path.{sym}
 use Prim.Native.Nat.{ℕ, _≤_}
 use native.Mathlib.Omega.{arith}
 use borrow.Author.Needs.{needs}
-use lib.ListN.{length, length-replicate}
+use lib.ListN.{length, replicate, length-replicate}
 use lib.Seq.{length-take-le}
-use Rattle.wire.specs.Bytes.{Bytes}
-use Rattle.listing.proofs.Steps.{compose-refused, composed-front, composed-accepted, composed-listed}
+use Rattle.transducer.specs.Format.{max-states, max-bytes, max-origins}
+use Rattle.listing.proofs.Steps.{Composing, compose-refused, composed-front, composed-accepted, composed-listed}
 use Rattle.listing.proofs.entry.list_composed.Statement.{statement}
 use Rattle.listing.proofs.entry.list_composed.Tie as tie
 
 abbrev start : tie.After-compose → tie.Start
 start c = c .before .before .before .before .before .before .before .before
 
-is-left : (c : tie.After-compose) → Bytes (start c .args .left .now)
-is-left c = λ i. omega (arith, c .before .before .before .before .before .before .before .shared-slice-known .given i)
+composing : (c : tie.After-compose)
+    → Composing (start c .args .left .now) (start c .args .right .now) (c .compose .result) (replicate max-bytes 0) (c .compose .last .1 .1 .0)
+    (replicate max-origins 0) (c .compose .last .1 .1 .1 .0) (replicate max-states 0) (c .compose .last .1 .1 .1 .1 .0)
+composing c =
+    record {
+      left = λ i. omega (arith, c .before .before .before .before .before .before .before .shared-slice-known .given i);
+      right = λ i. omega (arith, c .before .before .before .before .before .before .shared-slice-known2 .given i);
+      table-room = length-replicate {A = ℕ} max-bytes 0;
+      origins-room = length-replicate {A = ℕ} max-origins 0;
+      states-room = length-replicate {A = ℕ} max-states 0;
+      says = c .compose .ensures;
+    }
 
-is-right : (c : tie.After-compose) → Bytes (start c .args .right .now)
-is-right c = λ i. omega (arith, c .before .before .before .before .before .before .shared-slice-known2 .given i)
+abbrev refused-by : tie.Then1 → tie.After-compose
+refused-by c = c .before .before .before .before
 
 abbrev called : tie.After-struct-known → tie.After-compose
 called c = c .before .before .before .before .before
@@ -42,9 +52,8 @@ same-length c = c .before .before .refuse-into .kept .1 .0
 
 returns : tie.Need-returns
 returns c =
-    let asked = c .before .before .before .before .before .before .before .before in
-    compose-refused (is-left asked) (is-right asked) (start asked .args .bytes .now) (length-replicate {A = ℕ} 59404 0) (length-replicate {A = ℕ} 6144 0) (length-replicate {A = ℕ} 1024 0) (asked .compose .ensures)
-    (c .before .before .before .before .if1 .taken) (c .before .before .refuse-into .ensures)
+    let asked = refused-by (c .before .before .before .before) in
+    compose-refused (start asked .args .bytes .now) (composing asked) (c .before .before .before .before .if1 .taken) (c .before .before .refuse-into .ensures)
 
 cast-len : tie.Need-cast-len
 cast-len c = search needs
@@ -52,20 +61,19 @@ cast-len c = search needs
 inside : (c : tie.After-struct-known) → called c .compose .result .len ≤ length (called c .compose .last .1 .1 .0)
 inside c =
     let asked = called c in
-    composed-front (is-left asked) (is-right asked) (start asked .args .bytes .now) (length-replicate {A = ℕ} 59404 0) (length-replicate {A = ℕ} 6144 0) (length-replicate {A = ℕ} 1024 0) (asked .compose .ensures)
-    (c .before .if1 .left) .1
+    composed-front (start asked .args .bytes .now) (composing asked) (c .before .if1 .left) .1
 
 array-share-prefix-table : tie.Need-array-share-prefix-table
 array-share-prefix-table c = inside c
 
 slice-aggregate-list-applied : tie.Need-slice-aggregate-list-applied
-slice-aggregate-list-applied c = sym (length-take-le (called (c .before) .compose .result .len) (called (c .before) .compose .last .1 .1 .0) (inside (c .before)))
+slice-aggregate-list-applied c =
+    sym (length-take-le (called (c .before) .compose .result .len) (called (c .before) .compose .last .1 .1 .0) (inside (c .before)))
 
 list-applied-requires : tie.Need-list-applied-requires
 list-applied-requires c κs =
     let asked = called (c .before .before) in (
-      composed-accepted (is-left asked) (is-right asked) (start asked .args .bytes .now) (length-replicate {A = ℕ} 59404 0) (length-replicate {A = ℕ} 6144 0) (length-replicate {A = ℕ} 1024 0) (asked .compose .ensures)
-          (c .before .before .before .if1 .left),
+      composed-accepted (start asked .args .bytes .now) (composing asked) (c .before .before .before .if1 .left),
       start asked .pre,
     )
 
@@ -76,8 +84,7 @@ returns-2 : tie.Need-returns-2
 returns-2 c =
     let known = c .before .before .before .before .before in
     let asked = called known in
-    composed-listed (is-left asked) (is-right asked) (start asked .args .bytes .now) (length-replicate {A = ℕ} 59404 0) (length-replicate {A = ℕ} 6144 0) (length-replicate {A = ℕ} 1024 0) (asked .compose .ensures)
-    (known .before .if1 .left) (c .before .before .list-applied .ensures)
+    composed-listed (start asked .args .bytes .now) (composing asked) (known .before .if1 .left) (c .before .before .list-applied .ensures)
 
 pub list-composed-spec : {M : Type 1} → statement M
 list-composed-spec =

@@ -2,7 +2,7 @@
 use mathlib.Core.Path.{_≡_, refl, sym, ap, _∙_}
 use mathlib.Core.Bool.{false}
 use mathlib.Core.List.{_∷_, _++_}
-use Prim.Native.Nat.{ℕ, _+_, _≤_, _<_}
+use Prim.Native.Nat.{ℕ, _+_, _≤_}
 use native.Mathlib.Omega.{arith}
 use borrow.Author.Needs.{needs}
 use lib.ListN.{length, length-append}
@@ -11,7 +11,7 @@ use Rattle.paths.specs.Count.{path-count}
 use Rattle.paths.specs.Sweep.{at-state}
 use Rattle.paths.proofs.Ready.{Sized, sized}
 use Rattle.paths.proofs.NthSays.{start-count}
-use Rattle.listing.specs.Text.{decimal, many-word, lines, counted-text}
+use Rattle.listing.specs.Text.{decimal, newline, many-word, lines, counted-text}
 use Rattle.listing.proofs.Wrote.{wrote-then}
 use Rattle.listing.proofs.NthLine.{counted-many, counted-few}
 use Rattle.listing.proofs.lines.put_counted.Statement.{statement}
@@ -23,17 +23,15 @@ start c = c .before .before
 size : (c : tie.After-slice-known) → Sized (decode (start c .args .table .now))
 size c =
     let x = start c in
-    sized (x .args .table .now) (λ i. omega (arith, c .before .shared-slice-known .given i)) (x .pre .0 .ready .opened .accepted)
+    sized (x .args .table .now) (λ i. omega (arith, c .before .shared-slice-known .given i)) (x .pre .0 .prepared .opened .accepted)
 
 -- The count at the start is that of all paths.
-count : (c : tie.After-slice-known) → at-state (start c .args .t7) (start c .args .start) ≡ path-count (decode (start c .args .table .now))
+count : (c : tie.After-slice-known) → at-state (start c .args .t5) (start c .args .shape .start) ≡ path-count (decode (start c .args .table .now))
 count c =
     let x = start c in
     let w = x .pre .0 in
-    start-count (decode (x .args .table .now)) (size c) (x .args .t7) (x .args .start) {is = false} (w .settled) (w .start-is) (sym (w .finite)) refl
-
-low : (c : tie.After-slice-known) → start c .args .start < 1024
-low c = omega (arith, start c .pre .0 .start-is, size c .within .starts, size c .states)
+    start-count (decode (x .args .table .now)) (size c) (x .args .t5) (x .args .shape .start) {is = false} (w .settled) (w .prepared .start-is)
+    (sym (w .finite)) refl
 
 abbrev many : tie.Then1 → tie.After-slice-known
 many c = c .before .before .before
@@ -42,17 +40,17 @@ is-many : (c : tie.Then1) → counted-text (decode (start (many c) .args .table 
 unfolding at-state
 is-many c =
     let x = start (many c) in
-    counted-many (decode (x .args .table .now)) (at-state (x .args .t7) (x .args .start)) (count (many c)) (c .if1 .taken)
+    counted-many (decode (x .args .table .now)) (at-state (x .args .t5) (x .args .shape .start)) (count (many c)) (c .if1 .taken)
 
 abbrev few : tie.Else1 → tie.After-slice-known
 few c = c .before .before .before
 
 abbrev number : (c : tie.Else1) → ℕ
-number c = at-state (start (few c) .args .t7) (start (few c) .args .start)
+number c = at-state (start (few c) .args .t5) (start (few c) .args .shape .start)
 
 is-few : (c : tie.Else1)
     → counted-text (decode (start (few c) .args .table .now))
-    ≡ decimal (number c) ++ (10 ∷ lines (decode (start (few c) .args .table .now)) (number c))
+    ≡ decimal (number c) ++ (newline ∷ lines (decode (start (few c) .args .table .now)) (number c))
 unfolding at-state
 is-few c = counted-few (decode (start (few c) .args .table .now)) (number c) (count (few c)) (c .if1 .left)
 
@@ -62,10 +60,10 @@ room : (c : tie.Else1)
     ≤ length (start (few c) .args .out .now)
 room c =
     let t = decode (start (few c) .args .table .now) in
-    omega (arith, ap length (is-few c) ∙ length-append (decimal (number c)) (10 ∷ lines t (number c)), start (few c) .pre .1)
+    omega (arith, ap length (is-few c) ∙ length-append (decimal (number c)) (newline ∷ lines t (number c)), start (few c) .pre .1)
 
 array-copy-out-all : tie.Need-array-copy-out-all
-array-copy-out-all c = low c
+array-copy-out-all c = start c .pre .0 .prepared .start-below
 
 cast-count : tie.Need-cast-count
 cast-count c = search needs
@@ -102,6 +100,9 @@ put-byte-requires c κs =
     let put = c .before .before .before in
     omega (arith, put .put-decimal .ensures .ends, put .put-decimal .kept .0, room (at-number put))
 
+abbrev newline-of : tie.After-slice-known5 → tie.After-put-byte
+newline-of c = c .before .before .before .before .before .before
+
 abbrev at-newline : tie.After-put-byte → tie.After-put-decimal
 at-newline c = c .before .before .before .before
 
@@ -118,13 +119,13 @@ put-paths-requires c κs =
 
 same-length-2 : tie.Need-same-length-2
 same-length-2 c =
-    let last = c .before .before .before .before .before .before in
-    c .before .before .put-paths .kept .1 .1 .1 .1 .1 .1 .1 .1 .0 ∙ (last .put-byte .kept .0 ∙ at-newline last .put-decimal .kept .0)
+    let last = newline-of c in
+    c .before .before .put-paths .kept .1 .1 .1 .1 .1 .1 .0 ∙ (last .put-byte .kept .0 ∙ at-newline last .put-decimal .kept .0)
 
 returns-2 : tie.Need-returns-2
 unfolding at-state
 returns-2 c =
-    let last = c .before .before .before .before .before .before in
+    let last = newline-of c in
     let put = at-newline last in
     rw (is-few (at-number put)) (wrote-then (put .put-decimal .ensures) (wrote-then (last .put-byte .ensures) (c .before .before .put-paths .ensures)))
 

@@ -4,8 +4,8 @@ use Prim.Native.Nat.{ℕ}
 use native.Mathlib.Omega.{arith}
 use borrow.Author.Needs.{needs}
 use lib.ListN.{replicate, length-replicate}
-use Rattle.transducer.specs.Format.{decode}
-use Rattle.paths.proofs.Ready.{Sized, sized}
+use Rattle.transducer.specs.Format.{max-path, decode}
+use Rattle.paths.proofs.Ready.{Sized, sized, prepared-ready}
 use Rattle.paths.proofs.NthSays.{Found, found}
 use Rattle.listing.proofs.NthLine.{Got, got}
 use Rattle.listing.proofs.lines.put_path.Statement.{statement}
@@ -17,7 +17,7 @@ start c = c .before .before .before .before
 size : (c : tie.After-walk) → Sized (decode (start c .args .table .now))
 size c =
     let x = start c in
-    sized (x .args .table .now) (λ i. omega (arith, c .before .before .before .shared-slice-known .given i)) (x .pre .0 .ready .opened .accepted)
+    sized (x .args .table .now) (λ i. omega (arith, c .before .before .before .shared-slice-known .given i)) (x .pre .0 .prepared .opened .accepted)
 
 abbrev walked : tie.After-walk → List ℕ
 walked c = c .walk .last .1 .1 .1 .1 .1 .1 .1 .1 .0
@@ -25,8 +25,11 @@ walked c = c .walk .last .1 .1 .1 .1 .1 .1 .1 .1 .0
 path : (c : tie.After-walk) → Found (decode (start c .args .table .now)) (start c .args .k) (c .walk .result) (walked c)
 path c =
     let x = start c in
-    found (decode (x .args .table .now)) (size c) (x .args .k) (c .walk .result) (replicate 1023 0) (walked c) (x .pre .0 .finite) (x .pre .1)
-    (omega (arith, length-replicate {A = ℕ} 1023 0)) (c .walk .ensures .0) (c .walk .ensures .1)
+    found (decode (x .args .table .now)) (size c) (x .args .k) (c .walk .result) (replicate max-path 0) (walked c) (x .pre .0 .finite) (x .pre .1)
+    (omega (arith, length-replicate {A = ℕ} max-path 0)) (c .walk .ensures .0) (c .walk .ensures .1)
+
+abbrev tell-of : tie.After-struct-known → tie.After-tell
+tell-of c = c .before .before .before .before
 
 abbrev behind-walk : tie.After-tell → tie.After-walk
 behind-walk c = c .before .before .before .before
@@ -36,7 +39,8 @@ told : (c : tie.After-tell)
 told c =
     let at = behind-walk c in
     let x = start at in
-    got (decode (x .args .table .now)) (size at) (x .pre .0 .finite) (x .pre .1) (omega (arith, length-replicate {A = ℕ} 1023 0)) (path at) (c .tell .ensures)
+    got (decode (x .args .table .now)) (size at) (x .pre .0 .finite) (x .pre .1) (omega (arith, length-replicate {A = ℕ} max-path 0)) (path at)
+    (c .tell .ensures)
 
 slice-aggregate-walk : tie.Need-slice-aggregate-walk
 slice-aggregate-walk c = search needs
@@ -45,7 +49,8 @@ walk-requires : tie.Need-walk-requires
 walk-requires c κs =
     let x = c .before .before .before in
     let w = x .pre .0 in
-    (w .ready, w .finals, w .settled, w .start-is, w .finite, x .pre .1, omega (arith, length-replicate {A = ℕ} 1023 0))
+    let p = w .prepared in
+    (prepared-ready p, p .finals, w .settled, p .start-is, w .finite, x .pre .1, omega (arith, length-replicate {A = ℕ} max-path 0))
 
 slice-aggregate-tell : tie.Need-slice-aggregate-tell
 slice-aggregate-tell c = search needs
@@ -56,9 +61,9 @@ slice-aggregate-tell-2 c = search needs
 tell-requires : tie.Need-tell-requires
 tell-requires c κs =
     let at = c .before .before .before in
-    let w = start at .pre .0 in
+    let w = start at .pre .0 .prepared in
     let p = path at in
-    (w .ready .opened, w .start-is, w .finals, p .inside, p .few, p .accepted, omega (arith, length-replicate {A = ℕ} 1023 0))
+    (w .opened, w .start-is, w .finals, p .inside, p .few, p .accepted, omega (arith, length-replicate {A = ℕ} max-path 0))
 
 slice-aggregate-put-line : tie.Need-slice-aggregate-put-line
 slice-aggregate-put-line c = search needs
@@ -68,7 +73,7 @@ cast-put-line c = search needs
 
 put-line-requires : tie.Need-put-line-requires
 put-line-requires c κs =
-    let at = c .before .before .before .before in
+    let at = tell-of c in
     let known = told at in
     (known .inside, rw (known .is-line) (start (behind-walk at) .pre .2))
 
@@ -76,7 +81,7 @@ same-length : tie.Need-same-length
 same-length c = search needs
 
 returns : tie.Need-returns
-returns c = rw (← told (c .before .before .before .before .before .before .before) .is-line) (c .before .before .put-line .ensures)
+returns c = rw (← told (tell-of (c .before .before .before)) .is-line) (c .before .before .put-line .ensures)
 
 pub put-path-spec : {M : Type 1} → statement M
 put-path-spec =

@@ -12,11 +12,11 @@ use Rattle.listing.proofs.lines.put_paths.Statement.{statement}
 use Rattle.listing.proofs.lines.put_paths.Tie as tie
 
 abbrev Inv-loop : tie.InvT-loop
-Inv-loop table first n start index codes counts count out₀ at end₀ k₀ out end k =
+Inv-loop table shape index codes counts count out₀ at end₀ k₀ out end k =
     (k ≤ count) × (length out ≡ length out₀) × Wrote out₀ out at end (lines (decode table) k)
 
 abbrev μ-loop : tie.MeasureT-loop
-μ-loop table first n start index codes counts count out₀ at end₀ k₀ out end k = count - k
+μ-loop table shape index codes counts count out₀ at end₀ k₀ out end k = count - k
 
 abbrev start : tie.In-loop Inv-loop μ-loop → tie.Start Inv-loop μ-loop
 start c = c .before .before .before .before
@@ -49,7 +49,7 @@ loop-again c =
     let turn = put .before .before in
     let l = turn .before .loop in (
       omega arith,
-      put .put-path .kept .1 .1 .1 .1 .1 .1 .1 .1 .0 ∙ l .inv .1,
+      put .put-path .kept .1 .1 .1 .1 .1 .1 .0 ∙ l .inv .1,
       lines-next (decode (start turn .args .table .now)) (l .k) (l .inv .2) (put .put-path .ensures),
     )
 

@@ -17,6 +17,9 @@ word c = c .before .before .before .before
 abbrev shown : tie.After-put-byte → tie.After-put-decimal
 shown c = c .before .before .before .before
 
+abbrev put-of : tie.After-slice-known5 → tie.After-put-byte
+put-of c = c .before .before .before .before .before .before
+
 abbrev start-of : tie.After-put-byte → tie.Start
 start-of c = start (word (shown c))
 
@@ -40,17 +43,20 @@ put-byte-requires : tie.Need-put-byte-requires
 put-byte-requires c κs =
     let put = c .before .before .before in
     let x = start (word put) in
-    omega (arith, put .put-decimal .ensures .ends, put .put-decimal .kept .0, word put .put-bytes .ensures .ends, word put .put-bytes .kept .0, ten-digits (x .args .number) (omega (arith, x .fits .number)), x .pre)
+    let digits = ten-digits (x .args .number) (omega (arith, x .fits .number)) in
+    let before = word put .put-bytes in
+    omega (arith, put .put-decimal .ensures .ends, put .put-decimal .kept .0, before .ensures .ends, before .kept .0, digits, x .pre)
 
 clear8-requires : tie.Need-clear8-requires
 clear8-requires c κs =
     let put = c .before .before .before in
     let x = start-of put in
-    omega (arith, whole put .ends, refused-short (x .args .number) (omega (arith, x .fits .number)), put .put-byte .kept .0, shown put .put-decimal .kept .0, word (shown put) .put-bytes .kept .0, x .pre)
+    let short = refused-short (x .args .number) (omega (arith, x .fits .number)) in
+    omega (arith, whole put .ends, short, put .put-byte .kept .0, shown put .put-decimal .kept .0, word (shown put) .put-bytes .kept .0, x .pre)
 
 cast-t19 : tie.Need-cast-t19
 cast-t19 c =
-    let put = c .before .before .before .before .before .before in
+    let put = put-of c in
     let x = start-of put in
     omega (arith, whole put .ends, refused-short (x .args .number) (omega (arith, x .fits .number)))
 
@@ -59,9 +65,10 @@ same-length c = search needs
 
 returns : tie.Need-returns
 returns c =
-    let put = c .before .before .before .before .before .before in
+    let put = put-of c in
     let x = start-of put in
-    wrote-whole (whole put) (omega (arith, refused-short (x .args .number) (omega (arith, x .fits .number)))) (x .pre) (c .before .before .clear8 .ensures) (x .args .number)
+    wrote-whole (whole put) (omega (arith, refused-short (x .args .number) (omega (arith, x .fits .number)))) (x .pre) (c .before .before .clear8 .ensures)
+    (x .args .number)
 
 pub refuse-into-spec : {M : Type 1} → statement M
 refuse-into-spec =

@@ -41,7 +41,8 @@ loop-again c =
     let turn = c .before .before .before .before .before in
     let l = turn .before .loop in
     let x = turn .before .before .before .before .args in
-    (omega arith, omega (arith, called .ensures .ends), called .kept .0 ∙ l .inv .2, wrote-next (x .text .now) (l .i) (turn .loop-test .taken) (l .inv .3) (called .ensures))
+    let next = wrote-next (x .text .now) (l .i) (turn .loop-test .taken) (l .inv .3) (called .ensures) in
+    (omega arith, omega (arith, called .ensures .ends), called .kept .0 ∙ l .inv .2, next)
 
 same-length : tie.Need-same-length Inv-loop μ-loop
 same-length c = c .before .loop .inv .2

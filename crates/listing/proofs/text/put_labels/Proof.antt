@@ -68,7 +68,8 @@ loop-again c =
     let x = at .before .before .before .before in (
       omega arith,
       second .put-decimal .kept .0 ∙ (first .put-byte .kept .0 ∙ l .inv .1),
-      labels-next (x .args .labels .now) (l .i) (omega (arith, at .loop-test .taken, x .pre .0)) (l .inv .2) (first .put-byte .ensures) (second .put-decimal .ensures),
+      labels-next (x .args .labels .now) (l .i) (omega (arith, at .loop-test .taken, x .pre .0)) (l .inv .2) (first .put-byte .ensures)
+          (second .put-decimal .ensures),
     )
 
 same-length : tie.Need-same-length Inv-loop μ-loop

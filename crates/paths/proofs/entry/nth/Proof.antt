@@ -1,4 +1,4 @@
--- `nth-bad` to `nth-found` say what is answered in each case; `headed` has the numbers that the calls ask for, `found` what is told of the path.
+-- `nth-bad` to `nth-found` say what is answered in each case; what the calls ask for is what was prepared, and `found` has what is told of the path.
 use borrow.Author.Needs.{needs}
 use mathlib.Core.Path.{_≡_, refl, sym, _∙_}
 use mathlib.Core.Bool.{false}
@@ -7,12 +7,10 @@ use Prim.Native.Nat.{ℕ, _≤_, _<_}
 use native.Mathlib.Omega.{arith}
 use Rattle.wire.specs.Bytes.{Bytes}
 use Rattle.transducer.specs.Format.{refusal, decode}
-use Rattle.transducer.specs.Leaf.{Opened, Finals-by-state}
 use Rattle.paths.specs.Count.{endless, path-count}
-use Rattle.paths.specs.Sweep.{Ready, at-state}
-use Rattle.paths.proofs.Ready.{Sized, Headed, sized, headed, headed-opened}
+use Rattle.paths.specs.Sweep.{at-state}
+use Rattle.paths.proofs.Ready.{Sized, sized, prepared-ready}
 use Rattle.paths.proofs.NthSays.{Found, found, start-count, nth-bad, nth-short-arcs, nth-short-labels, nth-endless, nth-none, nth-found}
-use Rattle.transducer.proofs.Offsets.{length-accepted}
 use Rattle.paths.proofs.entry.nth.Statement.{statement}
 use Rattle.paths.proofs.entry.nth.Tie as tie
 
@@ -26,20 +24,14 @@ entry c = c .before .before .before .before
 abbrev start : tie.Else3 → tie.Start
 start c = entry (at-refusal c)
 
-abbrev at-header : tie.After-struct-known3 → tie.After-header
-at-header c = c .before .before .before
+abbrev passed : tie.After-prepare → tie.Else3
+passed c = c .before .before .before
 
-abbrev at-first : tie.After-put-index → tie.After-arcs-at
-at-first c = c .before .before .before
+abbrev prepared : tie.After-counts-by-state → tie.After-prepare
+prepared c = c .before .before .before
 
-abbrev at-index : tie.After-codes2 → tie.After-put-index
-at-index c = c .before .before .before .before
-
-abbrev at-codes : tie.After-counts-by-state → tie.After-codes2
-at-codes c = c .before
-
-abbrev header-of : tie.After-counts-by-state → tie.After-header
-header-of c = at-header (at-first (at-index (at-codes c)) .before)
+abbrev start-of : tie.After-counts-by-state → tie.Start
+start-of c = start (passed (prepared c))
 
 abbrev not-endless : tie.Else5 → tie.Else4
 not-endless c = c .before .before .before .before
@@ -57,71 +49,49 @@ accepted c = sym (at-refusal c .refusal .ensures) ∙ c .before .before .if1 .le
 size : (c : tie.Else3) → Sized (decode (start c .args .table .now))
 size c = sized (start c .args .table .now) (is-bytes c) (accepted c)
 
-head : (c : tie.After-header) → Headed (start (c .before) .args .table .now) (c .header .result)
-head c = headed (start (c .before) .args .table .now) (is-bytes (c .before)) (accepted (c .before)) (c .header .result) (c .header .ensures)
-
-opened : (c : tie.After-arcs-at) → Opened (start (at-header (c .before) .before) .args .table .now) (c .arcs-at .result)
-opened c =
-    let header = at-header (c .before) in
-    headed-opened (start (header .before) .args .table .now) (header .header .result) (c .arcs-at .result) (head header) (c .arcs-at .ensures)
-
--- The first-arc index and the final codes, as they are put.
-abbrev index : tie.After-put-index → List ℕ
-index c = c .put-index .last .1 .1 .1 .1 .0
-
-abbrev codes : tie.After-put-codes → List ℕ
-codes c = c .put-codes .last .1 .1 .0
-
-ready : (c : tie.After-put-index)
-    → Ready (start (at-header (at-first c .before) .before) .args .table .now) (at-first c .arcs-at .result)
-    (at-header (at-first c .before) .header .result .states) (index c)
-ready c =
-    let first = at-first c in
-    record { opened = opened first; states-are = head (at-header (first .before)) .states-are; indexed = c .put-index .ensures }
-
-coded : (c : tie.After-codes2)
-    → Finals-by-state (decode (start (at-header (at-first (at-index c) .before) .before) .args .table .now)) (codes (c .before .before))
-coded c = c .before .before .put-codes .ensures
-
 -- The count at the start.
 counted : (c : tie.Else4)
-    → at-state (c .before .counts-by-state .result .counts) (header-of (c .before) .header .result .start) ≡ path-count
-    (decode (start (header-of (c .before) .before) .args .table .now))
+    → at-state (c .before .counts-by-state .result .counts) (prepared (c .before) .prepare .result .start) ≡ path-count
+    (decode (start-of (c .before) .args .table .now))
 counted c =
     let totals = c .before .counts-by-state in
-    let header = header-of (c .before) in
-    start-count (decode (start (header .before) .args .table .now)) (size (header .before)) (totals .result .counts) (header .header .result .start)
-    (totals .ensures .settled) (head header .start-is) (totals .ensures .endless-is) (c .if4 .left)
+    let shape = prepared (c .before) .prepare in
+    start-count (decode (start-of (c .before) .args .table .now)) (size (passed (prepared (c .before)))) (totals .result .counts) (shape .result .start)
+    (totals .ensures .settled) (shape .ensures .start-is) (totals .ensures .endless-is) (c .if4 .left)
 
-finite : (c : tie.Else4) → endless (decode (start (header-of (c .before) .before) .args .table .now)) ≡ false
+finite : (c : tie.Else4) → endless (decode (start-of (c .before) .args .table .now)) ≡ false
 finite c = sym (c .before .counts-by-state .ensures .endless-is) ∙ c .if4 .left
 
-there : (c : tie.Else5) → start (header-of (tested c) .before) .args .k < path-count (decode (start (header-of (tested c) .before) .args .table .now))
+there : (c : tie.Else5) → start-of (tested c) .args .k < path-count (decode (start-of (tested c) .args .table .now))
 unfolding at-state
 there c =
-    let header = header-of (tested c) in
-    let below : start (header .before) .args .k < at-state (tested c .counts-by-state .result .counts) (header .header .result .start) = c .if5 .left in
-    let is : at-state (tested c .counts-by-state .result .counts) (header .header .result .start) ≡ path-count
-    (decode (start (header .before) .args .table .now)) = counted (not-endless c) in
+    let asked = tested c in
+    let begin = prepared asked .prepare .result .start in
+    let below : start-of asked .args .k < at-state (asked .counts-by-state .result .counts) begin = c .if5 .left in
+    let is : at-state (asked .counts-by-state .result .counts) begin ≡ path-count (decode (start-of asked .args .table .now)) = counted (not-endless c) in
     omega arith
 
 -- The path that was walked.
 abbrev walking : tie.After-walk → tie.Else5
 walking c = c .before .before .before .before
 
+abbrev walk-of : tie.After-tell-arg2 → tie.After-walk
+walk-of c = c .before .before .before .before .before
+
+abbrev tell-of : tie.After-slice-known4 → tie.After-tell
+tell-of c = c .before .before
+
 abbrev walked : tie.After-walk → List ℕ
 walked c = c .walk .last .1 .1 .1 .1 .1 .1 .1 .1 .0
 
 path : (c : tie.After-walk)
-    → Found (decode (start (header-of (tested (walking c)) .before) .args .table .now)) (start (header-of (tested (walking c)) .before) .args .k)
-    (c .walk .result) (walked c)
+    → Found (decode (start-of (tested (walking c)) .args .table .now)) (start-of (tested (walking c)) .args .k) (c .walk .result) (walked c)
 path c =
     let at = walking c in
-    let passed = header-of (tested at) .before in
-    let a = start passed .args in
-    found (decode (a .table .now)) (size passed) (a .k) (c .walk .result) (a .arcs .now) (walked c) (finite (not-endless at)) (there at)
-    (passed .before .if2 .left)
-    (c .walk .ensures .0) (c .walk .ensures .1)
+    let before-all = passed (prepared (tested at)) in
+    let a = start before-all .args in
+    found (decode (a .table .now)) (size before-all) (a .k) (c .walk .result) (a .arcs .now) (walked c) (finite (not-endless at)) (there at)
+    (before-all .before .if2 .left) (c .walk .ensures .0) (c .walk .ensures .1)
 
 refusal-requires : tie.Need-refusal-requires
 refusal-requires c κs = tt
@@ -152,39 +122,13 @@ returns-3 c =
     nth-short-labels (a .table .now) (a .k) (c .before .before .before .before .refusal .ensures) (c .before .before .before .if1 .left)
     (c .before .before .if2 .left) (c .before .if3 .taken) (c .refused3 .ensures)
 
-header-requires : tie.Need-header-requires
-header-requires c κs = omega (arith, length-accepted (start c .args .table .now) (is-bytes c) (accepted c))
-
-cast-n : tie.Need-cast-n
-cast-n c = search needs
-
-cast-f : tie.Need-cast-f
-cast-f c = search needs
-
-cast-start : tie.Need-cast-start
-cast-start c = search needs
-
-arcs-at-requires : tie.Need-arcs-at-requires
-arcs-at-requires c κs = omega (arith, head (at-header c) .few-finals)
-
-cast-put-index : tie.Need-cast-put-index
-cast-put-index c = search needs
-
-put-index-requires : tie.Need-put-index-requires
-put-index-requires c κs =
-    let first = c .before .before in
-    let known = head (at-header (first .before)) in
-    (opened first, known .states-are, known .arcs-are, refl)
-
-put-codes-requires : tie.Need-put-codes-requires
-put-codes-requires c κs =
-    let first = at-first (c .before) in
-    (opened first .accepted, head (at-header (first .before)) .finals-are, refl)
+prepare-requires : tie.Need-prepare-requires
+prepare-requires c κs = (accepted (c .before .before), refl, refl)
 
 counts-by-state-requires : tie.Need-counts-by-state-requires
 counts-by-state-requires c κs =
-    let index = at-index c in
-    (ready index, head (at-header (at-first index .before)) .start-is, coded c)
+    let known = c .before .before .prepare .ensures in
+    (prepared-ready known, known .start-is, known .finals)
 
 refused-requires-4 : tie.Need-refused-requires-4
 refused-requires-4 c κs = tt
@@ -192,13 +136,13 @@ refused-requires-4 c κs = tt
 returns-4 : tie.Need-returns-4
 returns-4 c =
     let asked = c .before .before in
-    let passed = header-of asked .before in
-    let a = start passed .args in
-    nth-endless (a .table .now) (a .k) (at-refusal passed .refusal .ensures) (passed .before .before .if1 .left) (passed .before .if2 .left)
-    (passed .if3 .left) (asked .counts-by-state .ensures .endless-is) (c .before .if4 .taken) (c .refused4 .ensures)
+    let all = passed (prepared asked) in
+    let a = start all .args in
+    nth-endless (a .table .now) (a .k) (at-refusal all .refusal .ensures) (all .before .before .if1 .left) (all .before .if2 .left)
+    (all .if3 .left) (asked .counts-by-state .ensures .endless-is) (c .before .if4 .taken) (c .refused4 .ensures)
 
 array-copy-out-all : tie.Need-array-copy-out-all
-array-copy-out-all c = head (header-of (c .before .before)) .start-below
+array-copy-out-all c = prepared (c .before .before) .prepare .ensures .start-below
 
 cast-if5 : tie.Need-cast-if5
 cast-if5 c = search needs
@@ -211,42 +155,35 @@ unfolding at-state
 returns-5 c =
     let at = c .before .before .before .before .before in
     let asked = at .before in
-    let header = header-of asked in
-    let passed = header .before in
-    let a = start passed .args in
-    let most : at-state (asked .counts-by-state .result .counts) (header .header .result .start) ≤ a .k = c .before .if5 .taken in
-    let is : at-state (asked .counts-by-state .result .counts) (header .header .result .start) ≡ path-count (decode (a .table .now)) = counted at in
-    nth-none (a .table .now) (a .k) (at-refusal passed .refusal .ensures) (passed .before .before .if1 .left) (passed .before .if2 .left)
-    (passed .if3 .left) (asked .counts-by-state .ensures .endless-is) (at .if4 .left) (omega arith) (c .refused5 .ensures)
+    let begin = prepared asked .prepare .result .start in
+    let all = passed (prepared asked) in
+    let a = start all .args in
+    let most : at-state (asked .counts-by-state .result .counts) begin ≤ a .k = c .before .if5 .taken in
+    let is : at-state (asked .counts-by-state .result .counts) begin ≡ path-count (decode (a .table .now)) = counted at in
+    nth-none (a .table .now) (a .k) (at-refusal all .refusal .ensures) (all .before .before .if1 .left) (all .before .if2 .left)
+    (all .if3 .left) (asked .counts-by-state .ensures .endless-is) (at .if4 .left) (omega arith) (c .refused5 .ensures)
 
 walk-requires : tie.Need-walk-requires
 walk-requires c κs =
     let at = c .before .before .before in
     let asked = tested at in
-    let index = at-index (at-codes asked) in (
-      ready index,
-      coded (at-codes asked),
+    let known = prepared asked .prepare .ensures in (
+      prepared-ready known,
+      known .finals,
       asked .counts-by-state .ensures .settled,
-      head (header-of asked) .start-is,
+      known .start-is,
       finite (not-endless at),
       there at,
-      header-of asked .before .before .if2 .left,
+      passed (prepared asked) .before .if2 .left,
     )
 
 tell-requires : tie.Need-tell-requires
 tell-requires c κs =
-    let told = c .before .before .before .before .before in
-    let asked = tested (walking told) in
-    let known = head (header-of asked) in (
-      opened (at-first (at-index (at-codes asked))),
-      known .start-is,
-      coded (at-codes asked),
-      path told .inside,
-      path told .few,
-      path told .accepted,
-      header-of
-          asked .before .if3 .left,
-    )
+    let told = walk-of c in
+    let shape = prepared (tested (walking told)) in
+    let known = shape .prepare .ensures in
+    let p = path told in
+    (known .opened, known .start-is, known .finals, p .inside, p .few, p .accepted, passed shape .if3 .left)
 
 same-length : tie.Need-same-length
 same-length c = search needs
@@ -256,14 +193,14 @@ same-length-2 c = search needs
 
 returns-6 : tie.Need-returns-6
 returns-6 c =
-    let told = c .before .before .before .before .before .before .before .before in
+    let told = walk-of (tell-of c .before) in
     let at = walking told in
     let asked = tested at in
-    let passed = header-of asked .before in
-    let a = start passed .args in
-    nth-found (a .table .now) (a .k) (at-refusal passed .refusal .ensures) (passed .before .before .if1 .left) (passed .before .if2 .left)
-    (passed .if3 .left) (asked .counts-by-state .ensures .endless-is) (not-endless at .if4 .left) (there at)
-    (told .walk .ensures .0) (path told) (c .before .before .tell .ensures)
+    let all = passed (prepared asked) in
+    let a = start all .args in
+    nth-found (a .table .now) (a .k) (at-refusal all .refusal .ensures) (all .before .before .if1 .left) (all .before .if2 .left)
+    (all .if3 .left) (asked .counts-by-state .ensures .endless-is) (not-endless at .if4 .left) (there at)
+    (told .walk .ensures .0) (path told) (tell-of c .tell .ensures)
 
 pub nth-spec : {M : Type 1} → statement M
 nth-spec =
@@ -276,14 +213,7 @@ nth-spec =
     returns-2
     refused-requires-3
     returns-3
-    header-requires
-    cast-n
-    cast-f
-    cast-start
-    arcs-at-requires
-    cast-put-index
-    put-index-requires
-    put-codes-requires
+    prepare-requires
     counts-by-state-requires
     refused-requires-4
     returns-4

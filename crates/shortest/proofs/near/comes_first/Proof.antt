@@ -1,6 +1,6 @@
 -- Equal costs leave the number of arcs to decide, others decide themselves.
-use mathlib.Core.Path.{_≡_, refl}
-use mathlib.Core.Bool.{Bool, true, false, _||_}
+use mathlib.Core.Path.{_≡_, sym}
+use mathlib.Core.Bool.{or-false}
 use Prim.Native.Nat.{ℕ}
 use native.Mathlib.Omega.{arith}
 use borrow.Author.Tests.{eq-eqb, ne-eqb, le-ltb}
@@ -15,11 +15,7 @@ same-cost x l y k e = rw (le-ltb x y (omega arith), eq-eqb x y e)
 
 other-cost : (x l y k : ℕ) → (x ≡ y → ⊥) → ltb x y ≡ nearer x l y k
 unfolding nearer
-other-cost x l y k n = rw (ne-eqb x y n) (or-false (ltb x y))
-  where
-    or-false : (b : Bool) → b ≡ b || false
-    or-false true = refl
-    or-false false = refl
+other-cost x l y k n = rw (ne-eqb x y n) (sym (or-false (ltb x y)))
 
 returns : tie.Need-returns
 returns c = let a = c .before .args in same-cost (a .cost) (a .arcs) (a .other) (a .most) (c .if1 .taken)

@@ -1,25 +1,23 @@
--- The invariant: an arc that makes its source better leads to a state that waits (`Settling`). With each state that comes off, what is to do falls.
-use borrow.Author.Needs.{needs}
+-- The invariant: an arc that makes its source better leads to a state that waits (`Draining`). With each state that comes off, what is to do falls.
 use mathlib.Core.Path.{_≡_, refl}
 use Prim.Native.Nat.{ℕ, _<_}
 use native.Mathlib.Omega.{arith}
 use lib.ListN.{length-replicate}
 use Rattle.wire.specs.Bytes.{Bytes}
-use Rattle.transducer.specs.Format.{Transducer, decode}
-use Rattle.transducer.proofs.Offsets.{length-accepted}
-use Rattle.paths.proofs.Ready.{Sized, Headed, sized, headed}
-use Rattle.shortest.specs.Queue.{Settling, none, to-do}
+use Rattle.transducer.specs.Format.{Transducer, max-states, max-arcs, decode}
+use Rattle.paths.proofs.Ready.{Sized, sized}
+use Rattle.shortest.specs.Queue.{Draining, none, to-do}
 use Rattle.shortest.proofs.Waiting.{pop-state}
-use Rattle.shortest.proofs.Settling.{settling-popped, popped-less, settling-stop}
+use Rattle.shortest.proofs.Draining.{draining-popped, popped-less, draining-stop}
 use Rattle.shortest.proofs.near.drain.Statement.{statement}
 use Rattle.shortest.proofs.near.drain.Tie as tie
 
 abbrev Inv-loop : tie.InvT-loop
-Inv-loop table first arcs costs₀ lens₀ states heads into ring₀ waits₀ count₀ head₀ costs lens ring waits count head =
-    Settling (decode table) none costs lens ring waits head count
+Inv-loop table first states arcs costs₀ lens₀ heads into ring₀ waits₀ count₀ head₀ costs lens ring waits count head =
+    Draining (decode table) none costs lens ring waits head count
 
 abbrev μ-loop : tie.MeasureT-loop
-μ-loop table first arcs costs₀ lens₀ states heads into ring₀ waits₀ count₀ head₀ costs lens ring waits count head = to-do (decode table) costs lens count
+μ-loop table first states arcs costs₀ lens₀ heads into ring₀ waits₀ count₀ head₀ costs lens ring waits count head = to-do (decode table) costs lens count
 
 -- The entry, with what is known of the bytes.
 abbrev Entry : Type 0
@@ -28,20 +26,14 @@ Entry = tie.After-shared-slice-known Inv-loop μ-loop
 abbrev whole : Entry → Transducer
 whole c = decode (c .before .args .table .now)
 
-is-bytes : (c : Entry) → Bytes (c .before .args .table .now)
-is-bytes c = λ i. omega (arith, c .shared-slice-known .given i)
-
 size : (c : Entry) → Sized (whole c)
-size c = sized (c .before .args .table .now) (is-bytes c) (c .before .pre .0 .accepted)
-
-known : (c : tie.After-header Inv-loop μ-loop) → Headed (c .before .before .args .table .now) (c .header .result)
-known c =
-    let from = c .before .before in
-    headed (from .args .table .now) (is-bytes (c .before)) (from .pre .0 .accepted) (c .header .result) (c .header .ensures)
+size c =
+    let bytes : Bytes (c .before .args .table .now) = λ i. omega (arith, c .shared-slice-known .given i) in
+    sized (c .before .args .table .now) bytes (c .before .pre .0 .accepted)
 
 -- The arcs are placed, and all were relaxed once.
-abbrev header-of : tie.After-by-target Inv-loop μ-loop → tie.After-header Inv-loop μ-loop
-header-of c = c .before .before .before .before
+abbrev entry-of : tie.After-by-target Inv-loop μ-loop → Entry
+entry-of c = c .before .before .before
 
 abbrev placed : tie.After-relax-all Inv-loop μ-loop → tie.After-by-target Inv-loop μ-loop
 placed c = c .before .before .before .before .before
@@ -54,7 +46,7 @@ abbrev by-target : Turn → tie.After-by-target Inv-loop μ-loop
 by-target c = placed (c .before .before)
 
 abbrev entry : Turn → Entry
-entry c = header-of (by-target c) .before
+entry c = entry-of (by-target c)
 
 abbrev turn : tie.After-pop Inv-loop μ-loop → Turn
 turn c = c .before .before .before
@@ -67,22 +59,15 @@ is-state c =
     let t = turn c in
     omega (arith, c .pop .ensures .0, pop-state (size (entry t) .states) (t .before .loop .inv .queue) (t .loop-test .taken))
 
-header-requires : tie.Need-header-requires Inv-loop μ-loop
-header-requires c κs = omega (arith, length-accepted (c .before .args .table .now) (is-bytes c) (c .before .pre .0 .accepted))
-
-cast-states : tie.Need-cast-states Inv-loop μ-loop
-cast-states c = search needs
-
 by-target-requires : tie.Need-by-target-requires Inv-loop μ-loop
 by-target-requires c κs =
-    let header = c .before .before .before in
-    let pre = header .before .before .pre in
-    (pre .0, known header .states-are, pre .1, refl, length-replicate {A = ℕ} 3072 0)
+    let pre = c .before .before .before .pre in
+    (pre .0, pre .1, pre .2, refl, length-replicate {A = ℕ} max-arcs 0)
 
 relax-all-requires : tie.Need-relax-all-requires Inv-loop μ-loop
 relax-all-requires c κs =
-    let pre = header-of (c .before .before .before .before) .before .before .pre in
-    (pre .0, pre .1, pre .2, pre .3, length-replicate {A = ℕ} 1024 0, refl)
+    let pre = entry-of (c .before .before .before .before) .before .pre in
+    (pre .0, pre .2, pre .3, pre .4, length-replicate {A = ℕ} max-states 0, refl)
 
 loop-holds : tie.Need-loop-holds Inv-loop μ-loop
 loop-holds c = c .relax-all .ensures
@@ -109,7 +94,7 @@ relax-into-requires c κs =
       from .before .pre .0,
       by-target t .by-target .ensures,
       is-state popped,
-      settling-popped (size from) (t .before .loop .inv) (t .loop-test .taken) (popped .pop .result) (popped .pop .ensures .0) (popped .pop .ensures .1)
+      draining-popped (size from) (t .before .loop .inv) (t .loop-test .taken) (popped .pop .result) (popped .pop .ensures .0) (popped .pop .ensures .1)
           (next .behind .ensures .0),
     )
 
@@ -123,7 +108,7 @@ loop-again : tie.Need-loop-again Inv-loop μ-loop
 loop-again c = c .relax-into .ensures .0
 
 returns : tie.Need-returns Inv-loop μ-loop
-returns c = settling-stop (size (header-of (placed (c .before .before)) .before)) (c .before .loop .inv) (c .loop-test .left)
+returns c = draining-stop (size (entry-of (placed (c .before .before)))) (c .before .loop .inv) (c .loop-test .left)
 
 pub drain-spec : {M : Type 1} → statement M
 drain-spec =
@@ -131,8 +116,6 @@ drain-spec =
     (tie.spec
     Inv-loop
     μ-loop
-    header-requires
-    cast-states
     by-target-requires
     relax-all-requires
     loop-holds

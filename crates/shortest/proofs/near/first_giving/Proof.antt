@@ -51,38 +51,46 @@ loop-holds c =
     let a = start' .args in
     seeking-first (decode (a .table .now)) (by-state (a .costs .now)) (by-state (a .lens .now)) (a .s) (a .from) (a .to) (start' .pre .2)
 
-cost-by-requires : tie.Need-cost-by-requires Inv-loop μ-loop
-cost-by-requires c κs = (start c .pre .0, is-arc c)
+by-arc-requires : tie.Need-by-arc-requires Inv-loop μ-loop
+by-arc-requires c κs = (start c .pre .0, is-arc c)
 
-arcs-by-requires : tie.Need-arcs-by-requires Inv-loop μ-loop
-arcs-by-requires c κs = (start (c .before) .pre .0, is-arc (c .before))
+-- What the arc of this turn gives.
+abbrev given : tie.After-struct-known2 Inv-loop μ-loop → tie.After-by-arc Inv-loop μ-loop
+given c = c .before .before
+
+abbrev turn : tie.After-struct-known2 Inv-loop μ-loop → Turn
+turn c = given c .before
 
 returns : tie.Need-returns Inv-loop μ-loop
 returns c =
-    let turn = c .before .before .before in
-    let a = start turn .args in
-    let now' = turn .before .loop in
-    seeking-here (decode (a .table .now)) (by-state (a .costs .now)) (by-state (a .lens .now)) (a .s) (a .from) (a .to) (now' .i) (c .before .before .cost-by .result) (c .before .arcs-by .result) (now' .inv)
-    (turn .loop-test .taken) (c .before .before .cost-by .ensures) (c .before .arcs-by .ensures) (c .if1 .taken)
+    let by = given (c .before) .by-arc in
+    let at = turn (c .before) in
+    let a = start at .args in
+    let now' = at .before .loop in
+    seeking-here (decode (a .table .now)) (by-state (a .costs .now)) (by-state (a .lens .now)) (a .s) (a .from) (a .to) (now' .i)
+    (by .result .cost) (by .result .arcs) (now' .inv) (at .loop-test .taken) (by .ensures .0) (by .ensures .1) (c .if1 .taken)
 
 add-i : tie.Need-add-i Inv-loop μ-loop
-add-i c = let turn = c .before .before .before in omega (arith, is-arc turn, size turn .arcs)
+add-i c = let at = turn (c .before) in omega (arith, is-arc at, size at .arcs)
 
 loop-less : tie.Need-loop-less Inv-loop μ-loop
-loop-less c = omega (arith, c .before .before .before .loop-test .taken)
+loop-less c = omega (arith, turn (c .before) .loop-test .taken)
 
 loop-again : tie.Need-loop-again Inv-loop μ-loop
 loop-again c =
-    let turn = c .before .before .before in
-    let a = start turn .args in
-    let now' = turn .before .loop in
-    seeking-next (decode (a .table .now)) (by-state (a .costs .now)) (by-state (a .lens .now)) (a .s) (a .from) (a .to) (now' .i) (c .before .before .cost-by .result) (c .before .arcs-by .result) (now' .inv)
-    (turn .loop-test .taken) (c .before .before .cost-by .ensures) (c .before .arcs-by .ensures) (c .if1 .left)
+    let by = given (c .before) .by-arc in
+    let at = turn (c .before) in
+    let a = start at .args in
+    let now' = at .before .loop in
+    seeking-next (decode (a .table .now)) (by-state (a .costs .now)) (by-state (a .lens .now)) (a .s) (a .from) (a .to) (now' .i)
+    (by .result .cost) (by .result .arcs) (now' .inv) (at .loop-test .taken) (by .ensures .0) (by .ensures .1) (c .if1 .left)
 
 returns-2 : tie.Need-returns-2 Inv-loop μ-loop
 returns-2 c =
     let a = c .before .before .before .before .before .args in
-    seeking-stop (decode (a .table .now)) (by-state (a .costs .now)) (by-state (a .lens .now)) (a .s) (a .from) (a .to) (c .before .loop .i) (c .before .loop .inv) (c .loop-test .left)
+    let now' = c .before .loop in
+    seeking-stop (decode (a .table .now)) (by-state (a .costs .now)) (by-state (a .lens .now)) (a .s) (a .from) (a .to) (now' .i) (now' .inv)
+    (c .loop-test .left)
 
 pub first-giving-spec : {M : Type 1} → statement M
 first-giving-spec =
@@ -95,8 +103,7 @@ first-giving-spec =
     mul-len
     element-copy-out-len
     loop-holds
-    cost-by-requires
-    arcs-by-requires
+    by-arc-requires
     returns
     add-i
     loop-less

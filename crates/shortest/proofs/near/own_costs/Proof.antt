@@ -40,7 +40,8 @@ loop-again c =
     let turn = c .before .before in
     let start = turn .before .before in
     let now' = turn .before .loop in
-    made-next (start .args .codes .now) (start .args .states) (now' .s) (c .own .result) (now' .costs) (now' .inv) (turn .loop-test .taken) (start .pre .0) (c .own .ensures)
+    made-next (start .args .codes .now) (start .args .states) (now' .s) (c .own .result) (now' .costs) (now' .inv) (turn .loop-test .taken) (start .pre .0)
+    (c .own .ensures)
 
 returns : tie.Need-returns Inv-loop μ-loop
 returns c = let k = c .before .loop .inv in (k .long, λ s h. k .made s (omega (arith, c .loop-test .left)))

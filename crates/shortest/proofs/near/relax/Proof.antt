@@ -1,12 +1,12 @@
--- The arc as it was read; it leaves its source as it was or makes it better (`relaxed-kept`, `relaxed-better`).
+-- The arc as it was read; it leaves its source as it was or makes it better (`relaxes`).
 use borrow.Author.Needs.{needs}
 use borrow.Author.Tests.{not-true, not-false}
 use Prim.Native.Nat.{_<_}
 use native.Mathlib.Omega.{arith}
 use Rattle.wire.specs.Bytes.{Bytes}
-use Rattle.transducer.specs.Format.{decode}
+use Rattle.transducer.specs.Format.{max-states, decode}
 use Rattle.paths.proofs.Ready.{Sized, sized}
-use Rattle.shortest.proofs.Relaxed.{relaxed-states, relaxed-kept, relaxed-better}
+use Rattle.shortest.proofs.Relaxed.{relaxed-states, Relaxes, relaxes}
 use Rattle.shortest.proofs.near.relax.Statement.{statement}
 use Rattle.shortest.proofs.near.relax.Tie as tie
 
@@ -23,7 +23,7 @@ size c =
     let bytes : Bytes bs = λ i. omega (arith, c .before .shared-slice-known .given i) in
     sized bs bytes (start c .pre .0 .accepted)
 
-below : (c : Read) → (c .arc-of .result .source < 1024) × (c .arc-of .result .target < 1024)
+below : (c : Read) → (c .arc-of .result .source < max-states) × (c .arc-of .result .target < max-states)
 below c =
     let a = start c .args in
     let pre = start c .pre in
@@ -37,6 +37,22 @@ read c = c .before .before .before .before .before .before
 
 abbrev summed : tie.After-comes-first → Summed
 summed c = c .before .before .before
+
+-- What is left in either case.
+abbrev from : tie.After-comes-first → tie.Start
+from c = start (read (summed c))
+
+both : (c : tie.After-comes-first)
+    → Relaxes (decode (from c .args .table .now)) (from c .args .i) (from c .args .costs .now) (from c .args .lens .now)
+    (read (summed c) .arc-of .result .source) (summed c .before .before .sum .result) (summed c .one-more .result) (c .comes-first .result)
+both c =
+    let made = summed c in
+    let got = read made in
+    let a = start got .args in
+    let pre = start got .pre in
+    relaxes (decode (a .table .now)) (size got) (a .costs .now) (a .lens .now) (pre .3) (pre .2) (a .i) (pre .1) (got .arc-of .result)
+    (got .arc-of .ensures) (made .before .before .sum .result) (made .one-more .result) (made .before .before .sum .ensures) (made .one-more .ensures)
+    (c .comes-first .ensures)
 
 arc-of-requires : tie.Need-arc-of-requires
 arc-of-requires c κs = (c .before .pre .0, c .before .pre .1)
@@ -81,15 +97,7 @@ comes-first-requires : tie.Need-comes-first-requires
 comes-first-requires c κs = tt
 
 returns : tie.Need-returns
-returns c =
-    let compared = c .before in
-    let made = summed compared in
-    let got = read made in
-    let a = start got .args in
-    let pre = start got .pre in
-    relaxed-kept (decode (a .table .now)) (size got) (a .costs .now) (a .lens .now) (pre .3) (pre .2) (a .i) (pre .1) (got .arc-of .result) (got .arc-of .ensures)
-    (made .before .before .sum .result) (made .one-more .result) (made .before .before .sum .ensures) (made .one-more .ensures) (compared .comes-first .ensures)
-    (not-true (compared .comes-first .result) (c .if1 .taken))
+returns c = both (c .before) .kept (not-true (c .before .comes-first .result) (c .if1 .taken))
 
 mul-costs : tie.Need-mul-costs
 mul-costs c = omega (arith, below (read (summed (c .before))) .0)
@@ -104,15 +112,7 @@ element-write-lens : tie.Need-element-write-lens
 element-write-lens c = below (read (summed (c .before))) .0
 
 returns-2 : tie.Need-returns-2
-returns-2 c =
-    let compared = c .before in
-    let made = summed compared in
-    let got = read made in
-    let a = start got .args in
-    let pre = start got .pre in
-    relaxed-better (decode (a .table .now)) (size got) (a .costs .now) (a .lens .now) (pre .3) (pre .2) (a .i) (pre .1) (got .arc-of .result) (got .arc-of .ensures)
-    (made .before .before .sum .result) (made .one-more .result) (made .before .before .sum .ensures) (made .one-more .ensures) (compared .comes-first .ensures)
-    (not-false (compared .comes-first .result) (c .if1 .left))
+returns-2 c = both (c .before) .better (not-false (c .before .comes-first .result) (c .if1 .left))
 
 pub relax-spec : {M : Type 1} → statement M
 relax-spec =

@@ -1,18 +1,18 @@
--- The invariant: the arcs from `i` on are left (`Settling`).
+-- The invariant: the arcs from `i` on are left (`Draining`).
 use Prim.Native.Nat.{_+_, _-_, _≤_}
 use native.Mathlib.Omega.{arith}
 use Rattle.wire.specs.Bytes.{Bytes}
 use Rattle.transducer.specs.Format.{decode}
 use Rattle.paths.proofs.Ready.{Sized, sized}
-use Rattle.shortest.specs.Queue.{Settling}
+use Rattle.shortest.specs.Queue.{Draining}
 use Rattle.shortest.proofs.Waiting.{queue-none}
-use Rattle.shortest.proofs.Settling.{from-on, ordered-first, ordered-next, ordered-stop, settling-joined}
+use Rattle.shortest.proofs.Draining.{from-on, ordered-first, ordered-next, ordered-stop, draining-joined}
 use Rattle.shortest.proofs.near.relax_all.Statement.{statement}
 use Rattle.shortest.proofs.near.relax_all.Tie as tie
 
 abbrev Inv-loop : tie.InvT-loop
 Inv-loop table first arcs costs₀ lens₀ ring₀ waits₀ count₀ i₀ costs lens ring waits count i =
-    Settling (decode table) (from-on i) costs lens ring waits 0 count
+    Draining (decode table) (from-on i) costs lens ring waits 0 count
 
 abbrev μ-loop : tie.MeasureT-loop
 μ-loop table first arcs costs₀ lens₀ ring₀ waits₀ count₀ i₀ costs lens ring waits count i = arcs - i
@@ -54,7 +54,7 @@ loop-less c = omega (arith, turn c .loop-test .taken)
 loop-again : tie.Need-loop-again Inv-loop μ-loop
 loop-again c =
     let now' = turn c .before .loop in
-    settling-joined (now' .inv) (now' .i) (c .relax-and-join .ensures) (λ x _. ordered-next (now' .i) x)
+    draining-joined (now' .inv) (now' .i) (c .relax-and-join .ensures) (λ x _. ordered-next (now' .i) x)
 
 returns : tie.Need-returns Inv-loop μ-loop
 returns c = ordered-stop (c .before .loop .inv) (omega (arith, c .loop-test .left, c .before .before .before .pre .1))

@@ -3,9 +3,9 @@ use borrow.Author.Tests.{not-true, not-false}
 use Prim.Native.Nat.{_<_}
 use native.Mathlib.Omega.{arith}
 use Rattle.wire.specs.Bytes.{Bytes}
-use Rattle.transducer.specs.Format.{decode}
+use Rattle.transducer.specs.Format.{max-states, decode}
 use Rattle.paths.proofs.Ready.{Sized, sized}
-use Rattle.shortest.proofs.Settling.{joined-kept, joined-waits, joined-room, joined-pushed}
+use Rattle.shortest.proofs.Draining.{joined-kept, joined-waits, joined-room, joined-pushed}
 use Rattle.shortest.proofs.near.relax_and_join.Statement.{statement}
 use Rattle.shortest.proofs.near.relax_and_join.Tie as tie
 
@@ -28,13 +28,13 @@ Read = tie.After-source
 abbrev relaxed : Read → Relaxed
 relaxed c = c .before .before
 
-source-few : (c : Read) → c .source .result < 1024
+source-few : (c : Read) → c .source .result < max-states
 source-few c = omega (arith, c .source .ensures .1, size (relaxed c) .states)
 
 abbrev read : tie.Else2 → Read
 read c = c .before .before
 
-room : (c : tie.Else2) → start (relaxed (read c)) .args .count < 1024
+room : (c : tie.Else2) → start (relaxed (read c)) .args .count < max-states
 room c =
     let got = read c in
     let z = size (relaxed got) in

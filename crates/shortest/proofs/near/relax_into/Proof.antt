@@ -3,11 +3,11 @@ use Prim.Native.Nat.{ℕ, _+_, _-_, _≤_, _<_}
 use native.Mathlib.Omega.{arith}
 use lib.ListN.{length, getD}
 use Rattle.wire.specs.Bytes.{Bytes}
-use Rattle.transducer.specs.Format.{Transducer, decode}
+use Rattle.transducer.specs.Format.{Transducer, max-states, max-arcs, decode}
 use Rattle.transducer.specs.Path.{arc}
 use Rattle.paths.proofs.Ready.{Sized, sized}
 use Rattle.reach.proofs.ByTarget.{heads-inside}
-use Rattle.shortest.proofs.Settling.{Relaxing, Stands, relaxing-first, relaxing-arc, relaxing-next, relaxing-stop}
+use Rattle.shortest.proofs.Draining.{Relaxing, Stands, relaxing-first, relaxing-arc, relaxing-next, relaxing-stop}
 use Rattle.shortest.proofs.near.relax_into.Statement.{statement}
 use Rattle.shortest.proofs.near.relax_into.Tie as tie
 
@@ -31,14 +31,14 @@ size c =
     let bytes : Bytes bs = λ i. omega (arith, c .shared-slice-known .given i) in
     sized bs bytes (c .before .pre .0 .accepted)
 
-is-state : (c : Entry) → c .before .args .s < 1024
+is-state : (c : Entry) → c .before .args .s < max-states
 is-state c = omega (arith, c .before .pre .2, size c .states)
 
 -- Where the arcs that lead to the state begin, and where those that lead to the next do.
-from-few : (c : Entry) → getD (c .before .args .heads .now) (c .before .args .s) 0 ≤ 3072
+from-few : (c : Entry) → getD (c .before .args .heads .now) (c .before .args .s) 0 ≤ max-arcs
 from-few c = omega (arith, heads-inside (c .before .args .s) (c .before .pre .1) (omega (arith, c .before .pre .2)), size c .arcs)
 
-to-few : (c : Entry) → getD (c .before .args .heads .now) (c .before .args .s + 1) 0 ≤ 3072
+to-few : (c : Entry) → getD (c .before .args .heads .now) (c .before .args .s + 1) 0 ≤ max-arcs
 to-few c = omega (arith, heads-inside (c .before .args .s + 1) (c .before .pre .1) (omega (arith, c .before .pre .2)), size c .arcs)
 
 -- A turn of the loop, and its arc.
@@ -48,7 +48,7 @@ Turn = tie.In-loop Inv-loop μ-loop
 abbrev entry : Turn → Entry
 entry c = c .before .before .before .before
 
-few : (c : Turn) → c .before .loop .at < 3072
+few : (c : Turn) → c .before .loop .at < max-arcs
 few c = omega (arith, c .loop-test .taken, to-few (entry c))
 
 abbrev number : Turn → ℕ

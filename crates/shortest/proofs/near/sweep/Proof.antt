@@ -6,7 +6,7 @@ use Prim.Native.Nat.{ℕ, _+_, _-_, _<_}
 use native.Mathlib.Omega.{arith}
 use lib.ListN.{length, getD}
 use Rattle.wire.specs.Bytes.{Bytes}
-use Rattle.transducer.specs.Format.{Transducer, decode}
+use Rattle.transducer.specs.Format.{Transducer, max-states, decode}
 use Rattle.transducer.specs.Path.{arc}
 use Rattle.transducer.specs.Leaf.{arcs-below}
 use Rattle.paths.proofs.Ready.{Sized, Range, sized, range}
@@ -53,7 +53,7 @@ states c =
     rw (c .arc-of .ensures)
     (sweeping-state (whole t) (size t) (now' .low) (now' .i) (now' .costs) (now' .lens) (now' .again) (now' .inv) (t .loop-test .taken))
 
-below : (c : Read) → (c .arc-of .result .source < 1024) × (c .arc-of .result .target < 1024)
+below : (c : Read) → (c .arc-of .result .source < max-states) × (c .arc-of .result .target < max-states)
 below c =
     let most = size (c .before) .states in
     (omega (arith, states c .0, most), omega (arith, states c .1, most))

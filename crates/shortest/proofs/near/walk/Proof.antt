@@ -1,11 +1,11 @@
 -- The invariant: `n` arcs are walked (`Walked`).
 use borrow.Author.Needs.{needs}
 use mathlib.Core.Path.{_≡_, refl, _∙_}
-use Prim.Native.Nat.{_+_, _-_, _<_}
+use Prim.Native.Nat.{ℕ, _+_, _-_, _<_}
 use native.Mathlib.Omega.{arith}
 use lib.ListN.{length, getD}
 use Rattle.wire.specs.Bytes.{Bytes}
-use Rattle.transducer.specs.Format.{decode}
+use Rattle.transducer.specs.Format.{max-states, decode}
 use Rattle.paths.proofs.Ready.{Sized, Range, sized, range}
 use Rattle.shortest.specs.Nearest.{by-state, first-tight}
 use Rattle.shortest.proofs.Tight.{giving-tight}
@@ -20,6 +20,10 @@ Inv-loop table first start len index costs lens out₀ s₀ n₀ out s n =
 abbrev μ-loop : tie.MeasureT-loop
 μ-loop table first start len index costs lens out₀ s₀ n₀ out s n = len - n
 
+-- The first tight arcs, by the costs and numbers of arcs that were handed in.
+abbrev firsts : tie.Start Inv-loop μ-loop → ℕ → ℕ
+firsts x = let a = x .args in first-tight (decode (a .table .now)) (by-state (a .costs .now)) (by-state (a .lens .now))
+
 -- A turn of the loop: its state, and the arcs of that.
 abbrev Turn : Type 0
 Turn = tie.In-loop Inv-loop μ-loop
@@ -33,10 +37,12 @@ size c =
     let bytes : Bytes bs = λ i. omega (arith, c .before .before .before .shared-slice-known .given i) in
     sized bs bytes (start c .pre .0 .accepted)
 
-below : (c : Turn) → c .before .loop .s < 1024
+below : (c : Turn) → c .before .loop .s < max-states
 below c = omega (arith, c .before .loop .inv .inside, size c .states)
 
-arcs : (c : Turn) → Range (decode (start c .args .table .now)) (c .before .loop .s) (getD (start c .args .index .now) (c .before .loop .s) 0) (getD (start c .args .index .now) (c .before .loop .s + 1) 0)
+arcs : (c : Turn)
+    → Range (decode (start c .args .table .now)) (c .before .loop .s) (getD (start c .args .index .now) (c .before .loop .s) 0)
+    (getD (start c .args .index .now) (c .before .loop .s + 1) 0)
 arcs c =
     range (decode (start c .args .table .now)) (start c .args .index .now) (c .before .loop .s) _ _ (start c .pre .1) (c .before .loop .inv .inside) refl refl
 
@@ -47,11 +53,12 @@ Sought = tie.After-first-giving Inv-loop μ-loop
 abbrev turn : Sought → Turn
 turn c = c .before .before .before
 
-is-first : (c : Sought) → c .first-giving .result ≡ first-tight (decode (start (turn c) .args .table .now)) (by-state (start (turn c) .args .costs .now)) (by-state (start (turn c) .args .lens .now)) (turn c .before .loop .s)
+is-first : (c : Sought) → c .first-giving .result ≡ firsts (start (turn c)) (turn c .before .loop .s)
 is-first c =
     let a = start (turn c) .args in
     let s = turn c .before .loop .s in
-    giving-tight (decode (a .table .now)) (by-state (a .costs .now)) (by-state (a .lens .now)) s (getD (a .index .now) s 0) (getD (a .index .now) (s + 1) 0) (c .first-giving .result)
+    giving-tight (decode (a .table .now)) (by-state (a .costs .now)) (by-state (a .lens .now)) s (getD (a .index .now) s 0) (getD (a .index .now) (s + 1) 0)
+    (c .first-giving .result)
     (arcs (turn c) .from-is) (arcs (turn c) .to-is) (c .first-giving .ensures)
 
 is-arc : (c : Sought) → c .first-giving .result < length (decode (start (turn c) .args .table .now) .arcs)
@@ -59,7 +66,8 @@ is-arc c =
     let a = start (turn c) .args in
     let t = decode (a .table .now) in
     let now' = turn c .before .loop in
-    let there = walked-arc t (size (turn c) .within) (first-tight t (by-state (a .costs .now)) (by-state (a .lens .now))) (a .start) (a .len) (length (a .out .now)) (now' .out) (now' .s) (now' .n) (now' .inv) (turn c .loop-test .taken) in
+    let there = walked-arc t (size (turn c) .within) (firsts (start (turn c))) (a .start) (a .len) (length (a .out .now)) (now' .out) (now' .s) (now' .n)
+    (now' .inv) (turn c .loop-test .taken) in
     omega (arith, is-first c, there .below)
 
 loop-holds : tie.Need-loop-holds Inv-loop μ-loop
@@ -67,7 +75,7 @@ loop-holds c =
     let start' = c .before .before in
     let a = start' .args in
     let t = decode (a .table .now) in
-    walked-first t (first-tight t (by-state (a .costs .now)) (by-state (a .lens .now))) (a .start) (a .len) (a .out .now) (start' .pre .3) (start' .pre .2) (start' .pre .4)
+    walked-first t (firsts start') (a .start) (a .len) (a .out .now) (start' .pre .3) (start' .pre .2) (start' .pre .4)
 
 mul-from : tie.Need-mul-from Inv-loop μ-loop
 mul-from c = omega (arith, below c)
@@ -125,7 +133,7 @@ loop-again c =
     let a = start at .args in
     let t = decode (a .table .now) in
     let now' = at .before .loop in
-    walked-next t (size at .within) (first-tight t (by-state (a .costs .now)) (by-state (a .lens .now))) (a .start) (a .len) (length (a .out .now)) (now' .out) (now' .s) (now' .n) (now' .inv)
+    walked-next t (size at .within) (firsts (start at)) (a .start) (a .len) (length (a .out .now)) (now' .out) (now' .s) (now' .n) (now' .inv)
     (at .loop-test .taken) (found .first-giving .result) (c .before .arc-of .result) (is-first found) (c .before .arc-of .ensures)
 
 clear16-requires : tie.Need-clear16-requires Inv-loop μ-loop
@@ -138,9 +146,11 @@ returns : tie.Need-returns Inv-loop μ-loop
 returns c =
     let ended = c .before .before .before .before in
     let at = ended .before in
-    let a = at .before .before .before .args in
+    let x = at .before .before .before in
+    let a = x .args in
     c .before .before .clear16 .ensures
-    ∙ walked-done (decode (a .table .now)) (first-tight (decode (a .table .now)) (by-state (a .costs .now)) (by-state (a .lens .now))) (a .start) (a .len) (length (a .out .now)) (at .loop .out) (at .loop .s) (at .loop .n) (at .loop .inv) (ended .loop-test .left)
+    ∙ walked-done (decode (a .table .now)) (firsts x) (a .start) (a .len) (length (a .out .now)) (at .loop .out) (at .loop .s) (at .loop .n) (at .loop .inv)
+    (ended .loop-test .left)
 
 pub walk-spec : {M : Type 1} → statement M
 walk-spec =

@@ -11,7 +11,8 @@ use native.Mathlib.Omega.{arith}
 use lib.Dec.{ltb}
 use lib.ListN.{length}
 use borrow.Author.Tests.{ltb-true, ltb-false}
-use Rattle.transducer.specs.Format.{Transducer}
+use Rattle.wire.proofs.Bool.{clash}
+use Rattle.transducer.specs.Format.{Transducer, max-states}
 use Rattle.transducer.specs.Path.{arc, no-arc, ends, accepts, arcs-cost, path-cost}
 use Rattle.transducer.specs.Weight.{plus}
 use Rattle.transducer.proofs.Good.{arc-weight-most, final-weight-most}
@@ -24,8 +25,8 @@ use Rattle.paths.proofs.Listed.{in-paths-from, paths-from-has}
 use Rattle.paths.proofs.Ready.{Sized}
 use Rattle.paths.proofs.Telling.{final-weight-low}
 use Rattle.shortest.specs.Shortest.{better, shortest, cost-from, no-path, least-of, least-to-come}
-use Rattle.shortest.specs.Nearest.{No-worse, cost-by, arcs-by, own-cost, Reached, Tight, First, Settled, first-tight, follow}
-use Rattle.shortest.proofs.Best.{not-better, clash}
+use Rattle.shortest.specs.Nearest.{No-worse, cost-by, arcs-by, own-cost, Reached, Tight, First, All-relaxed, first-tight, follow}
+use Rattle.shortest.proofs.Best.{not-better}
 use Rattle.shortest.proofs.Cheaper.{cost-start, cost-nil, cost-cons, Shorter, cheap-and-short}
 use Rattle.shortest.proofs.Cheapest.{shortest-is}
 use Rattle.shortest.proofs.Tight.{tight-first}
@@ -44,7 +45,8 @@ arcs-cost-most t z s (i ∷ p) a =
 pub cost-from-most : (t : Transducer) → Sized t → (s : ℕ) (p : List ℕ) → Accepting t s p → length p < t .states → cost-from t s p < no-path
 unfolding cost-from
 cost-from-most t z s p a few =
-    let end = final-weight-low (t .finals) (ends t s p) (record { state = 0; weight = 0 }) (λ i b. final-weight-most t (z .content) i (record { state = 0; weight = 0 }) b) in
+    let end = final-weight-low (t .finals) (ends t s p) (record { state = 0; weight = 0 })
+    (λ i b. final-weight-most t (z .content) i (record { state = 0; weight = 0 }) b) in
     omega (arith, arcs-cost-most t z s p a, end, few, z .states)
 
 -- The least cost of a list of paths.
@@ -68,7 +70,7 @@ unfolding least-of
 least-of-above t s x [] h k = h
 least-of-above t s x (p ∷ l) h k = omega (arith, k p (first refl), least-of-above t s x l h (λ q m. k q (later m)))
 
-module _ (t : Transducer) (z : Sized t) (c l : ℕ → ℕ) (k : Settled t c l) where
+module _ (t : Transducer) (z : Sized t) (c l : ℕ → ℕ) (k : All-relaxed t c l) where
   abbrev pub next-arc : ℕ → ℕ
   next-arc = first-tight t c l
 
@@ -129,7 +131,7 @@ module _ (t : Transducer) (z : Sized t) (c l : ℕ → ℕ) (k : Settled t c l) 
       let few : l s ≤ arcs-by t l i = here' .arcs (omega (arith, rest .cost)) in
       let low : l u ≤ length p = rest .arcs (omega (arith, here' .cost)) in
       let small : l s < t .states = few-arcs s b h in
-      let most : t .states ≤ 1024 = z .states in
+      let most : t .states ≤ max-states = z .states in
       record {
         leaves = by .leaves;
         tight = record { below = by .below; costs = rw (by .leaves) (omega (arith, here' .cost, rest .cost)); arcs = rw (by .leaves) (omega arith) };
@@ -151,7 +153,7 @@ module _ (t : Transducer) (z : Sized t) (c l : ℕ → ℕ) (k : Settled t c l) 
       let costs : cost-by t c (next-arc s) ≡ c s = tight .costs ∙ ap c leaves in
       let arcs : arcs-by t l (next-arc s) ≡ l s = tight .arcs ∙ ap l leaves in
       let small : l s < t .states = few-arcs s b h in
-      let most : t .states ≤ 1024 = z .states in
+      let most : t .states ≤ max-states = z .states in
       record { below = tight .below; leaves = leaves; costs = omega arith; arcs = omega arith; there = omega arith }
 
   first-of : (s i : ℕ) (p : List ℕ) → s < t .states → Step s i p → First t c l (next-arc s) i
@@ -215,7 +217,8 @@ module _ (t : Transducer) (z : Sized t) (c l : ℕ → ℕ) (k : Settled t c l) 
       low : next-arc s ≤ i
       low = first-of s i q b st .first
 
-      on : (d : Bool) → before (i ∷ q) (next-arc s ∷ follow n t next-arc u) ≡ d → (Accepting t u q → cost-from t u q ≡ c u → length q ≡ n → before q (follow n t next-arc u) ≡ false)
+      on : (d : Bool) → before (i ∷ q) (next-arc s ∷ follow n t next-arc u) ≡ d
+          → (Accepting t u q → cost-from t u q ≡ c u → length q ≡ n → before q (follow n t next-arc u) ≡ false)
           → before (i ∷ q) (next-arc s ∷ follow n t next-arc u) ≡ false
       on false d below = d
       on true d below = two (before-cons i (next-arc s) q (follow n t next-arc u) d)
@@ -223,7 +226,7 @@ module _ (t : Transducer) (z : Sized t) (c l : ℕ → ℕ) (k : Settled t c l) 
           two : (i < next-arc s) ⊎ ((i ≡ next-arc s) × (before q (follow n t next-arc u) ≡ true)) → before (i ∷ q) (next-arc s ∷ follow n t next-arc u) ≡ false
           two (inl less) = absurd (omega (arith, low))
           two (inr (is, d')) =
-              clash (before q (follow n t next-arc u)) d'
+              clash d'
               (below (rw is at (accepting-cons t s i q a .rest)) (rw is at (st .costs)) (omega arith))
 
   -- From the start.
@@ -265,11 +268,12 @@ module _ (t : Transducer) (z : Sized t) (c l : ℕ → ℕ) (k : Settled t c l) 
           absurd (omega (arith, accepting-reached s (p .0) b (p .1)))
 
   -- The costs are the least to come.
-  pub settled-least : (s : ℕ) → s < t .states → c s ≡ least-to-come t s
+  pub distances-least : (s : ℕ) → s < t .states → c s ≡ least-to-come t s
   unfolding least-to-come
-  settled-least s b =
+  distances-least s b =
       let all : List (List ℕ) = paths-from (t .states) t s in
-      let low : c s ≤ least-of t s all = least-of-above t s (c s) all (k .nearing .high s b) (λ p m. none-nearer s p b (in-paths-from (t .states) t s p m .0) .cost) in
+      let low : c s ≤ least-of t s all =
+      least-of-above t s (c s) all (k .nearing .high s b) (λ p m. none-nearer s p b (in-paths-from (t .states) t s p m .0) .cost) in
       on (ltb (c s) no-path) refl low
     where
       on : (d : Bool) → ltb (c s) no-path ≡ d → c s ≤ least-of t s (paths-from (t .states) t s) → c s ≡ least-of t s (paths-from (t .states) t s)

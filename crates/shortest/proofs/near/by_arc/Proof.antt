@@ -3,13 +3,13 @@ use borrow.Author.Needs.{needs}
 use Prim.Native.Nat.{_<_}
 use native.Mathlib.Omega.{arith}
 use Rattle.wire.specs.Bytes.{Bytes}
-use Rattle.transducer.specs.Format.{decode}
+use Rattle.transducer.specs.Format.{max-states, decode}
 use Rattle.paths.proofs.Ready.{Sized, sized}
-use Rattle.shortest.specs.Nearest.{cost-by}
-use Rattle.shortest.proofs.near.cost_by.Statement.{statement}
-use Rattle.shortest.proofs.near.cost_by.Tie as tie
+use Rattle.shortest.specs.Nearest.{cost-by, arcs-by}
+use Rattle.shortest.proofs.near.by_arc.Statement.{statement}
+use Rattle.shortest.proofs.near.by_arc.Tie as tie
 
-below : (c : tie.After-arc-of) → c .arc-of .result .target < 1024
+below : (c : tie.After-arc-of) → c .arc-of .result .target < max-states
 below c =
     let start = c .before .before in
     let bs = start .args .table .now in
@@ -20,8 +20,8 @@ below c =
 arc-of-requires : tie.Need-arc-of-requires
 arc-of-requires c κs = c .before .pre
 
-cast-sum : tie.Need-cast-sum
-cast-sum c = search needs
+cast-to : tie.Need-cast-to
+cast-to c = search needs
 
 mul-sum : tie.Need-mul-sum
 mul-sum c = omega (arith, below (c .before))
@@ -32,17 +32,32 @@ element-copy-out-sum c = below (c .before)
 sum-requires : tie.Need-sum-requires
 sum-requires c κs = tt
 
-returns : tie.Need-returns
-unfolding cost-by
-returns c = rw (← c .before .before .before .arc-of .ensures) (c .sum .ensures)
+mul-one-more : tie.Need-mul-one-more
+mul-one-more c = omega (arith, below (c .before .before .before))
 
-pub cost-by-spec : {M : Type 1} → statement M
-cost-by-spec =
+element-copy-out-one-more : tie.Need-element-copy-out-one-more
+element-copy-out-one-more c = below (c .before .before .before)
+
+one-more-requires : tie.Need-one-more-requires
+one-more-requires c κs = tt
+
+returns : tie.Need-returns
+unfolding cost-by arcs-by
+returns c =
+    let summed = c .before .before in
+    let is = summed .before .before .before .arc-of .ensures in
+    (rw (← is) (summed .sum .ensures), rw (← is) (c .one-more .ensures))
+
+pub by-arc-spec : {M : Type 1} → statement M
+by-arc-spec =
     tie.close
     (tie.spec
     arc-of-requires
-    cast-sum
+    cast-to
     mul-sum
     element-copy-out-sum
     sum-requires
+    mul-one-more
+    element-copy-out-one-more
+    one-more-requires
     returns)

@@ -1,4 +1,4 @@
--- Settling by a queue: all arcs are relaxed once, then those that lead to a state that comes off, until all is settled. These laws know of relaxing an arc
+-- Draining the queue: all arcs are relaxed once, then those that lead to a state that comes off, until all is settled. These laws know of relaxing an arc
 -- only what `Relaxed` says. Assumes nothing.
 use mathlib.Core.Path.{_≡_, refl, sym, ap, _∙_}
 use mathlib.Core.Bool.{Bool, true, false, _&&_, cond}
@@ -11,15 +11,14 @@ use native.Mathlib.Decide.{ℕ-discrete}
 use lib.Dec.{leb}
 use lib.ListN.{length, getD, set}
 use borrow.Author.Tests.{eqb-true, eq-eqb, leb-true, le-leb}
-use Rattle.wire.proofs.Places.{and-true, true-and}
+use Rattle.wire.proofs.Bool.{clash, never, and-true, true-and}
 use Rattle.transducer.specs.Format.{Transducer}
 use Rattle.transducer.specs.Path.{arc}
 use Rattle.paths.proofs.Ready.{Sized}
 use Rattle.reach.specs.Index.{leads-to, into-below, place, By-target}
 use Rattle.reach.proofs.ByTarget.{place-low, place-high, place-injective, stands-at}
-use Rattle.shortest.specs.Nearest.{by-state, Nearing, Settled, Long, No-better, Relaxed}
-use Rattle.shortest.specs.Queue.{cell, waiting, Queue, Joined, Settling, none, to-do}
-use Rattle.shortest.proofs.Best.{clash}
+use Rattle.shortest.specs.Nearest.{by-state, Nearing, All-relaxed, Long, No-better, Relaxed}
+use Rattle.shortest.specs.Queue.{cell, waiting, Queue, Joined, Draining, none, to-do}
 use Rattle.shortest.proofs.Waiting.{mark-other, queue-empty, queue-push, push-here, push-stays, queue-room, queue-pop, pop-state}
 
 -- An arc is relaxed, and its source joins the queue where it gets better.
@@ -39,7 +38,7 @@ module _ {t : Transducer} (z : Sized t) {cs ls ring : List ℕ} {waits : List Bo
       -- It leads to a state that waits, or not to what got better.
       on : (x : ℕ) → (x ≡ i) ⊎ No-better t cs ls x → (v : Bool) → waiting waits' (arc t x .target) ≡ v → Now x
       on x old true w = inl w
-      on x old false w = inr (r .settles x old (λ v same. clash (waiting waits' (arc t x .target)) (ap (waiting waits') same ∙ joins v) w))
+      on x old false w = inr (r .settles x old (λ v same. clash {b = waiting waits' (arc t x .target)} (ap (waiting waits') same ∙ joins v) w))
 
       settles : (x : ℕ) → (x ≡ i) ⊎ ((waiting waits (arc t x .target) ≡ true) ⊎ No-better t cs ls x) → Now x
       settles x (inl e) = on x (inl e) (waiting waits' (arc t x .target)) refl
@@ -47,7 +46,7 @@ module _ {t : Transducer} (z : Sized t) {cs ls ring : List ℕ} {waits : List Bo
       settles x (inr (inr w)) = on x (inr w) (waiting waits' (arc t x .target)) refl
 
   pub joined-kept : better ≡ false → Joined t i cs ls waits many cs' ls' ring waits head many
-  joined-kept e = step q (λ u w. w) (λ v. clash better v e) (omega arith)
+  joined-kept e = step q (λ u w. w) (λ v. clash v e) (omega arith)
 
   -- The source as it was read.
   module _ (u : ℕ) (is : u ≡ arc t i .source) where
@@ -68,11 +67,11 @@ module _ {t : Transducer} (z : Sized t) {cs ls ring : List ℕ} {waits : List Bo
         (step (queue-push (z .states) q u is-state w) (push-stays (z .states) q u is-state w) (λ _. rw (← is) here) (rw v (omega arith)))
 
 -- What is left to relax is less by that arc.
-pub settling-joined : {t : Transducer} {left left' : ℕ → Bool} {cs ls ring : List ℕ} {waits : List Bool} {head many : ℕ}
-    → Settling t left cs ls ring waits head many → (i : ℕ) {cs' ls' ring' : List ℕ} {waits' : List Bool} {many' : ℕ}
+pub draining-joined : {t : Transducer} {left left' : ℕ → Bool} {cs ls ring : List ℕ} {waits : List Bool} {head many : ℕ}
+    → Draining t left cs ls ring waits head many → (i : ℕ) {cs' ls' ring' : List ℕ} {waits' : List Bool} {many' : ℕ}
     → Joined t i cs ls waits many cs' ls' ring' waits' head many' → ((x : ℕ) → x < length (t .arcs) → left x ≡ true → (x ≡ i) ⊎ (left' x ≡ true))
-    → Settling t left' cs' ls' ring' waits' head many'
-settling-joined {t} {left} {left'} {cs} {ls} {waits = waits} k i {cs'} {ls'} {waits' = waits'} j less =
+    → Draining t left' cs' ls' ring' waits' head many'
+draining-joined {t} {left} {left'} {cs} {ls} {waits = waits} k i {cs'} {ls'} {waits' = waits'} j less =
     record { long = j .long; nearing = j .nearing; queue = j .queue; by-arc = λ x h. on x h (k .by-arc x h) }
   where
     Now : ℕ → Type 0
@@ -92,7 +91,7 @@ unfoldable pub from-on : (i : ℕ) → ℕ → Bool
 from-on i x = leb i x
 
 pub ordered-first : {t : Transducer} {cs ls ring : List ℕ} {waits : List Bool} → Long cs ls → Nearing t (by-state cs) (by-state ls)
-    → Queue (t .states) ring waits 0 0 → Settling t (from-on 0) cs ls ring waits 0 0
+    → Queue (t .states) ring waits 0 0 → Draining t (from-on 0) cs ls ring waits 0 0
 unfolding from-on
 ordered-first long near q = record { long = long; nearing = near; queue = q; by-arc = λ x h. inl (le-leb 0 x (omega arith)) }
 
@@ -104,8 +103,8 @@ ordered-next i x e = on (ℕ-discrete x i)
     on (yes q) = inl q
     on (no q) = inr (le-leb (i + 1) x (omega (arith, leb-true i x e)))
 
-pub ordered-stop : {t : Transducer} {cs ls ring : List ℕ} {waits : List Bool} {head many i : ℕ} → Settling t (from-on i) cs ls ring waits head many
-    → length (t .arcs) ≤ i → Settling t none cs ls ring waits head many
+pub ordered-stop : {t : Transducer} {cs ls ring : List ℕ} {waits : List Bool} {head many i : ℕ} → Draining t (from-on i) cs ls ring waits head many
+    → length (t .arcs) ≤ i → Draining t none cs ls ring waits head many
 unfolding from-on
 ordered-stop {t} {cs} {ls} {waits = waits} {i = i} k e =
     record { long = k .long; nearing = k .nearing; queue = k .queue; by-arc = λ x h. on x h (k .by-arc x h) }
@@ -117,11 +116,11 @@ ordered-stop {t} {cs} {ls} {waits = waits} {i = i} k e =
 
 -- A state comes off.
 
-pub settling-popped : {t : Transducer} {cs ls ring : List ℕ} {waits waits' : List Bool} {head head' many : ℕ} → Sized t
-    → Settling t none cs ls ring waits head many → 0 < many → (s : ℕ) → s ≡ getD ring head 0 → waits' ≡ set waits s false → head' ≡ cell head 1
-    → Settling t (leads-to t s) cs ls ring waits' head' (many - 1)
+pub draining-popped : {t : Transducer} {cs ls ring : List ℕ} {waits waits' : List Bool} {head head' many : ℕ} → Sized t
+    → Draining t none cs ls ring waits head many → 0 < many → (s : ℕ) → s ≡ getD ring head 0 → waits' ≡ set waits s false → head' ≡ cell head 1
+    → Draining t (leads-to t s) cs ls ring waits' head' (many - 1)
 unfolding leads-to
-settling-popped {t} {cs} {ls} {ring} {waits} z k some s is e f =
+draining-popped {t} {cs} {ls} {ring} {waits} z k some s is e f =
     rw (e, f) (record {
       long = k .long;
       nearing = k .nearing;
@@ -131,7 +130,7 @@ settling-popped {t} {cs} {ls} {ring} {waits} z k some s is e f =
   where
     on : (i : ℕ) → (none i ≡ true) ⊎ ((waiting waits (arc t i .target) ≡ true) ⊎ No-better t cs ls i) → Dec (arc t i .target ≡ s)
         → (leads-to t s i ≡ true) ⊎ ((waiting (set waits s false) (arc t i .target) ≡ true) ⊎ No-better t cs ls i)
-    on i (inl q) d = clash false q refl
+    on i (inl q) d = never q
     on i (inr (inl w)) (yes q) = inl (eq-eqb (arc t i .target) s q)
     on i (inr (inl w)) (no q) = inr (inl (mark-other waits s (arc t i .target) false q ∙ w))
     on i (inr (inr w)) d = inr (inr w)
@@ -140,13 +139,13 @@ pub popped-less : (t : Transducer) (cs ls : List ℕ) (many : ℕ) {next : ℕ} 
 unfolding to-do
 popped-less t cs ls many some le = omega arith
 
-pub settling-stop : {t : Transducer} {cs ls ring : List ℕ} {waits : List Bool} {head many : ℕ} → Sized t
-    → Settling t none cs ls ring waits head many → many ≤ 0 → Settled t (by-state cs) (by-state ls)
-settling-stop {t} {cs} {ls} {waits = waits} z k e = record { nearing = k .nearing; by-arc = λ i b. on i b (k .by-arc i b) }
+pub draining-stop : {t : Transducer} {cs ls ring : List ℕ} {waits : List Bool} {head many : ℕ} → Sized t
+    → Draining t none cs ls ring waits head many → many ≤ 0 → All-relaxed t (by-state cs) (by-state ls)
+draining-stop {t} {cs} {ls} {waits = waits} z k e = record { nearing = k .nearing; by-arc = λ i b. on i b (k .by-arc i b) }
   where
     on : (i : ℕ) → i < length (t .arcs) → (none i ≡ true) ⊎ ((waiting waits (arc t i .target) ≡ true) ⊎ No-better t cs ls i) → No-better t cs ls i
-    on i b (inl q) = clash false q refl
-    on i b (inr (inl w)) = clash (waiting waits (arc t i .target)) w (queue-empty (k .queue) e (arc t i .target) (z .within .arrives i b))
+    on i b (inl q) = never q
+    on i b (inr (inl w)) = clash w (queue-empty (k .queue) e (arc t i .target) (z .within .arrives i b))
     on i b (inr (inr w)) = w
 
 -- The arcs that lead to a state, from a place on.
@@ -157,7 +156,7 @@ left-from t s p i = leads-to t s i && leb p (place t i)
 -- Those before the place are relaxed.
 pub record Relaxing (t : Transducer) (s p : ℕ) (cs₀ ls₀ : List ℕ) (many₀ : ℕ) (cs ls ring : List ℕ) (waits : List Bool) (head many : ℕ) : Type 0 where
   pub low : into-below t s ≤ p
-  pub settling : Settling t (left-from t s p) cs ls ring waits head many
+  pub settling : Draining t (left-from t s p) cs ls ring waits head many
   pub falls : to-do t cs ls many ≤ to-do t cs₀ ls₀ many₀
 
 -- The arc at a place.
@@ -173,7 +172,7 @@ module _ {t : Transducer} {heads into : List ℕ} (by : By-target t heads into) 
   to-is : getD heads (s + 1) 0 ≡ into-below t (suc s)
   to-is = rw add-one (by .head-at (suc s) b)
 
-  pub relaxing-first : {cs ls ring : List ℕ} {waits : List Bool} {head many : ℕ} → Settling t (leads-to t s) cs ls ring waits head many
+  pub relaxing-first : {cs ls ring : List ℕ} {waits : List Bool} {head many : ℕ} → Draining t (leads-to t s) cs ls ring waits head many
       → Relaxing t s (getD heads s 0) cs ls many cs ls ring waits head many
   unfolding left-from leads-to
   relaxing-first {cs} {ls} {ring} {waits} k =
@@ -191,7 +190,7 @@ module _ {t : Transducer} {heads into : List ℕ} (by : By-target t heads into) 
       on i (inr w) = inr w
 
   pub relaxing-stop : {p many₀ : ℕ} {cs₀ ls₀ cs ls ring : List ℕ} {waits : List Bool} {head many : ℕ}
-      → Relaxing t s p cs₀ ls₀ many₀ cs ls ring waits head many → getD heads (s + 1) 0 ≤ p → Settling t none cs ls ring waits head many
+      → Relaxing t s p cs₀ ls₀ many₀ cs ls ring waits head many → getD heads (s + 1) 0 ≤ p → Draining t none cs ls ring waits head many
   unfolding left-from leads-to
   relaxing-stop {p} {cs = cs} {ls = ls} {waits = waits} r e =
       record {
@@ -220,7 +219,7 @@ pub relaxing-next : {t : Transducer} {s p many₀ : ℕ} {cs₀ ls₀ cs ls ring
     → Joined t i cs ls waits many cs' ls' ring' waits' head many' → Relaxing t s (p + 1) cs₀ ls₀ many₀ cs' ls' ring' waits' head many'
 unfolding left-from
 relaxing-next {t} {s} {p} k i here j =
-    record { low = omega (arith, k .low); settling = settling-joined (k .settling) i j less; falls = omega (arith, k .falls, j .falls) }
+    record { low = omega (arith, k .low); settling = draining-joined (k .settling) i j less; falls = omega (arith, k .falls, j .falls) }
   where
     on : (x : ℕ) → x < length (t .arcs) → leads-to t s x ≡ true → p ≤ place t x → Dec (place t x ≡ p)
         → (x ≡ i) ⊎ (leads-to t s x && leb (p + 1) (place t x) ≡ true)
