@@ -5,7 +5,7 @@ use mathlib.Core.List.{List, [], _∷_, _++_, map}
 use Prim.Native.Nat.{ℕ, zero, suc, _+_, min}
 use lib.Dec.{ltb, eqb}
 use lib.ListN.{length, getD}
-use Rattle.transducer.specs.Format.{Transducer}
+use Rattle.transducer.specs.Format.{Transducer, max-count}
 use Rattle.transducer.specs.Path.{is-final}
 use Rattle.transducer.specs.Each.{each-arc}
 use Rattle.reach.specs.Reach.{some-arc, coaccessible}
@@ -38,7 +38,7 @@ endless t = goes-on (t .states) t (t .start)
 
 -- The path count: 99 stands for 99 or more.
 abbrev pub most-counted : ℕ
-most-counted = 99
+most-counted = max-count
 
 unfoldable pub path-count : Transducer → ℕ
 path-count t = min most-counted (length (paths t))

@@ -6,7 +6,7 @@ use mathlib.Core.List.{List}
 use Prim.Native.Nat.{ℕ, zero, suc, _+_, _-_, _≤_, _<_, min}
 use lib.Dec.{ltb, eqb}
 use lib.ListN.{length, getD, set}
-use Rattle.transducer.specs.Format.{Transducer}
+use Rattle.transducer.specs.Format.{max-states, Transducer}
 use Rattle.transducer.specs.Path.{arc}
 use Rattle.reach.specs.Counted.{count}
 use Rattle.paths.specs.declared.Count.{Count}
@@ -24,8 +24,8 @@ by-marks t ms k = marked ms (arc t k .target)
 
 -- The open arcs of each state, of the first i.
 pub record Opened-arcs (t : Transducer) (done : ℕ → Bool) (i : ℕ) (left : List ℕ) : Type 0 where
-  pub long : length left ≡ 1024
-  pub lefts : (u : ℕ) → u < 1024 → getD left u 0 ≡ count i (open-at t done u)
+  pub long : length left ≡ max-states
+  pub lefts : (u : ℕ) → u < max-states → getD left u 0 ≡ count i (open-at t done u)
 
 -- Whether a state has open arcs.
 unfoldable pub is-open : List ℕ → (u : ℕ) → Bool
@@ -37,7 +37,7 @@ Not-on stack top s = (j : ℕ) → j < top → getD stack j 0 ≡ s → ⊥
 
 -- Of the states below n, those that are not marked and have no open arc are on the stack, each once, and no others.
 pub record Stacked (n : ℕ) (ms : List Bool) (left stack : List ℕ) (top : ℕ) : Type 0 where
-  pub long : length stack ≡ 1024
+  pub long : length stack ≡ max-states
   pub held : (a : ℕ) → a < top → (getD stack a 0 < n) × (marked ms (getD stack a 0) ≡ false) × (getD left (getD stack a 0) 0 ≡ 0)
   pub apart : (a b : ℕ) → a < b → b < top → getD stack a 0 ≡ getD stack b 0 → ⊥
   pub all : (u : ℕ) → u < n → marked ms u ≡ false → getD left u 0 ≡ 0 → Not-on stack top u → ⊥
@@ -45,7 +45,7 @@ pub record Stacked (n : ℕ) (ms : List Bool) (left stack : List ℕ) (top : ℕ
 
 -- Marked states have no open arc.
 pub record Counting (t : Transducer) (done : ℕ → Bool) (ms : List Bool) (left stack : List ℕ) (top : ℕ) : Type 0 where
-  pub marks-long : length ms ≡ 1024
+  pub marks-long : length ms ≡ max-states
   pub opened : Opened-arcs t done (length (t .arcs)) left
   pub shut : (u : ℕ) → u < t .states → marked ms u ≡ true → getD left u 0 ≡ 0
   pub stacked : Stacked (t .states) ms left stack top
@@ -63,7 +63,7 @@ sum-done (suc n) t done u c = sum-done n t done u c + cond (eqb (arc t n .source
 
 -- A count has that of the empty path and those where the done arcs lead.
 pub record Partial-sums (t : Transducer) (done : ℕ → Bool) (cs : List Count) : Type 0 where
-  pub long : length cs ≡ 1024
+  pub long : length cs ≡ max-states
   pub sums : (u : ℕ) → u < t .states → at-state cs u ≡ min most-counted (own t u + sum-done (length (t .arcs)) t done u (at-state cs))
 
 -- The marked states are counted, and those without an open arc wait on the stack.
@@ -75,7 +75,7 @@ pub record Underway (t : Transducer) (ms : List Bool) (left stack : List ℕ) (t
 
 -- None waits any more: an arc leads from each unmarked state to an unmarked one, and from no marked one.
 pub record Rested (t : Transducer) (ms : List Bool) (cs : List Count) : Type 0 where
-  pub marks-long : length ms ≡ 1024
+  pub marks-long : length ms ≡ max-states
   pub shut : (s : ℕ) → s < t .states → marked ms s ≡ true → leads-on t ms s ≡ false
   pub rest : (s : ℕ) → s < t .states → marked ms s ≡ false → leads-on t ms s ≡ true
   pub stopping : Stopping t (marked ms)

@@ -5,7 +5,7 @@ use mathlib.Core.List.{List, []}
 use Prim.Native.Nat.{ℕ}
 use lib.Dec.{ltb, leb}
 use lib.ListN.{length}
-use Rattle.transducer.specs.Format.{Transducer, refusal, decode}
+use Rattle.transducer.specs.Format.{max-path, Transducer, refusal, decode}
 use Rattle.transducer.specs.Path.{written-by, path-cost}
 use Rattle.transducer.specs.Entry.{or-else, unless, left-in}
 use Rattle.wire.specs.Bytes.{filled}
@@ -25,7 +25,7 @@ pub record Count-says (bs : List ℕ) (number : ℕ) (r : Counted) : Type 0 wher
 unfoldable pub nth-refusal : List ℕ → (k arcs labels : ℕ) → ℕ
 nth-refusal bs k a b =
     or-else (refusal bs)
-    (cond (ltb a 1023 || ltb b 1023) 10
+    (cond (ltb a max-path || ltb b max-path) 10
     (cond (endless (decode bs)) 14
     (cond (leb (path-count (decode bs)) k) 15 0)))
 

@@ -4,7 +4,7 @@ use mathlib.Core.Bool.{Bool, true, false, not}
 use mathlib.Core.List.{List}
 use Prim.Native.Nat.{ℕ, zero, suc, _+_, _≤_, _<_, min}
 use lib.ListN.{length, getD}
-use Rattle.transducer.specs.Format.{Transducer, decode}
+use Rattle.transducer.specs.Format.{max-states, Transducer, decode}
 use Rattle.transducer.specs.Leaf.{Opened, Indexed}
 use Rattle.paths.specs.declared.Count.{Count}
 use Rattle.paths.specs.declared.Totals.{Totals}
@@ -45,13 +45,13 @@ at-state cs s = getD cs s (record { value = 0 }) .value
 
 -- Counts on their way: that of each marked state is its tally, of so many arcs or more.
 pub record Tallied (t : Transducer) (ms : List Bool) (cs : List Count) : Type 0 where
-  pub long : length cs ≡ 1024
+  pub long : length cs ≡ max-states
   pub rounds : ℕ
   pub tallied : (s : ℕ) → s < t .states → marked ms s ≡ true → (k : ℕ) → rounds ≤ k → at-state cs s ≡ tally k t s
 
 -- In the end: the count of each state from which only finitely many accepting paths go.
 pub record Path-counts (t : Transducer) (cs : List Count) : Type 0 where
-  pub long : length cs ≡ 1024
+  pub long : length cs ≡ max-states
   pub counts : (s : ℕ) → s < t .states → goes-on (t .states) t s ≡ false → at-state cs s ≡ min most-counted (length (paths-from (t .states) t s))
 
 pub record Totals-say (t : Transducer) (r : Totals) : Type 0 where

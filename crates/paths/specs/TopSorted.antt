@@ -4,7 +4,7 @@ use mathlib.Core.Bool.{true, false}
 use mathlib.Core.List.{List}
 use Prim.Native.Nat.{ℕ, _≤_, _<_}
 use lib.ListN.{length}
-use Rattle.transducer.specs.Format.{Transducer}
+use Rattle.transducer.specs.Format.{max-states, Transducer}
 use Rattle.transducer.specs.Path.{arc}
 use Rattle.paths.specs.declared.Count.{Count}
 use Rattle.paths.specs.declared.Pass.{Pass}
@@ -17,7 +17,7 @@ Top-sorted t i = (j : ℕ) → i ≤ j → j < length (t .arcs) → arc t j .sou
 
 -- The counts of the empty paths from so many states.
 pub record Empty-paths (t : Transducer) (states : ℕ) (cs : List Count) : Type 0 where
-  pub long : length cs ≡ 1024
+  pub long : length cs ≡ max-states
   pub counts : (s : ℕ) → s < states → at-state cs s ≡ own t s
 
 -- Topologically sorted, a transducer has no cycle.

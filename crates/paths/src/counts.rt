@@ -4,7 +4,7 @@ ghost use mathlib.Core.Bool.{true, false, cond};
 ghost use Prim.Native.Nat.{_-_, _≤_, _<_};
 ghost use lib.Dec.{eqb};
 ghost use lib.ListN.{length, getD, replicate};
-ghost use Rattle.transducer.specs.Format.{refusal, decode};
+ghost use Rattle.transducer.specs.Format.{max-arcs, max-states, refusal, decode};
 ghost use Rattle.transducer.specs.Leaf.{Opened};
 ghost use Rattle.reach.specs.Stack.{Chained};
 ghost use Rattle.paths.specs.Tally.{add};
@@ -14,8 +14,13 @@ ghost use Rattle.paths.specs.Counting.{by-marks, Opened-arcs, Stacked, C
 use crate::Count;
 use crate::Totals;
 use crate::marks;
+use transducer::FINAL_BYTES;
+use transducer::HEAD_BYTES;
+use transducer::MAX_ARCS;
+use transducer::MAX_COUNT;
+use transducer::MAX_STATES;
 
-pub const MOST: u8 = 99;
+pub const MOST: u8 = MAX_COUNT as u8;
 
 impl Count {
     // The sum of two counts.
@@ -49,14 +54,14 @@ fn link_arcs(
     table: &[u8],
     first: usize,
     arcs: usize,
-    heads: &mut [u32; 1024],
-    next: &mut [u32; 3072],
-    left: &mut [u16; 1024],
+    heads: &mut [u32; MAX_STATES],
+    next: &mut [u32; MAX_ARCS],
+    left: &mut [u16; MAX_STATES],
 )
-    requires { ⌜ Opened (now table) first × (arcs ≡ length (decode (now table) .arcs)) × (now heads ≡ replicate 1024 0) × (length (now next) ≡ 3072)
-        × (now left ≡ replicate 1024 0) ⌝ }
+    requires { ⌜ Opened (now table) first × (arcs ≡ length (decode (now table) .arcs)) × (now heads ≡ replicate max-states 0) × (length (now next) ≡ max-arcs)
+        × (now left ≡ replicate max-states 0) ⌝ }
     ensures { λ _. ⌜ Chained (decode (now (table .entry))) true (now (heads .exit)) (now (next .exit))
-        × Opened-arcs (decode (now (table .entry))) (by-marks (decode (now (table .entry))) (replicate 1024 false)) arcs (now (left .exit)) ⌝ }
+        × Opened-arcs (decode (now (table .entry))) (by-marks (decode (now (table .entry))) (replicate max-states false)) arcs (now (left .exit)) ⌝ }
 {
     let mut i = 0;
     while i < arcs {
@@ -70,8 +75,14 @@ fn link_arcs(
 }
 
 // Counts the open arcs of each state, those to states that are not marked, in an array of zeros.
-fn count_open(table: &[u8], first: usize, arcs: usize, marks: &[bool; 1024], left: &mut [u16; 1024])
-    requires { ⌜ Opened (now table) first × (arcs ≡ length (decode (now table) .arcs)) × (now left ≡ replicate 1024 0) ⌝ }
+fn count_open(
+    table: &[u8],
+    first: usize,
+    arcs: usize,
+    marks: &[bool; MAX_STATES],
+    left: &mut [u16; MAX_STATES],
+)
+    requires { ⌜ Opened (now table) first × (arcs ≡ length (decode (now table) .arcs)) × (now left ≡ replicate max-states 0) ⌝ }
     ensures { λ _. ⌜ Opened-arcs (decode (now (table .entry))) (by-marks (decode (now (table .entry))) (now (marks .entry))) arcs (now (left .exit)) ⌝ }
 {
     let mut i = 0;
@@ -89,11 +100,11 @@ fn count_open(table: &[u8], first: usize, arcs: usize, marks: &[bool; 1024], lef
 // Puts the states that are not marked and have no open arc on the stack. How many there are.
 fn push_shut(
     states: usize,
-    marks: &[bool; 1024],
-    left: &[u16; 1024],
-    stack: &mut [u16; 1024],
+    marks: &[bool; MAX_STATES],
+    left: &[u16; MAX_STATES],
+    stack: &mut [u16; MAX_STATES],
 ) -> usize
-    requires { ⌜ (states ≤ 1024) × (length (now stack) ≡ 1024) ⌝ }
+    requires { ⌜ (states ≤ max-states) × (length (now stack) ≡ max-states) ⌝ }
     ensures { λ r. ⌜ Stacked states (now (marks .entry)) (now (left .entry)) (now (stack .exit)) r ⌝ }
 {
     let mut s = 0;
@@ -114,9 +125,14 @@ fn push_shut(
 }
 
 // Takes one off the open arcs of a state, which goes on the stack where that was the last. Where the stack ends.
-fn close_arc(u: usize, top: usize, left: &mut [u16; 1024], stack: &mut [u16; 1024]) -> usize
-    requires { ⌜ (u < 1024) × (length (now left) ≡ 1024) × (length (now stack) ≡ 1024) × (0 < getD (now left) u 0)
-        × (getD (now left) u 0 - 1 ≡ 0 → top < 1024) ⌝ }
+fn close_arc(
+    u: usize,
+    top: usize,
+    left: &mut [u16; MAX_STATES],
+    stack: &mut [u16; MAX_STATES],
+) -> usize
+    requires { ⌜ (u < max-states) × (length (now left) ≡ max-states) × (length (now stack) ≡ max-states) × (0 < getD (now left) u 0)
+        × (getD (now left) u 0 - 1 ≡ 0 → top < max-states) ⌝ }
     ensures { λ r. ⌜ Closed-arc (now (left .entry)) (now (stack .entry)) u top (now (left .exit)) (now (stack .exit)) r ⌝ }
 {
     let fewer = left[u] - 1;
@@ -132,14 +148,14 @@ fn close_arc(u: usize, top: usize, left: &mut [u16; 1024], stack: &mut [u16; 102
 // goes on the stack. From a state that stays unmarked arcs lead on to unmarked ones.
 fn count_all(
     table: &[u8],
-    heads: &[u32; 1024],
-    next: &[u32; 3072],
+    heads: &[u32; MAX_STATES],
+    next: &[u32; MAX_ARCS],
     waiting: usize,
-    parts: [Count; 1024],
-    marks: &mut [bool; 1024],
-    left: &mut [u16; 1024],
-    stack: &mut [u16; 1024],
-) -> [Count; 1024]
+    parts: [Count; MAX_STATES],
+    marks: &mut [bool; MAX_STATES],
+    left: &mut [u16; MAX_STATES],
+    stack: &mut [u16; MAX_STATES],
+) -> [Count; MAX_STATES]
     requires { ⌜ (refusal (now table) ≡ 0) × Chained (decode (now table)) true (now heads) (now next)
         × Underway (decode (now table)) (now marks) (now left) (now stack) waiting parts ⌝ }
     ensures { λ r. ⌜ Rested (decode (now (table .entry))) (now (marks .exit)) r × Grown (now (marks .entry)) (now (marks .exit)) ⌝ }
@@ -170,16 +186,16 @@ fn counts_with_cycles(
     states: usize,
     arcs: usize,
     start: usize,
-    heads: &[u32; 1024],
-    next: &[u32; 3072],
-    parts: [Count; 1024],
-    marks: &mut [bool; 1024],
+    heads: &[u32; MAX_STATES],
+    next: &[u32; MAX_ARCS],
+    parts: [Count; MAX_STATES],
+    marks: &mut [bool; MAX_STATES],
 ) -> Totals
     requires { ⌜ Opened (now table) first × (states ≡ decode (now table) .states) × (arcs ≡ length (decode (now table) .arcs))
         × (start ≡ decode (now table) .start) × Chained (decode (now table)) true (now heads) (now next) × Rested (decode (now table)) (now marks) parts ⌝ }
     ensures { λ r. ⌜ Totals-say (decode (now (table .entry))) r ⌝ }
 {
-    let finals = (first - 12) / 10;
+    let finals = (first - HEAD_BYTES) / FINAL_BYTES;
     let live = reach::coaccessible_chained(table, first, states, arcs, finals, heads, next);
     if !marks::dead_unmarked(states, &live, marks) {
         let counted = marks[start];
@@ -189,8 +205,8 @@ fn counts_with_cycles(
         };
     }
     marks::mark_dead(states, &live, marks);
-    let mut left = [0u16; 1024];
-    let mut stack = [0u16; 1024];
+    let mut left = [0u16; MAX_STATES];
+    let mut stack = [0u16; MAX_STATES];
     count_open(table, first, arcs, marks, &mut left);
     let waiting = push_shut(states, marks, &left, &mut stack);
     let counts = count_all(
@@ -218,17 +234,17 @@ pub fn counts_of(
     states: usize,
     arcs: usize,
     start: usize,
-    empty: [Count; 1024],
+    empty: [Count; MAX_STATES],
 ) -> Totals
     requires { ⌜ Opened (now table) first × (states ≡ decode (now table) .states) × (arcs ≡ length (decode (now table) .arcs))
         × (start ≡ decode (now table) .start) × Empty-paths (decode (now table)) (decode (now table) .states) empty ⌝ }
     ensures { λ r. ⌜ Totals-say (decode (now (table .entry))) r ⌝ }
 {
-    let mut heads = [0u32; 1024];
-    let mut next = [0u32; 3072];
-    let mut marks = [false; 1024];
-    let mut left = [0u16; 1024];
-    let mut stack = [0u16; 1024];
+    let mut heads = [0u32; MAX_STATES];
+    let mut next = [0u32; MAX_ARCS];
+    let mut marks = [false; MAX_STATES];
+    let mut left = [0u16; MAX_STATES];
+    let mut stack = [0u16; MAX_STATES];
     link_arcs(table, first, arcs, &mut heads, &mut next, &mut left);
     let waiting = push_shut(states, &marks, &left, &mut stack);
     let counts = count_all(

@@ -13,6 +13,8 @@ use crate::Totals;
 use crate::counts;
 use crate::path;
 use crate::sorted;
+use transducer::INDEX_LEN;
+use transducer::MAX_STATES;
 
 // The counts of the accepting paths from each state, and whether those from the start are infinitely many: what the k-th path and the listing
 // share.
@@ -21,8 +23,8 @@ pub fn counts_by_state(
     first: usize,
     states: usize,
     start: usize,
-    index: &[u16; 1025],
-    codes: &[u32; 1024],
+    index: &[u16; INDEX_LEN],
+    codes: &[u32; MAX_STATES],
 ) -> Totals
     requires { ⌜ Ready (now table) first states (now index) × (start ≡ decode (now table) .start) × Finals-by-state (decode (now table)) (now codes) ⌝ }
     ensures { λ r. ⌜ Totals-say (decode (now (table .entry))) r ⌝ }

@@ -11,6 +11,7 @@ pub use entry::nth as nth_path;
 pub use entry::refused;
 pub use path::tell;
 pub use path::walk as nth_arcs;
+use transducer::MAX_STATES;
 
 // A count of paths: 99 stands for 99 or more.
 pub struct Count {
@@ -25,13 +26,13 @@ pub struct Counted {
 
 // The counts that one pass over the arcs comes to, and whether the states are topologically sorted: else the counts say nothing.
 pub struct Pass {
-    pub counts: [Count; 1024],
+    pub counts: [Count; MAX_STATES],
     pub sorted: bool,
 }
 
 // The counts from each state, and whether accepting paths are infinitely many.
 pub struct Totals {
-    pub counts: [Count; 1024],
+    pub counts: [Count; MAX_STATES],
     pub endless: bool,
 }
 

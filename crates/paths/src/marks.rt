@@ -3,12 +3,14 @@ ghost use mathlib.Core.Path.{_≡_};
 ghost use mathlib.Core.Bool.{true, false};
 ghost use Prim.Native.Nat.{ℕ, _≤_, _<_};
 ghost use lib.ListN.{length, getD};
+ghost use Rattle.transducer.specs.Format.{max-states};
 ghost use Rattle.paths.specs.Sweep.{marked};
 ghost use Rattle.paths.specs.Counting.{With-dead};
+use transducer::MAX_STATES;
 
 // Whether all states are marked.
-pub fn all_marked(states: usize, marks: &[bool; 1024]) -> bool
-    requires { ⌜ states ≤ 1024 ⌝ }
+pub fn all_marked(states: usize, marks: &[bool; MAX_STATES]) -> bool
+    requires { ⌜ states ≤ max-states ⌝ }
     ensures { λ r. ⌜ (r ≡ true → (s : ℕ) → s < states → marked (now (marks .entry)) s ≡ true) ⌝ }
 {
     let mut s = 0;
@@ -22,8 +24,8 @@ pub fn all_marked(states: usize, marks: &[bool; 1024]) -> bool
 }
 
 // Whether some state is neither live nor marked.
-pub fn dead_unmarked(states: usize, live: &[bool; 1024], marks: &[bool; 1024]) -> bool
-    requires { ⌜ states ≤ 1024 ⌝ }
+pub fn dead_unmarked(states: usize, live: &[bool; MAX_STATES], marks: &[bool; MAX_STATES]) -> bool
+    requires { ⌜ states ≤ max-states ⌝ }
     ensures { λ r. ⌜ (r ≡ false → (s : ℕ) → s < states → marked (now (live .entry)) s ≡ false → marked (now (marks .entry)) s ≡ true) ⌝ }
 {
     let mut s = 0;
@@ -37,8 +39,8 @@ pub fn dead_unmarked(states: usize, live: &[bool; 1024], marks: &[bool; 1024]) -
 }
 
 // Marks the states that are not live.
-pub fn mark_dead(states: usize, live: &[bool; 1024], marks: &mut [bool; 1024])
-    requires { ⌜ (states ≤ 1024) × (length (now marks) ≡ 1024) ⌝ }
+pub fn mark_dead(states: usize, live: &[bool; MAX_STATES], marks: &mut [bool; MAX_STATES])
+    requires { ⌜ (states ≤ max-states) × (length (now marks) ≡ max-states) ⌝ }
     ensures { λ _. ⌜ With-dead states (now (live .entry)) (now (marks .entry)) (now (marks .exit)) ⌝ }
 {
     let mut s = 0;

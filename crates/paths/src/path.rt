@@ -4,7 +4,7 @@ ghost use mathlib.Core.Bool.{true, false};
 ghost use Prim.Native.Nat.{_≤_, _<_};
 ghost use lib.ListN.{length, take};
 ghost use Rattle.wire.specs.Bytes.{filled};
-ghost use Rattle.transducer.specs.Format.{decode};
+ghost use Rattle.transducer.specs.Format.{max-path, decode};
 ghost use Rattle.transducer.specs.Path.{accepts};
 ghost use Rattle.transducer.specs.Leaf.{Opened, Finals-by-state};
 ghost use Rattle.paths.specs.Count.{endless, path-count, nth-path};
@@ -13,6 +13,8 @@ ghost use Rattle.paths.specs.Entry.{Tells};
 use crate::Count;
 use crate::Told;
 use crate::counts;
+use transducer::INDEX_LEN;
+use transducer::MAX_STATES;
 
 // Puts the arc numbers of the k-th path into `arcs`, zeros behind; how many there are.
 pub fn walk(
@@ -21,13 +23,13 @@ pub fn walk(
     states: usize,
     start: usize,
     k: u32,
-    index: &[u16; 1025],
-    codes: &[u32; 1024],
-    all: [Count; 1024],
+    index: &[u16; INDEX_LEN],
+    codes: &[u32; MAX_STATES],
+    all: [Count; MAX_STATES],
     arcs: &mut [u16],
 ) -> usize
     requires { ⌜ Ready (now table) first states (now index) × Finals-by-state (decode (now table)) (now codes) × Path-counts (decode (now table)) all
-        × (start ≡ decode (now table) .start) × (endless (decode (now table)) ≡ false) × (k < path-count (decode (now table))) × (1023 ≤ length (now arcs)) ⌝ }
+        × (start ≡ decode (now table) .start) × (endless (decode (now table)) ≡ false) × (k < path-count (decode (now table))) × (max-path ≤ length (now arcs)) ⌝ }
     ensures { λ r. ⌜ (now (arcs .exit) ≡ filled (length (now (arcs .entry))) (nth-path (decode (now (table .entry))) k))
         × (r ≡ length (nth-path (decode (now (table .entry))) k)) ⌝ }
 {
@@ -65,13 +67,13 @@ pub fn tell(
     table: &[u8],
     first: usize,
     start: usize,
-    codes: &[u32; 1024],
+    codes: &[u32; MAX_STATES],
     arcs: &[u16],
     len: usize,
     labels: &mut [u16],
 ) -> Told
     requires { ⌜ Opened (now table) first × (start ≡ decode (now table) .start) × Finals-by-state (decode (now table)) (now codes)
-        × (len ≤ length (now arcs)) × (len ≤ 1023) × (accepts (decode (now table)) (take len (now arcs)) ≡ true) × (1023 ≤ length (now labels)) ⌝ }
+        × (len ≤ length (now arcs)) × (len ≤ max-path) × (accepts (decode (now table)) (take len (now arcs)) ≡ true) × (max-path ≤ length (now labels)) ⌝ }
     ensures { λ r. ⌜ Tells (decode (now (table .entry))) (take len (now (arcs .entry))) r (now (labels .entry)) (now (labels .exit)) ⌝ }
 {
     let mut s = start;

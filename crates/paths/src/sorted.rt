@@ -2,19 +2,20 @@
 ghost use mathlib.Core.Path.{_≡_};
 ghost use Prim.Native.Nat.{_≤_};
 ghost use lib.ListN.{length};
-ghost use Rattle.transducer.specs.Format.{decode, refusal, head-finals};
+ghost use Rattle.transducer.specs.Format.{max-states, decode, refusal, head-finals};
 ghost use Rattle.transducer.specs.Leaf.{Opened, Finals-by-state};
 ghost use Rattle.paths.specs.TopSorted.{Empty-paths, Pass-says};
 use crate::Count;
 use crate::Pass;
 use crate::counts;
+use transducer::MAX_STATES;
 
 // The counts of the empty paths: 1 at each final state.
-pub fn empty_paths(table: &[u8], finals: usize) -> [Count; 1024]
+pub fn empty_paths(table: &[u8], finals: usize) -> [Count; MAX_STATES]
     requires { ⌜ (refusal (now table) ≡ 0) × (finals ≡ head-finals (now table)) ⌝ }
     ensures { λ r. ⌜ Empty-paths (decode (now (table .entry))) (decode (now (table .entry)) .states) r ⌝ }
 {
-    let mut counts = [Count { value: 0 }; 1024];
+    let mut counts = [Count { value: 0 }; MAX_STATES];
     let mut i = 0;
     while i < finals {
         // The record of final `i` stands where the arcs would begin behind so many finals.
@@ -27,11 +28,11 @@ pub fn empty_paths(table: &[u8], finals: usize) -> [Count; 1024]
 }
 
 // The same by the final codes of so many states.
-pub fn empty_by_codes(table: &[u8], states: usize, codes: &[u32; 1024]) -> [Count; 1024]
-    requires { ⌜ Finals-by-state (decode (now table)) (now codes) × (states ≤ 1024) ⌝ }
+pub fn empty_by_codes(table: &[u8], states: usize, codes: &[u32; MAX_STATES]) -> [Count; MAX_STATES]
+    requires { ⌜ Finals-by-state (decode (now table)) (now codes) × (states ≤ max-states) ⌝ }
     ensures { λ r. ⌜ Empty-paths (decode (now (table .entry))) states r ⌝ }
 {
-    let mut counts = [Count { value: 0 }; 1024];
+    let mut counts = [Count { value: 0 }; MAX_STATES];
     let mut s = 0;
     while s < states {
         counts[s] = counts::own(codes[s]);
@@ -41,7 +42,7 @@ pub fn empty_by_codes(table: &[u8], states: usize, codes: &[u32; 1024]) -> [Coun
 }
 
 // The counts by one pass over the arcs, the last one first: where states are topologically sorted, the count that an arc adds is complete.
-pub fn counts_sorted(table: &[u8], first: usize, arcs: usize, empty: [Count; 1024]) -> Pass
+pub fn counts_sorted(table: &[u8], first: usize, arcs: usize, empty: [Count; MAX_STATES]) -> Pass
     requires { ⌜ Opened (now table) first × (arcs ≡ length (decode (now table) .arcs)) × Empty-paths (decode (now table)) (decode (now table) .states) empty ⌝ }
     ensures { λ r. ⌜ Pass-says (decode (now (table .entry))) r ⌝ }
 {
