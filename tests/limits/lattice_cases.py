@@ -74,7 +74,8 @@ def apply_rows():
     yield a(0, "label 65534 in the string", (65534,), one_state((1, 65534, 65534, 0)), after=(2, 1))
     yield a(0, "a string that nothing reads", (7,), copy, before=(1, 0), after=(1, 0))
     yield a(0, "a string that ends too early", (1,), line(3), before=(2, 1), after=(1, 0))
-    yield a(0, "arcs that read nothing", (1, 1), sound(n=3, start=2, finals=((0, 4),), arcs=((0, 0, 8, 0, 1), (1, 1, 0, 0, 2), (2, 0, 9, 1, 3), (2, 1, 3, 2, 4))), after=(4, 4))
+    silent = sound(n=3, start=2, finals=((0, 4),), arcs=((0, 0, 8, 0, 1), (1, 1, 0, 0, 2), (2, 0, 9, 1, 3), (2, 1, 3, 2, 4)))
+    yield a(0, "arcs that read nothing", (1, 1), silent, after=(4, 4))
     yield from apply_size_rows()
     yield from apply_room_rows()
 
@@ -112,7 +113,8 @@ def trim_rows():
     t = trim_row
     yield t(0, "the smallest transducer", SMALLEST, after=(1, 0), same=True)
     yield t(0, "nothing accepts", sound(n=4, start=2, finals=((0, 5),), arcs=((0, 1, 2, 2, 3), (2, 1, 2, 3, 3))), after=(1, 0))
-    yield t(0, "a start that is not state 0", sound(n=5, start=3, finals=((4, 7),), arcs=((0, 1, 1, 4, 0), (1, 2, 2, 4, 1), (3, 3, 3, 1, 2), (3, 4, 4, 2, 3))), after=(3, 2))
+    from_3 = sound(n=5, start=3, finals=((4, 7),), arcs=((0, 1, 1, 4, 0), (1, 2, 2, 4, 1), (3, 3, 3, 1, 2), (3, 4, 4, 2, 3)))
+    yield t(0, "a start that is not state 0", from_3, after=(3, 2))
     ring = sound(n=4, start=0, finals=((1, 0),), arcs=((0, 1, 2, 1, 0), (0, 1, 3, 2, 0), (2, 0, 4, 3, 0), (3, 0, 5, 2, 0)))
     yield t(0, "a ring on no accepting path", ring, after=(2, 1))
     apart = sound(n=4, start=0, finals=((1, 0),), arcs=((0, 1, 2, 1, 0), (2, 0, 4, 3, 0), (3, 0, 5, 1, 0), (3, 0, 6, 2, 0)))
@@ -120,7 +122,8 @@ def trim_rows():
     yield t(0, "one already trimmed", sound(n=2, start=1, finals=((0, 5),), arcs=((0, 1, 2, 1, 3), (1, 3, 0, 0, 1))), after=(2, 2), same=True)
     backwards = sound(n=STATES, start=STATES - 1, finals=((0, 1),), arcs=[(s, 1, 2, s - 1, s) for s in range(1, STATES)])
     yield t(0, "a line of 1024 states numbered backwards", backwards, after=(1024, 1023), same=True)
-    yield t(0, "each second arc kept", sound(n=3, start=0, finals=((1, 0),), arcs=loops(0, [(3, 1, 2, 0)]) + [(0, 1, 1, 2, 5), (0, 9, 9, 1, 4), (0, 2, 1, 2, 5), (1, 8, 8, 0, 3)]), after=(2, 5))
+    arcs = loops(0, [(3, 1, 2, 0)]) + [(0, 1, 1, 2, 5), (0, 9, 9, 1, 4), (0, 2, 1, 2, 5), (1, 8, 8, 0, 3)]
+    yield t(0, "each second arc kept", sound(n=3, start=0, finals=((1, 0),), arcs=arcs), after=(2, 5))
     yield t(5, "5", sound(arcs=((0, 1, 2, 4, 3),)))
     yield t(1, "1 before 10", SMALLEST[:-1], room=TRIMMED_SHORT, also=[10])
     yield t(10, "bytes one short", SMALLEST, room=TRIMMED_SHORT)

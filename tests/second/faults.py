@@ -103,8 +103,10 @@ MORE = [
     ("lattice final before the end", "pub fn lattice", "place == code.len()", "place <= code.len()"),
     ("numbers of a lattice from the joined trim", "pub fn apply", "kept.iter().map(|&i| from[i]).collect()", "kept.clone()"),
     ("no acceptance leaves no state", "pub fn trimmed", "states: 1, start: 0", "states: t.states, start: t.start"),
-    ("ties to the later arc", "pub fn cheapest", "(way.0, way.1, &way.2) < (old.0, old.1, &old.2)", "(way.0, way.1) < (old.0, old.1) || (way.0, way.1) == (old.0, old.1) && way.2 > old.2"),
-    ("write tests what lies behind", "pub fn write", "if fields.len() < 4 * m || arc_weights.len() < m {", "if fields.len() != 4 * m || arc_weights.len() < m {"),
+    ("ties to the later arc", "pub fn cheapest", "(way.0, way.1, &way.2) < (old.0, old.1, &old.2)",
+     "(way.0, way.1) < (old.0, old.1) || (way.0, way.1) == (old.0, old.1) && way.2 > old.2"),
+    ("write tests what lies behind", "pub fn write", "if fields.len() < 4 * m || arc_weights.len() < m {",
+     "if fields.len() != 4 * m || arc_weights.len() < m {"),
     ("write cuts numbers to 16 bits", "pub fn write", "let [n, m, f, start] = head;", "let [n, m, f, start] = head.map(|x| x % 65_536);"),
     ("listing: an odd byte passed over", "fn listed", "if code.len() % 2 != 0 {", "if code.len() % 2 > 1 {"),
     ("listing: code before tables", "fn listed", "let mut table = vec![0; TABLE_BYTES];",
@@ -118,7 +120,8 @@ MORE = [
     ("listing: what the text says refuses the call", "pub fn list(", "(0, text.len() as u32, said)", "(said, text.len() as u32, said)"),
     ("listing: buffer one short passes", "", "65534\".len()) - 10;", "65534\".len()) - 11;"),
     ("listing: numbers of two digits alone", "", "65534\".len()) - 10;", "65534\".len());"),
-    ("chain: string before tables", "pub fn readings", "let (refused, length) = compose(", "if code.len() > MAX_CODE { return (9, 0); } let (refused, length) = compose("),
+    ("chain: string before tables", "pub fn readings", "let (refused, length) = compose(",
+     "if code.len() > MAX_CODE { return (9, 0); } let (refused, length) = compose("),
 ]
 
 

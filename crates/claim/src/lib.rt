@@ -3,7 +3,7 @@ ghost use Rattle.claim.specs.Entry.{Readings-says};
 use paths::Counted;
 
 // Composes two transducers, applies a string and counts the accepting paths: what a picking machine acts on. Nothing is lent: the calls
-// work in arrays of this one's own, which are long enough, so that 10 is never answered.
+// work in arrays of this one's own, which are long enough, so that 10 is never answered. Time is that of composing, applying and counting.
 pub fn readings(left: &[u8], right: &[u8], string: &[u16]) -> Counted
     ensures { λ r. ⌜ Readings-says (now (left .entry)) (now (right .entry)) (now (string .entry)) r ⌝ }
 {

@@ -76,7 +76,7 @@ fn copy_fields(bytes: &[u8], at: usize, count: usize, out: &mut [u16])
     wire::clear16(out, 4 * count);
 }
 
-// Reads a transducer into four lent buffers.
+// Reads a transducer into four lent buffers. Linear in the bytes and in what is lent.
 pub fn read(
     bytes: &[u8],
     final_states: &mut [u16],

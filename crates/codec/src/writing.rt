@@ -123,7 +123,7 @@ fn content_number(
     transducer::number(check_given_arcs(fields, arc_weights, m, n, finals))
 }
 
-// Writes a transducer from its four numbers and four runs into a lent buffer.
+// Writes a transducer from its four numbers and four runs into a lent buffer. Linear in finals and arcs and in what is lent.
 pub fn write(
     n: u32,
     m: u32,

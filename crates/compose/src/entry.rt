@@ -19,7 +19,8 @@ use transducer::MAX_ORIGINS;
 use transducer::MAX_STATES;
 use transducer::Written;
 
-// Composes two transducers: the composed one's bytes, and the origins of its arcs, the left one and the right one in turn.
+// Composes two transducers: the composed one's bytes, and the origins of its arcs, the left one and the right one in turn. Time grows with the
+// arcs of the two and the arcs composed, and with the left arcs looked at in each composed state.
 pub fn compose(
     left: &[u8],
     right: &[u8],
@@ -60,7 +61,8 @@ fn compose_into(
     states: &mut [u32],
 ) -> Written
     requires { ⌜ Composable (now left) (now right) (length (now table)) (length (now origins)) (length (now states)) ⌝ }
-    ensures { λ r. ⌜ Compose-says (now (left .entry)) (now (right .entry)) (built-refusal (composed (decode (now (left .entry))) (decode (now (right .entry))) .result))
+    ensures { λ r. ⌜ Compose-says (now (left .entry)) (now (right .entry))
+        (built-refusal (composed (decode (now (left .entry))) (decode (now (right .entry))) .result))
         r (now (table .entry)) (now (table .exit)) (now (origins .entry)) (now (origins .exit)) (now (states .entry)) (now (states .exit)) ⌝ }
 {
     let l = transducer::head_of(left);
@@ -122,7 +124,8 @@ fn write_out(
     requires { ⌜ Composable (now left) (now right) (length (now table)) (length (now origins)) (length (now states)) ⌝ }
     requires { ⌜ Finals-by-state (decode (now left)) (now lcodes) × Finals-by-state (decode (now right)) (now rcodes) ⌝ }
     requires { ⌜ Walked-through (now left) (now right) w (now table) (now origins) (now states) ⌝ }
-    ensures { λ r. ⌜ Compose-says (now (left .entry)) (now (right .entry)) (built-refusal (composed (decode (now (left .entry))) (decode (now (right .entry))) .result))
+    ensures { λ r. ⌜ Compose-says (now (left .entry)) (now (right .entry))
+        (built-refusal (composed (decode (now (left .entry))) (decode (now (right .entry))) .result))
         r (now (table .entry)) (now (table .exit)) (now (origins .entry)) (now (origins .exit)) (now (states .entry)) (now (states .exit)) ⌝ }
 {
     let count = w.states;

@@ -33,7 +33,8 @@ pub extern "C" fn forthwn_read(
     head: &mut [u32; 4],
 ) -> u32
     ensures { λ r. ⌜ Read-says (now (bytes .entry))
-        (read-refusal (now (bytes .entry)) (length (now («final_states» .entry))) (length (now («final_weights» .entry))) (length (now (fields .entry))) (length (now («arc_weights» .entry))))
+        (read-refusal (now (bytes .entry)) (length (now («final_states» .entry))) (length (now («final_weights» .entry)))
+        (length (now (fields .entry))) (length (now («arc_weights» .entry))))
         (header r (now (head .exit)))
         (now («final_states» .entry)) (now («final_states» .exit)) (now («final_weights» .entry)) (now («final_weights» .exit))
         (now (fields .entry)) (now (fields .exit)) (now («arc_weights» .entry)) (now («arc_weights» .exit)) ⌝ }
@@ -59,7 +60,8 @@ pub extern "C" fn forthwn_write(
 ) -> u32
     ensures { λ r. ⌜ Write-says
         (given n m f start (now («final_states» .entry)) (now («final_weights» .entry)) (now (fields .entry)) (now («arc_weights» .entry)))
-        (write-refusal n m f start (now («final_states» .entry)) (now («final_weights» .entry)) (now (fields .entry)) (now («arc_weights» .entry)) (length (now (out .entry))))
+        (write-refusal n m f start (now («final_states» .entry)) (now («final_weights» .entry)) (now (fields .entry)) (now («arc_weights» .entry))
+        (length (now (out .entry))))
         (written r (now (len .exit))) (now (out .entry)) (now (out .exit)) ⌝ }
 {
     let answer = codec::write(
@@ -111,7 +113,8 @@ pub extern "C" fn forthwn_apply(
 ) -> u32
     ensures { λ r. ⌜ Apply-says (now (string .entry)) (now (table .entry))
         (apply-refusal (now (string .entry)) (now (table .entry)) (length (now (lattice .entry))) (length (now (origins .entry))) (length (now (pairs .entry))))
-        (written r (now (len .exit))) (now (lattice .entry)) (now (lattice .exit)) (now (origins .entry)) (now (origins .exit)) (now (pairs .entry)) (now (pairs .exit)) ⌝ }
+        (written r (now (len .exit))) (now (lattice .entry)) (now (lattice .exit)) (now (origins .entry)) (now (origins .exit))
+        (now (pairs .entry)) (now (pairs .exit)) ⌝ }
 {
     let answer = lattice::apply(string, table, lattice, origins, pairs);
     *len = answer.len;

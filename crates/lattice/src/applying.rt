@@ -350,7 +350,8 @@ fn apply_into(
     }
 }
 
-// Applies a string to a transducer: the lattice's bytes, trimmed, and for each of its arcs the arc that it came from.
+// Applies a string to a transducer: the lattice's bytes, trimmed, and for each of its arcs the arc that it came from. Time grows with the arcs
+// of the transducer and with those of the table states that are met, once for each position they are met at.
 pub fn apply(
     string: &[u16],
     table: &[u8],

@@ -51,7 +51,7 @@ fn counted(all: Count) -> Counted
     }
 }
 
-// The number of accepting paths, 99 standing for 99 or more.
+// The number of accepting paths, 99 standing for 99 or more. Linear in states and arcs.
 pub fn count(table: &[u8]) -> Counted
     ensures { λ r. ⌜ Count-says (now (table .entry)) (count-refusal (now (table .entry))) r ⌝ }
 {

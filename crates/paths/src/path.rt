@@ -29,7 +29,8 @@ pub fn walk(
     arcs: &mut [u16],
 ) -> usize
     requires { ⌜ Ready (now table) first states (now index) × Finals-by-state (decode (now table)) (now codes) × Path-counts (decode (now table)) all
-        × (start ≡ decode (now table) .start) × (endless (decode (now table)) ≡ false) × (k < path-count (decode (now table))) × (max-path ≤ length (now arcs)) ⌝ }
+        × (start ≡ decode (now table) .start) × (endless (decode (now table)) ≡ false) × (k < path-count (decode (now table)))
+        × (max-path ≤ length (now arcs)) ⌝ }
     ensures { λ r. ⌜ (now (arcs .exit) ≡ filled (length (now (arcs .entry))) (nth-path (decode (now (table .entry))) k))
         × (r ≡ length (nth-path (decode (now (table .entry))) k)) ⌝ }
 {

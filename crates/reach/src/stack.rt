@@ -24,7 +24,8 @@ fn chain(
     heads: &mut [u32; MAX_STATES],
     next: &mut [u32; MAX_ARCS],
 )
-    requires { ⌜ Opened (now table) first × (arcs ≡ length (decode (now table) .arcs)) × (now heads ≡ replicate max-states 0) × (length (now next) ≡ max-arcs) ⌝ }
+    requires { ⌜ Opened (now table) first × (arcs ≡ length (decode (now table) .arcs))
+        × (now heads ≡ replicate max-states 0) × (length (now next) ≡ max-arcs) ⌝ }
     ensures { λ _. ⌜ Chained (decode (now (table .entry))) back (now (heads .exit)) (now (next .exit)) ⌝ }
 {
     let mut i = 0;

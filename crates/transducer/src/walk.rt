@@ -102,7 +102,7 @@ fn check_all(bytes: &[u8], n: u32, m: usize, f: usize) -> Checks
     check::check_arcs(bytes, bounds::arcs_at(f), m, n, finals)
 }
 
-// Refusals 1 to 8 of bytes, or 0 where they are accepted.
+// Refusals 1 to 8 of bytes, or 0 where they are accepted. Linear in the bytes.
 pub fn refusal(bytes: &[u8]) -> u32
     ensures { λ r. ⌜ r ≡ refusal (now (bytes .entry)) ⌝ }
 {

@@ -137,7 +137,7 @@ pub fn trim_into(table: &[u8], all_accessible: bool, out: &mut [u8], origins: &m
     end
 }
 
-// Trims a transducer into a lent buffer, and hands over one origin for each arc that is kept: its number in the table.
+// Trims a transducer into a lent buffer, and hands over one origin for each arc that is kept: its number in the table. Linear in states and arcs.
 pub fn trim(table: &[u8], out: &mut [u8], origins: &mut [u16]) -> Written
     ensures { λ r. ⌜ Trim-says (now (table .entry)) (trim-refusal (now (table .entry)) (length (now (out .entry))) (length (now (origins .entry))))
         r (now (out .entry)) (now (out .exit)) (now (origins .entry)) (now (origins .exit)) ⌝ }
