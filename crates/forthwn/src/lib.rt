@@ -80,7 +80,7 @@ pub extern "C" fn forthwn_write(
 }
 
 // Composes two transducers into a lent buffer, with the origins of its arcs, and puts the number of bytes into `len`; the states are
-// lent to work in. Linear in the right arcs, the left arcs taken at the states reached and the arcs made.
+// lent to work in. Linear in the right arcs, the left arcs taken at the states reached and the arcs made, as long as buckets stay short.
 #[no_mangle]
 pub extern "C" fn forthwn_compose(
     left: &[u8],
@@ -101,7 +101,7 @@ pub extern "C" fn forthwn_compose(
 }
 
 // Applies a string to a transducer: the lattice into a lent buffer, the origins of its arcs, and the number of bytes into `len`; the
-// pairs are lent to work in. Linear in the arcs that leave the pairs of position and state reached.
+// pairs are lent to work in. Linear in the arcs that leave the pairs of position and state reached, as long as buckets stay short.
 #[no_mangle]
 pub extern "C" fn forthwn_apply(
     string: &[u16],
