@@ -21,11 +21,13 @@ const ARCS_AT: usize = transducer::HEAD_BYTES + transducer::FINAL_BYTES * MAX_ST
 // Stored states stand in chains by bucket.
 pub const BUCKETS: usize = 1024;
 
+const BUCKET_MASK: usize = BUCKETS - 1;
+
 // The bucket of a key.
 pub fn bucket(key: u32) -> usize
     ensures { λ r. ⌜ (r ≡ bucket-of key) × (r < buckets) ⌝ }
 {
-    ((key as u64) * 2654435761 / 4194304 % 1024) as usize
+    (((key as u64) * 2654435761) >> 22) as usize & BUCKET_MASK
 }
 
 // Stores a new key under the next number, in front of the chain of its bucket.

@@ -7,6 +7,10 @@ use crate::State;
 
 const STATES: u32 = transducer::MAX_STATES as u32;
 
+const STATE_MASK: u32 = STATES - 1;
+
+const POSITION_SHIFT: u32 = 10;
+
 // A lattice state as one number.
 pub fn pack(position: u32, state: u32) -> u32
     requires { ⌜ (position < max-states) × (state < max-states) ⌝ }
@@ -20,7 +24,7 @@ pub fn unpack(key: u32) -> State
     ensures { λ r. ⌜ r ≡ unpacked key ⌝ }
 {
     State {
-        position: key / STATES,
-        state: key % STATES,
+        position: key >> POSITION_SHIFT,
+        state: key & STATE_MASK,
     }
 }

@@ -169,8 +169,8 @@ fn count_all(
         let whole = counts[s];
         let mut cell = heads[s];
         while cell != 0 {
-            let u = (cell / reach::LINKS) as usize;
-            let link = (cell % reach::LINKS) as usize;
+            let u = (cell >> reach::STATE_SHIFT) as usize;
+            let link = (cell & reach::LINK_MASK) as usize;
             cell = next[link - 1];
             counts[u] = counts[u].add(whole);
             top = close_arc(u, top, left, stack);

@@ -7,6 +7,7 @@ use Prim.Native.Nat.{ℕ, zero, suc, _+_, _*_, _-_, _/_, _%_, _≤_, _<_}
 use native.Mathlib.Numerals.{add-one}
 use native.Mathlib.Decide.{ℕ-discrete}
 use native.Mathlib.Omega.{arith}
+use lib.Bits.{bitAnd, and-mask}
 use lib.Dec.{ltb, eqb}
 use lib.ListN.{length, getD, set, replicate, length-set, length-replicate, getD-replicate}
 use lib.Seq.{getD-set-same, getD-set-other}
@@ -63,6 +64,10 @@ module _ (t : Transducer) (back : Bool) (s : ℕ) where
       on (no n) (no m) more = more (omega (arith, last-stays i n)) (omega arith)
 
 -- Cells
+
+-- The code takes a cell's number by a mask.
+pub cell-bits : (c : ℕ) → bitAnd c 4095 ≡ c % 4096
+cell-bits c = and-mask c 12
 
 pub cell-zero : (t : Transducer) (back : Bool) → cell t back 0 ≡ 0
 unfolding cell

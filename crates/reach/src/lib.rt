@@ -11,4 +11,6 @@ pub use index::by_target;
 pub use marks::accessible;
 pub use marks::coaccessible;
 pub use marks::coaccessible_chained;
+pub use stack::LINK_MASK;
 pub use stack::LINKS;
+pub use stack::STATE_SHIFT;

@@ -12,8 +12,12 @@ use crate::arcs;
 use transducer::MAX_ARCS;
 use transducer::MAX_STATES;
 
-// A cell holds a state times this, and the number of an arc and one more.
+// A cell holds a state times this, and the number of an arc and one more, its link, in the bits below.
 pub const LINKS: u32 = 4096;
+
+pub const LINK_MASK: u32 = LINKS - 1;
+
+pub const STATE_SHIFT: u32 = 12;
 
 // Puts the arcs in chains, `heads` being zeros: at a state the cell of its last arc, at an arc the cell of the one before it.
 fn chain(
@@ -75,8 +79,8 @@ fn serve(
     let mut cell = heads[s];
     let mut end = top;
     while cell != 0 {
-        let to = (cell / LINKS) as usize;
-        let link = (cell % LINKS) as usize;
+        let to = (cell >> STATE_SHIFT) as usize;
+        let link = (cell & LINK_MASK) as usize;
         cell = next[link - 1];
         if marks[to] {
             continue;

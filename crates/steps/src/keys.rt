@@ -1,4 +1,5 @@
-// A composed state as one number, its key: the filter state is its lowest bit, then come the right and the left state.
+// A composed state as one number, its key: the filter state is its lowest bit, above it stand ten bits of the right state, then the left state.
+// Nothing else knows how they are packed.
 ghost use mathlib.Core.Path.{_≡_};
 ghost use Rattle.steps.specs.Packing.{pack, unpacked, Bounded};
 use crate::State;
@@ -16,8 +17,8 @@ pub fn unpack(key: u32) -> State
     ensures { λ r. ⌜ r ≡ unpacked key ⌝ }
 {
     State {
-        left: key / 2048,
-        right: key / 2 % 1024,
-        filter: key % 2,
+        left: key >> 11,
+        right: (key >> 1) & 1023,
+        filter: key & 1,
     }
 }

@@ -13,11 +13,13 @@ use transducer::MAX_ARCS;
 // Arcs stand in chains by the bucket of their state and label.
 pub const LABEL_BUCKETS: usize = 4096;
 
+const BUCKET_MASK: usize = LABEL_BUCKETS - 1;
+
 // The bucket of a state and a label.
 fn label_bucket(state: u16, label: u16) -> usize
     ensures { λ r. ⌜ (r ≡ label-bucket state label) × (r < label-buckets) ⌝ }
 {
-    ((state as usize) * 61 + (label as usize)) % LABEL_BUCKETS
+    ((state as usize) * 61 + (label as usize)) & BUCKET_MASK
 }
 
 // The link to the first arc that leaves state `q` and reads `label`, along the chain that `head` leads to. An arc's source and label stand side

@@ -178,10 +178,10 @@ fn plain_arcs(bytes: &[u8], at: usize, count: usize, n: u32, floor: u32) -> u32
 fn at_a_glance(labels: u32, weights: u32) -> bool
     ensures { λ r. ⌜ (r ≡ true → Good-up-to labels weights) ⌝ }
 {
-    if bounds::BARRED as u32 <= labels % 65536 {
+    if bounds::BARRED as u32 <= labels & 65535 {
         return false;
     }
-    if bounds::BARRED as u32 <= labels / 65536 {
+    if bounds::BARRED as u32 <= labels >> 16 {
         return false;
     }
     weights <= bounds::MAX_WEIGHT

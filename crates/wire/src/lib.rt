@@ -39,8 +39,8 @@ pub fn put_u16(out: &mut [u8], at: usize, value: u16)
     requires { ⌜ at + 1 < length (now out) ⌝ }
     ensures { λ _. ⌜ now (out .exit) ≡ sets (now (out .entry)) at (low 2 value) ⌝ }
 {
-    out[at] = (value % 256) as u8;
-    out[at + 1] = (value / 256) as u8;
+    out[at] = (value & 255) as u8;
+    out[at + 1] = (value >> 8) as u8;
 }
 
 // Stores a number in the four bytes from `at`.
@@ -48,10 +48,10 @@ pub fn put_u32(out: &mut [u8], at: usize, value: u32)
     requires { ⌜ at + 3 < length (now out) ⌝ }
     ensures { λ _. ⌜ now (out .exit) ≡ sets (now (out .entry)) at (low 4 value) ⌝ }
 {
-    out[at] = (value % 256) as u8;
-    out[at + 1] = (value / 256 % 256) as u8;
-    out[at + 2] = (value / 65536 % 256) as u8;
-    out[at + 3] = (value / 16777216) as u8;
+    out[at] = (value & 255) as u8;
+    out[at + 1] = ((value >> 8) & 255) as u8;
+    out[at + 2] = ((value >> 16) & 255) as u8;
+    out[at + 3] = (value >> 24) as u8;
 }
 
 // Puts zeros from `from` to the end.

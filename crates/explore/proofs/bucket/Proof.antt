@@ -1,5 +1,7 @@
--- The result is `bucket-of` written out.
+-- The result is `bucket-of` written out: a mask of ones is the remainder.
 use borrow.Author.Needs.{needs}
+use Prim.Native.Nat.{_*_, _/_}
+use lib.Bits.{and-mask, mask-lt}
 use Rattle.explore.specs.Chain.{bucket-of}
 use Rattle.explore.proofs.bucket.Statement.{statement}
 use Rattle.explore.proofs.bucket.Tie as tie
@@ -9,7 +11,7 @@ mul-result c = search needs
 
 returns : tie.Need-returns
 unfolding bucket-of
-returns c = search needs
+returns c = let high = c .args .key * 2654435761 / 4194304 in (and-mask high 10, mask-lt high 10)
 
 pub bucket-spec : {M : Type 1} → statement M
 bucket-spec = tie.close (tie.spec mul-result returns)

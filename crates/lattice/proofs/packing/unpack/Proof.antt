@@ -1,12 +1,16 @@
--- The code is the definition.
-use mathlib.Core.Path.{refl}
+-- The code is the definition: a mask of ones is the remainder.
+use mathlib.Core.Path.{_≡_}
+use Prim.Native.Nat.{_%_}
+use lib.Bits.{bitAnd, and-mask}
 use Rattle.lattice.specs.Pack.{unpacked}
 use Rattle.lattice.proofs.packing.unpack.Statement.{statement}
 use Rattle.lattice.proofs.packing.unpack.Tie as tie
 
 returns : tie.Need-returns
 unfolding unpacked
-returns c = refl
+returns c =
+    let state : bitAnd (c .args .key) 1023 ≡ c .args .key % 1024 = and-mask (c .args .key) 10 in
+    rw state
 
 pub unpack-spec : {M : Type 1} → statement M
 unpack-spec = tie.close (tie.spec returns)

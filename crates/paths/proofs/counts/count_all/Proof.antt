@@ -5,11 +5,12 @@ use mathlib.Core.Bool.{true, false, not}
 use mathlib.Core.List.{List}
 use Prim.Native.Nat.{ℕ, _+_, _-_, _/_, _%_, _≤_, _<_}
 use native.Mathlib.Omega.{arith}
+use lib.Bits.{bitAnd}
 use lib.ListN.{length, getD, set}
 use Rattle.wire.specs.Bytes.{Bytes}
 use Rattle.transducer.specs.Format.{decode}
 use Rattle.reach.specs.Counted.{count}
-use Rattle.reach.proofs.Chains.{chain-link, chain-less}
+use Rattle.reach.proofs.Chains.{cell-bits, chain-link, chain-less}
 use Rattle.paths.specs.Sweep.{at-state, marked}
 use Rattle.paths.specs.Counting.{Underway, Grown}
 use Rattle.paths.proofs.Ready.{Sized, sized}
@@ -96,8 +97,10 @@ source c =
     (l .counts) (l .cell) (l .inv) (c .loop2-test .taken) in
     omega (arith, below, z .states)
 
-link : (c : Inner) → (0 < c .before .loop2 .cell % 4096) × (c .before .loop2 .cell % 4096 ≤ 3072)
-link c = chain-link (size (entry (outer (c .before))) .arcs) (c .before .loop2 .inv .chain) (c .loop2-test .taken)
+link : (c : Inner) → (0 < bitAnd (c .before .loop2 .cell) 4095) × (bitAnd (c .before .loop2 .cell) 4095 ≤ 3072)
+link c =
+    rw (cell-bits (c .before .loop2 .cell))
+    (chain-link (size (entry (outer (c .before))) .arcs) (c .before .loop2 .inv .chain) (c .loop2-test .taken))
 
 loop-holds : tie.Need-loop-holds Inv-loop2 μ-loop2 Inv-loop μ-loop
 loop-holds c = (start c .pre .2, λ s m. m)
@@ -192,7 +195,7 @@ loop2-less : tie.Need-loop2-less Inv-loop2 μ-loop2 Inv-loop μ-loop
 loop2-less c =
     let i = added (c .before .before .before) in
     let e = entry (outer (i .before)) in
-    chain-less (size e .arcs) (i .before .loop2 .inv .chain) (start e .pre .1) (i .loop2-test .taken)
+    rw (cell-bits (i .before .loop2 .cell)) (chain-less (size e .arcs) (i .before .loop2 .inv .chain) (start e .pre .1) (i .loop2-test .taken))
 
 loop2-again : tie.Need-loop2-again Inv-loop2 μ-loop2 Inv-loop μ-loop
 unfolding at-state
@@ -202,9 +205,10 @@ loop2-again c =
     let o = outer (i .before) in
     let a = start (entry o) .args in
     let l = i .before .loop2 in
-    releasing-next (decode (a .table .now)) (size (entry o)) (set (o .before .loop .marks) (state o) true) (state o) _ (l .left) (l .stack) (l .top) (l .counts)
+    rw (cell-bits (l .cell))
+    (releasing-next (decode (a .table .now)) (size (entry o)) (set (o .before .loop .marks) (state o) true) (state o) _ (l .left) (l .stack) (l .top) (l .counts)
     (l .cell) (l .inv) (i .loop2-test .taken) (a .heads .now) (a .next .now) (start (entry o) .pre .1) (sum .add .result) _ _ (c .close-arc .result)
-    (sum .add .ensures) (c .close-arc .ensures)
+    (sum .add .ensures) (c .close-arc .ensures))
 
 returns : tie.Need-returns Inv-loop2 μ-loop2 Inv-loop μ-loop
 returns c =

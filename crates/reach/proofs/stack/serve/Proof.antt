@@ -3,8 +3,10 @@ use mathlib.Core.Path.{_≡_, refl}
 use mathlib.Core.Bool.{false}
 use Prim.Native.Nat.{ℕ, _+_, _-_, _/_, _%_, _≤_, _<_}
 use native.Mathlib.Omega.{arith}
+use lib.Bits.{bitAnd}
 use lib.ListN.{getD}
 use Rattle.transducer.specs.Format.{decode}
+use Rattle.reach.proofs.Chains.{cell-bits}
 use Rattle.reach.proofs.Sized.{Sized, sized}
 use Rattle.reach.proofs.Spreading.{number-most}
 use Rattle.reach.proofs.Stacked.{Serving, serving-first, serving-to, serving-link, serving-room, serving-less, serving-over, serving-new, serving-stop}
@@ -40,8 +42,8 @@ to-below c =
     let z = size (start (c .before)) in
     omega (arith, serving-to z (c .before .loop .inv) (c .loop-test .taken), z .states)
 
-link : (c : Turn) → (0 < c .before .loop .cell % 4096) × (c .before .loop .cell % 4096 ≤ 3072)
-link c = serving-link (size (start (c .before))) (c .before .loop .inv) (c .loop-test .taken)
+link : (c : Turn) → (0 < bitAnd (c .before .loop .cell) 4095) × (bitAnd (c .before .loop .cell) 4095 ≤ 3072)
+link c = rw (cell-bits (c .before .loop .cell)) (serving-link (size (start (c .before))) (c .before .loop .inv) (c .loop-test .taken))
 
 room : (c : Turn) → c .before .loop .end < 1024
 room c = serving-room (size (start (c .before))) (c .before .loop .inv) (c .loop-test .taken)
@@ -87,12 +89,14 @@ element-copy-out-if1 c = omega (arith, to-below (c .before), c .before .before .
 loop-less : tie.Need-loop-less Inv-loop μ-loop
 loop-less c =
     let turn = c .before .before .before in
-    serving-less (size (start (turn .before))) (turn .before .loop .inv) (turn .loop-test .taken) (start (turn .before) .pre .2)
+    rw (cell-bits (turn .before .loop .cell))
+    (serving-less (size (start (turn .before))) (turn .before .loop .inv) (turn .loop-test .taken) (start (turn .before) .pre .2))
 
 loop-again : tie.Need-loop-again Inv-loop μ-loop
 loop-again c =
     let turn = c .before .before .before in
-    serving-over (size (start (turn .before))) (turn .before .loop .inv) (turn .loop-test .taken) (start (turn .before) .pre .2) (c .if1 .taken)
+    rw (cell-bits (turn .before .loop .cell))
+    (serving-over (size (start (turn .before))) (turn .before .loop .inv) (turn .loop-test .taken) (start (turn .before) .pre .2) (c .if1 .taken))
 
 element-write-marks : tie.Need-element-write-marks Inv-loop μ-loop
 element-write-marks c = let turn = c .before .before .before in omega (arith, to-below turn, turn .before .loop .inv .marks-long)
@@ -112,12 +116,14 @@ add-end c = omega (arith, room (c .before .before .before))
 loop-less-2 : tie.Need-loop-less-2 Inv-loop μ-loop
 loop-less-2 c =
     let turn = c .before .before .before in
-    serving-less (size (start (turn .before))) (turn .before .loop .inv) (turn .loop-test .taken) (start (turn .before) .pre .2)
+    rw (cell-bits (turn .before .loop .cell))
+    (serving-less (size (start (turn .before))) (turn .before .loop .inv) (turn .loop-test .taken) (start (turn .before) .pre .2))
 
 loop-again-2 : tie.Need-loop-again-2 Inv-loop μ-loop
 loop-again-2 c =
     let turn = c .before .before .before in
-    serving-new (size (start (turn .before))) (turn .before .loop .inv) (turn .loop-test .taken) (start (turn .before) .pre .2) (c .if1 .left)
+    rw (cell-bits (turn .before .loop .cell))
+    (serving-new (size (start (turn .before))) (turn .before .loop .inv) (turn .loop-test .taken) (start (turn .before) .pre .2) (c .if1 .left))
 
 returns : tie.Need-returns Inv-loop μ-loop
 returns c = serving-stop (c .loop-test .left) (c .before .loop .inv)

@@ -1,6 +1,7 @@
 -- The bounds are those of `good-up-to`.
 use borrow.Author.Needs.{needs}
 use native.Mathlib.Omega.{arith}
+use lib.Bits.{and-mask}
 use borrow.Author.Tests.{leb-true}
 use Rattle.wire.proofs.Bool.{never}
 use Rattle.transducer.specs.Format.{max-weight}
@@ -23,7 +24,7 @@ returns-2 c = λ e. never e
 returns-3 : tie.Need-returns-3
 returns-3 c =
     let start = c .before .before in
-    λ e. good-up-to (start .args .labels) (start .args .weights) (omega arith) (omega arith) (leb-true (start .args .weights) max-weight e)
+    λ e. good-up-to (start .args .labels) (start .args .weights) (omega (arith, and-mask (start .args .labels) 16)) (omega arith) (leb-true (start .args .weights) max-weight e)
 
 pub at-a-glance-spec : {M : Type 1} → statement M
 at-a-glance-spec = tie.close (tie.spec cast-if1 returns cast-if2 returns-2 returns-3)
