@@ -3,7 +3,7 @@
 use mathlib.Core.Path.{_≡_, refl, sym, ap, _∙_}
 use mathlib.Core.Bool.{Bool, true, false, cond}
 use mathlib.Core.List.{List}
-use Prim.Native.Nat.{ℕ, suc, _+_, _-_, _/_, _%_, _<_}
+use Prim.Native.Nat.{ℕ, suc, _+_, _-_, _<_}
 use native.Mathlib.Omega.{arith}
 use native.Mathlib.Decide.{ℕ-discrete}
 use lib.Dec.{leb, eqb}
@@ -13,6 +13,7 @@ use Rattle.wire.proofs.Bool.{clash, is-false}
 use Rattle.transducer.specs.Format.{Transducer}
 use Rattle.transducer.specs.Path.{arc}
 use Rattle.reach.specs.Stack.{last, Chained}
+use Rattle.reach.proofs.Cell.{Parts}
 use Rattle.reach.proofs.Chains.{last-most, none-behind, none-between, On-chain, ArcHere, chain-first, chain-arc, chain-next, chain-end}
 use Rattle.paths.specs.declared.Count.{Count}
 use Rattle.paths.specs.Tally.{add}
@@ -120,9 +121,9 @@ releasing-first t z heads next ch ms left stack top s cs is w =
 module _ (t : Transducer) (z : Sized t) (ms : List Bool) (s whole : ℕ) (left stack : List ℕ) (top : ℕ) (cs : List Count) (c : ℕ)
     (w : Releasing t ms s whole left stack top cs c) where
   -- The arc of a cell, whose source is a state with an open arc.
-  module _ (some : c ≡ 0 → ⊥) where
-    here-arc : ArcHere t true s c (w .link)
-    here-arc = chain-arc (z .arcs) (w .chain) some
+  module _ (some : c ≡ 0 → ⊥) {u k : ℕ} (p : Parts u k c) where
+    here-arc : ArcHere t true s u k (w .link)
+    here-arc = chain-arc (z .arcs) (w .chain) p some
 
     abbrev d : ℕ → Bool
     d = done-from t ms s (w .link)
@@ -136,51 +137,51 @@ module _ (t : Transducer) (z : Sized t) (ms : List Bool) (s whole : ℕ) (left s
     done : done-from t ms s (last t true s (here-arc .number)) (here-arc .number) ≡ true
     done = from-here t ms s (here-arc .number) (here-arc .from) .1
 
-    others : (k : ℕ) → k < length (t .arcs) → (k ≡ here-arc .number → ⊥)
-        → done-from t ms s (w .link) k ≡ done-from t ms s (last t true s (here-arc .number)) k
-    others k l n = ap (λ (j : ℕ). done-from t ms s j k) (here-arc .is) ∙ from-other t ms s (here-arc .number) k n
+    others : (i : ℕ) → i < length (t .arcs) → (i ≡ here-arc .number → ⊥)
+        → done-from t ms s (w .link) i ≡ done-from t ms s (last t true s (here-arc .number)) i
+    others i l n = ap (λ (j : ℕ). done-from t ms s j i) (here-arc .is) ∙ from-other t ms s (here-arc .number) i n
 
-    pub releasing-source : c / 4096 < t .states
+    pub releasing-source : u < t .states
     releasing-source = omega (arith, here-arc .to, z .within .leaves (here-arc .number) (here-arc .below))
 
-    pub releasing-some : 0 < getD left (c / 4096) 0
-    releasing-some = off-some t z d e ms left stack top (here-arc .number) (c / 4096) (w .counting) (here-arc .below) (here-arc .to) new done others
+    pub releasing-some : 0 < getD left u 0
+    releasing-some = off-some t z d e ms left stack top (here-arc .number) u (w .counting) (here-arc .below) (here-arc .to) new done others
 
-    pub releasing-room : getD left (c / 4096) 0 - 1 ≡ 0 → top < 1024
-    releasing-room = off-room t z d e ms left stack top (here-arc .number) (c / 4096) (w .counting) (here-arc .below) (here-arc .to) new done others
+    pub releasing-room : getD left u 0 - 1 ≡ 0 → top < 1024
+    releasing-room = off-room t z d e ms left stack top (here-arc .number) u (w .counting) (here-arc .below) (here-arc .to) new done others
 
-    unmarked : marked ms (c / 4096) ≡ false
-    unmarked = off-unmarked t z d e ms left stack top (here-arc .number) (c / 4096) (w .counting) (here-arc .below) (here-arc .to) new done others
+    unmarked : marked ms u ≡ false
+    unmarked = off-unmarked t z d e ms left stack top (here-arc .number) u (w .counting) (here-arc .below) (here-arc .to) new done others
 
-    closed : (left' stack' : List ℕ) (top' : ℕ) → Closed-arc left stack (c / 4096) top left' stack' top'
+    closed : (left' stack' : List ℕ) (top' : ℕ) → Closed-arc left stack u top left' stack' top'
         → Counting t (done-from t ms s (last t true s (here-arc .number))) ms left' stack' top'
-    closed left' stack' top' f = on (ℕ-discrete (getD left (c / 4096) 0 - 1) 0)
+    closed left' stack' top' f = on (ℕ-discrete (getD left u 0 - 1) 0)
       where
-        on : Dec (getD left (c / 4096) 0 - 1 ≡ 0) → Counting t (done-from t ms s (last t true s (here-arc .number))) ms left' stack' top'
+        on : Dec (getD left u 0 - 1 ≡ 0) → Counting t (done-from t ms s (last t true s (here-arc .number))) ms left' stack' top'
         on (yes y) =
             rw (f .left-is, f .pushed y .0, f .pushed y .1)
-            (off-pushed t z d e ms left stack top (here-arc .number) (c / 4096) (w .counting) (here-arc .below) (here-arc .to) new done others y)
+            (off-pushed t z d e ms left stack top (here-arc .number) u (w .counting) (here-arc .below) (here-arc .to) new done others y)
         on (no n) =
             rw (f .left-is, f .kept n .0, f .kept n .1)
-            (off-kept t z d e ms left stack top (here-arc .number) (c / 4096) (w .counting) (here-arc .below) (here-arc .to) new done others n)
+            (off-kept t z d e ms left stack top (here-arc .number) u (w .counting) (here-arc .below) (here-arc .to) new done others n)
 
     pub releasing-next : (heads next : List ℕ) → Chained t true heads next → (x : Count) (left' stack' : List ℕ) (top' : ℕ)
-        → x .value ≡ add (at-state cs (c / 4096)) whole → Closed-arc left stack (c / 4096) top left' stack' top'
-        → Releasing t ms s whole left' stack' top' (set cs (c / 4096) x) (getD next (c % 4096 - 1) 0)
+        → x .value ≡ add (at-state cs u) whole → Closed-arc left stack u top left' stack' top'
+        → Releasing t ms s whole left' stack' top' (set cs u x) (getD next (k - 1) 0)
     releasing-next heads next ch x left' stack' top' is f =
         record {
           link = last t true s (here-arc .number);
-          chain = chain-next (z .arcs) (w .chain) ch here-arc;
+          chain = chain-next (z .arcs) (w .chain) p ch here-arc;
           counting = closed left' stack' top' f;
           stopping = w .stopping;
-          tallied = tallied-kept t ms cs (c / 4096) x (w .tallied) unmarked;
+          tallied = tallied-kept t ms cs u x (w .tallied) unmarked;
           parts =
-              parts-next t d e cs (here-arc .number) (c / 4096) x (w .parts) (here-arc .below) (here-arc .to) (omega (arith, releasing-source, z .states)) new done
+              parts-next t d e cs (here-arc .number) u x (w .parts) (here-arc .below) (here-arc .to) (omega (arith, releasing-source, z .states)) new done
               others
-              (λ k l q m. clash (from-marked t ms s (last t true s (here-arc .number)) k (w .here) q) (ap (marked ms) m ∙ unmarked))
-              (is ∙ ap (add (at-state cs (c / 4096))) (w .whole-is ∙ ap (at-state cs) (sym (here-arc .from))));
+              (λ i l q m. clash (from-marked t ms s (last t true s (here-arc .number)) i (w .here) q) (ap (marked ms) m ∙ unmarked))
+              (is ∙ ap (add (at-state cs u)) (w .whole-is ∙ ap (at-state cs) (sym (here-arc .from))));
           here = w .here;
-          whole-is = w .whole-is ∙ sym (at-set-other cs (c / 4096) x s (λ q. clash (w .here) (ap (marked ms) q ∙ unmarked)));
+          whole-is = w .whole-is ∙ sym (at-set-other cs u x s (λ q. clash (w .here) (ap (marked ms) q ∙ unmarked)));
         }
 
   pub releasing-stop : c ≡ 0 → Underway t ms left stack top cs

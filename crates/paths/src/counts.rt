@@ -70,7 +70,7 @@ fn link_arcs(
         next[i] = heads[to];
         left[s] = left[s] + 1;
         i += 1;
-        heads[to] = reach::LINKS * s as u32 + i as u32;
+        heads[to] = reach::cell_of(s, i);
     }
 }
 
@@ -169,8 +169,8 @@ fn count_all(
         let whole = counts[s];
         let mut cell = heads[s];
         while cell != 0 {
-            let u = (cell >> reach::STATE_SHIFT) as usize;
-            let link = (cell & reach::LINK_MASK) as usize;
+            let u = reach::state_of(cell);
+            let link = reach::link_of(cell);
             cell = next[link - 1];
             counts[u] = counts[u].add(whole);
             top = close_arc(u, top, left, stack);

@@ -3,11 +3,10 @@
 use mathlib.Core.Path.{_≡_, refl, sym, ap, _∙_}
 use mathlib.Core.Bool.{Bool, true, false, cond}
 use mathlib.Core.List.{List}
-use Prim.Native.Nat.{ℕ, zero, suc, _+_, _*_, _-_, _/_, _%_, _≤_, _<_}
+use Prim.Native.Nat.{ℕ, zero, suc, _+_, _-_, _≤_, _<_}
 use native.Mathlib.Numerals.{add-one}
 use native.Mathlib.Decide.{ℕ-discrete}
 use native.Mathlib.Omega.{arith}
-use lib.Bits.{bitAnd, and-mask}
 use lib.Dec.{ltb, eqb}
 use lib.ListN.{length, getD, set, replicate, length-set, length-replicate, getD-replicate}
 use lib.Seq.{getD-set-same, getD-set-other}
@@ -15,7 +14,9 @@ use borrow.Author.Tests.{eq-eqb, ne-eqb, ltb-true, ltb-false}
 use Rattle.transducer.specs.Format.{Transducer}
 use Rattle.transducer.specs.Path.{arc}
 use Rattle.reach.specs.Marks.{from-end, to-end}
+use Rattle.reach.specs.Cell.{links, cell-of, state-of, link-of}
 use Rattle.reach.specs.Stack.{last, cell, Chained}
+use Rattle.reach.proofs.Cell.{Parts, parts-cell, cell-some}
 
 -- The last arc from a state
 
@@ -65,10 +66,6 @@ module _ (t : Transducer) (back : Bool) (s : ℕ) where
 
 -- Cells
 
--- The code takes a cell's number by a mask.
-pub cell-bits : (c : ℕ) → bitAnd c 4095 ≡ c % 4096
-cell-bits c = and-mask c 12
-
 pub cell-zero : (t : Transducer) (back : Bool) → cell t back 0 ≡ 0
 unfolding cell
 cell-zero t back = refl
@@ -76,19 +73,16 @@ cell-zero t back = refl
 pub cell-none : (t : Transducer) (back : Bool) (k : ℕ) → cell t back k ≡ 0 → k ≡ 0
 unfolding cell
 cell-none t back zero h = refl
-cell-none t back (suc i) h = absurd (omega arith)
+cell-none t back (suc i) h = cell-some (to-end back (arc t i)) (suc i) h
 
-pub cell-state : (t : Transducer) (back : Bool) (i : ℕ) → i < 4095 → cell t back (suc i) / 4096 ≡ to-end back (arc t i)
+pub cell-parts : (t : Transducer) (back : Bool) (i : ℕ) → suc i < links → Parts (to-end back (arc t i)) (suc i) (cell t back (suc i))
 unfolding cell
-cell-state t back i h = omega arith
+cell-parts t back i h = parts-cell (to-end back (arc t i)) (suc i) h
 
-pub cell-link : (t : Transducer) (back : Bool) (i : ℕ) → i < 4095 → cell t back (suc i) % 4096 ≡ suc i
-unfolding cell
-cell-link t back i h = omega arith
-
-pub cell-number : (t : Transducer) (back : Bool) (k : ℕ) → k < 4096 → cell t back k % 4096 ≡ k
-cell-number t back zero h = ap (λ (x : ℕ). x % 4096) (cell-zero t back)
-cell-number t back (suc i) h = cell-link t back i (omega arith)
+pub cell-link : (t : Transducer) (back : Bool) (k : ℕ) → k < links → link-of (cell t back k) ≡ k
+unfolding link-of
+cell-link t back zero h = ap link-of (cell-zero t back)
+cell-link t back (suc i) h = cell-parts t back i h .link-is
 
 -- Chaining
 
@@ -111,22 +105,22 @@ chaining-first t back next h =
 
 pub chaining-next : {t : Transducer} {back : Bool} {i : ℕ} {heads next : List ℕ} (from to : ℕ) → i < 3072 → from < 1024
     → from ≡ from-end back (arc t i) → to ≡ to-end back (arc t i) → Chaining t back i heads next
-    → Chaining t back (i + 1) (set heads from (4096 * to + (i + 1))) (set next i (getD heads from 0))
+    → Chaining t back (i + 1) (set heads from (cell-of to (i + 1))) (set next i (getD heads from 0))
 unfolding cell
 chaining-next {t} {back} {i} {heads} {next} from to h l f g m =
     record {
-      heads-long = length-set heads from (4096 * to + (i + 1)) ∙ m .heads-long;
+      heads-long = length-set heads from (cell-of to (i + 1)) ∙ m .heads-long;
       next-long = length-set next i (getD heads from 0) ∙ m .next-long;
       head-at = λ s k. rw add-one (head s k (ℕ-discrete s from));
       next-at = λ j k. put j k (ℕ-discrete j i);
     }
   where
-    head : (s : ℕ) → s < 1024 → Dec (s ≡ from) → getD (set heads from (4096 * to + suc i)) s 0 ≡ cell t back (last t back s (suc i))
+    head : (s : ℕ) → s < 1024 → Dec (s ≡ from) → getD (set heads from (cell-of to (suc i))) s 0 ≡ cell t back (last t back s (suc i))
     head s k (yes e) =
-        rw e (getD-set-same heads from (4096 * to + suc i) 0 (omega (arith, m .heads-long))
-        ∙ ap (λ (u : ℕ). 4096 * u + suc i) g ∙ ap (cell t back) (sym (last-next t back from i (sym f))))
+        rw e (getD-set-same heads from (cell-of to (suc i)) 0 (omega (arith, m .heads-long))
+        ∙ ap (λ (u : ℕ). cell-of u (suc i)) g ∙ ap (cell t back) (sym (last-next t back from i (sym f))))
     head s k (no n) =
-        getD-set-other heads from s (4096 * to + suc i) 0 n ∙ m .head-at s k ∙ ap (cell t back) (sym (last-stays t back s i (λ e. n (sym e ∙ sym f))))
+        getD-set-other heads from s (cell-of to (suc i)) 0 n ∙ m .head-at s k ∙ ap (cell t back) (sym (last-stays t back s i (λ e. n (sym e ∙ sym f))))
 
     put : (j : ℕ) → j < i + 1 → Dec (j ≡ i) → getD (set next i (getD heads from 0)) j 0 ≡ cell t back (last t back (from-end back (arc t j)) j)
     put j k (yes e) =
@@ -156,57 +150,57 @@ pub chain-first : {t : Transducer} {back : Bool} {heads next : List ℕ} (s : �
 chain-first {t} {back} s h ch =
     record { cell-is = ch .head-at s h; last-is = last-last t back s (length (t .arcs)); link-most = last-most t back s (length (t .arcs)) }
 
--- The arc of a cell that is not 0.
-pub record ArcHere (t : Transducer) (back : Bool) (s c link : ℕ) : Type 0 where
+-- The arc of a cell that is not 0, by the cell's parts.
+pub record ArcHere (t : Transducer) (back : Bool) (s state part link : ℕ) : Type 0 where
   pub number : ℕ
   pub below : number < length (t .arcs)
   pub from : from-end back (arc t number) ≡ s
-  pub to : c / 4096 ≡ to-end back (arc t number)
-  pub link-is : c % 4096 ≡ suc number
+  pub to : state ≡ to-end back (arc t number)
+  pub part-is : part ≡ suc number
   pub is : link ≡ suc number
 
-module _ {t : Transducer} {back : Bool} {s link c : ℕ} (few : length (t .arcs) ≤ 3072) (w : On-chain t back s link c) where
-  pub chain-arc : (c ≡ 0 → ⊥) → ArcHere t back s c link
+module _ {t : Transducer} {back : Bool} {s link c u k : ℕ} (few : length (t .arcs) ≤ 3072) (w : On-chain t back s link c) (p : Parts u k c) where
+  pub chain-arc : (c ≡ 0 → ⊥) → ArcHere t back s u k link
   chain-arc some = on link refl
     where
-      on : (k : ℕ) → link ≡ k → ArcHere t back s c link
+      on : (j : ℕ) → link ≡ j → ArcHere t back s u k link
       on zero e = absurd (some (w .cell-is ∙ ap (cell t back) e ∙ cell-zero t back))
       on (suc i) e =
           let c-is : c ≡ cell t back (suc i) = w .cell-is ∙ ap (cell t back) e in
-          let low : i < 4095 = omega (arith, e, w .link-most) in
+          let low : suc i < links = omega (arith, e, w .link-most) in
           let here : last t back s (suc i) ≡ suc i = rw e at (w .last-is) in
           record {
             number = i;
             below = omega (arith, e, w .link-most);
             from = last-from t back s i here;
-            to = ap (λ (x : ℕ). x / 4096) c-is ∙ cell-state t back i low;
-            link-is = ap (λ (x : ℕ). x % 4096) c-is ∙ cell-link t back i low;
+            to = sym (p .state-is) ∙ ap state-of c-is ∙ cell-parts t back i low .state-is;
+            part-is = sym (p .link-is) ∙ ap link-of c-is ∙ cell-parts t back i low .link-is;
             is = e;
           }
 
   -- The next cell is that of the last arc before this one from the same state.
-  pub chain-next : {heads next : List ℕ} → Chained t back heads next → (a : ArcHere t back s c link)
-      → On-chain t back s (last t back s (a .number)) (getD next (c % 4096 - 1) 0)
+  pub chain-next : {heads next : List ℕ} → Chained t back heads next → (a : ArcHere t back s u k link)
+      → On-chain t back s (last t back s (a .number)) (getD next (k - 1) 0)
   chain-next {next = next} ch a =
-      let at : c % 4096 - 1 ≡ a .number = omega (arith, a .link-is) in
+      let at : k - 1 ≡ a .number = omega (arith, a .part-is) in
       record {
-        cell-is = ap (λ (k : ℕ). getD next k 0) at ∙ ch .next-at (a .number) (a .below)
-            ∙ ap (λ (u : ℕ). cell t back (last t back u (a .number))) (a .from);
+        cell-is = ap (λ (j : ℕ). getD next j 0) at ∙ ch .next-at (a .number) (a .below)
+            ∙ ap (λ (v : ℕ). cell t back (last t back v (a .number))) (a .from);
         last-is = last-last t back s (a .number);
         link-most = omega (arith, last-most t back s (a .number), a .below);
       }
 
-  pub chain-link : (c ≡ 0 → ⊥) → (0 < c % 4096) × (c % 4096 ≤ 3072)
-  chain-link some = let a = chain-arc some in (omega (arith, a .link-is), omega (arith, a .link-is, a .below))
+  pub chain-link : (c ≡ 0 → ⊥) → (0 < k) × (k ≤ 3072)
+  chain-link some = let a = chain-arc some in (omega (arith, a .part-is), omega (arith, a .part-is, a .below))
 
   -- The chain goes on to lower numbers.
-  pub chain-less : {heads next : List ℕ} → Chained t back heads next → (c ≡ 0 → ⊥) → getD next (c % 4096 - 1) 0 % 4096 < c % 4096
+  pub chain-less : {heads next : List ℕ} → Chained t back heads next → (c ≡ 0 → ⊥) → link-of (getD next (k - 1) 0) < link-of c
   chain-less ch some =
       let a = chain-arc some in
       let n = chain-next ch a in
       let most = last-most t back s (a .number) in
-      let link' = cell-number t back (last t back s (a .number)) (omega (arith, most, a .below)) in
-      rw (n .cell-is) (omega (arith, link', most, a .link-is))
+      let link' = cell-link t back (last t back s (a .number)) (omega (arith, most, a .below)) in
+      rw (n .cell-is) (omega (arith, link', most, a .part-is, p .link-is))
 
 pub chain-end : {t : Transducer} {back : Bool} {s link c : ℕ} → On-chain t back s link c → c ≡ 0 → link ≡ 0
 chain-end {t} {back} {link = link} w e = cell-none t back link (sym (w .cell-is) ∙ e)

@@ -7,6 +7,7 @@ pub mod Reach
 -- Marks that spread along arcs: one arc, one sweep, chains of arcs, a stack of states; then the marks that are closed, from the start and from the finals.
 pub mod Spreading
 pub mod Sweeping
+pub mod Cell
 pub mod Chains
 pub mod Stacked
 pub mod Closure

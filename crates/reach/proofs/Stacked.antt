@@ -3,7 +3,7 @@
 use mathlib.Core.Path.{_≡_, refl, sym, ap, subst, _∙_}
 use mathlib.Core.Bool.{Bool, true, false}
 use mathlib.Core.List.{List}
-use Prim.Native.Nat.{ℕ, zero, suc, _+_, _-_, _/_, _%_, _≤_, _<_}
+use Prim.Native.Nat.{ℕ, zero, suc, _+_, _-_, _≤_, _<_}
 use native.Mathlib.Numerals.{add-one}
 use native.Mathlib.Decide.{ℕ-discrete}
 use native.Mathlib.Omega.{arith}
@@ -14,10 +14,12 @@ use Rattle.transducer.specs.Format.{Transducer}
 use Rattle.transducer.specs.Path.{arc}
 use Rattle.reach.specs.Counted.{count}
 use Rattle.reach.specs.Marks.{from-end, to-end, Passes, Widened, number}
+use Rattle.reach.specs.Cell.{link-of}
 use Rattle.reach.specs.Stack.{last, cell, Chained, Off, Waiting, Served, Pushed}
 use Rattle.reach.proofs.Counted.{count-most, count-rises, count-next}
 use Rattle.reach.proofs.Spreading.{number-most, number-set, number-below, set-kept, spread-set, widened-none, widened-twice, widened-one}
 use Rattle.reach.proofs.Sized.{Sized}
+use Rattle.reach.proofs.Cell.{Parts}
 use Rattle.reach.proofs.Chains.{none-behind, none-between, On-chain, ArcHere, chain-first, chain-arc, chain-next, chain-link, chain-less, chain-end}
 
 -- A state more on a stack
@@ -176,27 +178,27 @@ serving-first {t} {back} {ms} {stack} {top = top} s z is ch w =
             none-behind t back s (length (t .arcs)) i (past f) h f
         on (no n) = o j (omega arith) e
 
-module _ {t : Transducer} {back : Bool} {first : List Bool} {bottom s : ℕ} {ms : List Bool} {stack : List ℕ} {top c : ℕ} (z : Sized t)
-    (w : Serving t back first bottom s ms stack top c) (some : c ≡ 0 → ⊥) where
-  pub serving-arc : ArcHere t back s c (w .link)
-  serving-arc = chain-arc (z .arcs) (w .chain) some
+module _ {t : Transducer} {back : Bool} {first : List Bool} {bottom s : ℕ} {ms : List Bool} {stack : List ℕ} {top c u k : ℕ} (z : Sized t)
+    (w : Serving t back first bottom s ms stack top c) (some : c ≡ 0 → ⊥) (p : Parts u k c) where
+  pub serving-arc : ArcHere t back s u k (w .link)
+  serving-arc = chain-arc (z .arcs) (w .chain) p some
 
-  pub serving-to : c / 4096 < t .states
+  pub serving-to : u < t .states
   serving-to = let a = serving-arc in omega (arith, a .to, to-below z back (a .number) (a .below))
 
-  pub serving-link : (0 < c % 4096) × (c % 4096 ≤ 3072)
-  serving-link = chain-link (z .arcs) (w .chain) some
+  pub serving-link : (0 < k) × (k ≤ 3072)
+  serving-link = chain-link (z .arcs) (w .chain) p some
 
   pub serving-room : top < 1024
   serving-room = omega (arith, w .few, number-most ms, w .marks-long)
 
   -- The arc leads to a marked state: on to the next.
-  pub serving-over : {heads next : List ℕ} → Chained t back heads next → getD ms (c / 4096) false ≡ true
-      → Serving t back first bottom s ms stack top (getD next (c % 4096 - 1) 0)
+  pub serving-over : {heads next : List ℕ} → Chained t back heads next → getD ms u false ≡ true
+      → Serving t back first bottom s ms stack top (getD next (k - 1) 0)
   serving-over ch there =
       record {
         link = last t back s (a .number);
-        chain = chain-next (z .arcs) (w .chain) ch a;
+        chain = chain-next (z .arcs) (w .chain) p ch a;
         wider = w .wider;
         rises = w .rises;
         pushed = w .pushed;
@@ -208,7 +210,7 @@ module _ {t : Transducer} {back : Bool} {first : List Bool} {bottom s : ℕ} {ms
         closed = λ i h m o past. on i h m o past (ℕ-discrete i (a .number));
       }
     where
-      a : ArcHere t back s c (w .link)
+      a : ArcHere t back s u k (w .link)
       a = serving-arc
 
       on : (i : ℕ) → i < length (t .arcs) → getD ms (from-end back (arc t i)) false ≡ true → Off stack top (from-end back (arc t i))
@@ -217,58 +219,58 @@ module _ {t : Transducer} {back : Bool} {first : List Bool} {bottom s : ℕ} {ms
       on i h m o past (no n) = w .closed i h m o (λ f. omega (arith, a .is, none-between t back s (a .number) i f n (past f)))
 
   -- The chain goes on to lower numbers.
-  pub serving-less : {heads next : List ℕ} → Chained t back heads next → getD next (c % 4096 - 1) 0 % 4096 < c % 4096
-  serving-less ch = chain-less (z .arcs) (w .chain) ch some
+  pub serving-less : {heads next : List ℕ} → Chained t back heads next → link-of (getD next (k - 1) 0) < link-of c
+  serving-less ch = chain-less (z .arcs) (w .chain) p ch some
 
   -- It leads to a state that is not: that one is marked and put on the stack.
-  pub serving-push : getD ms (c / 4096) false ≡ false
-      → Serving t back first bottom s (set ms (c / 4096) true) (set stack top (c / 4096)) (top + 1) c
+  pub serving-push : getD ms u false ≡ false
+      → Serving t back first bottom s (set ms u true) (set stack top u) (top + 1) c
   serving-push new =
       record {
         link = w .link;
         chain = w .chain;
-        wider = widened-twice (w .wider) (widened-one (a .number) (a .below) (rw (a .from, ← a .to) (spread-set ms s (c / 4096) inside (w .here))));
+        wider = widened-twice (w .wider) (widened-one (a .number) (a .below) (rw (a .from, ← a .to) (spread-set ms s u inside (w .here))));
         rises = omega (arith, w .rises);
         pushed = omega (arith, w .pushed, one);
-        marks-long = length-set ms (c / 4096) true ∙ w .marks-long;
-        stack-long = length-set stack top (c / 4096) ∙ w .stack-long;
+        marks-long = length-set ms u true ∙ w .marks-long;
+        stack-long = length-set stack top u ∙ w .stack-long;
         here = grows s (w .here);
         few = omega (arith, w .few, one);
-        held = held-push ms (set ms (c / 4096) true) stack top (c / 4096) room (omega arith) serving-to (getD-set-same ms (c / 4096) true false inside)
+        held = held-push ms (set ms u true) stack top u room (omega arith) serving-to (getD-set-same ms u true false inside)
             grows (w .held);
-        closed = λ i h m o past. on i h m o past (ℕ-discrete (from-end back (arc t i)) (c / 4096));
+        closed = λ i h m o past. on i h m o past (ℕ-discrete (from-end back (arc t i)) u);
       }
     where
-      a : ArcHere t back s c (w .link)
+      a : ArcHere t back s u k (w .link)
       a = serving-arc
 
-      inside : c / 4096 < length ms
+      inside : u < length ms
       inside = omega (arith, serving-to, z .states, w .marks-long)
 
       room : top < length stack
       room = omega (arith, serving-room, w .stack-long)
 
-      one : number (set ms (c / 4096) true) ≡ number ms + 1
-      one = number-set ms (c / 4096) inside new
+      one : number (set ms u true) ≡ number ms + 1
+      one = number-set ms u inside new
 
-      grows : (r : ℕ) → getD ms r false ≡ true → getD (set ms (c / 4096) true) r false ≡ true
-      grows r m = set-kept ms (c / 4096) r inside m
+      grows : (r : ℕ) → getD ms r false ≡ true → getD (set ms u true) r false ≡ true
+      grows r m = set-kept ms u r inside m
 
-      on : (i : ℕ) → i < length (t .arcs) → getD (set ms (c / 4096) true) (from-end back (arc t i)) false ≡ true
-          → Off (set stack top (c / 4096)) (top + 1) (from-end back (arc t i)) → (from-end back (arc t i) ≡ s → w .link ≤ i)
-          → Dec (from-end back (arc t i) ≡ c / 4096) → getD (set ms (c / 4096) true) (to-end back (arc t i)) false ≡ true
-      on i h m o past (yes e) = absurd (off-new stack top (c / 4096) room (from-end back (arc t i)) o e)
+      on : (i : ℕ) → i < length (t .arcs) → getD (set ms u true) (from-end back (arc t i)) false ≡ true
+          → Off (set stack top u) (top + 1) (from-end back (arc t i)) → (from-end back (arc t i) ≡ s → w .link ≤ i)
+          → Dec (from-end back (arc t i) ≡ u) → getD (set ms u true) (to-end back (arc t i)) false ≡ true
+      on i h m o past (yes e) = absurd (off-new stack top u room (from-end back (arc t i)) o e)
       on i h m o past (no n) =
           grows (to-end back (arc t i))
-          (w .closed i h (sym (getD-set-other ms (c / 4096) (from-end back (arc t i)) true false n) ∙ m)
-          (off-before stack top (c / 4096) room (from-end back (arc t i)) o) past)
+          (w .closed i h (sym (getD-set-other ms u (from-end back (arc t i)) true false n) ∙ m)
+          (off-before stack top u room (from-end back (arc t i)) o) past)
 
-pub serving-new : {t : Transducer} {back : Bool} {first : List Bool} {bottom s : ℕ} {ms : List Bool} {stack heads next : List ℕ} {top c : ℕ} → Sized t
-    → Serving t back first bottom s ms stack top c → (c ≡ 0 → ⊥) → Chained t back heads next → getD ms (c / 4096) false ≡ false
-    → Serving t back first bottom s (set ms (c / 4096) true) (set stack top (c / 4096)) (top + 1) (getD next (c % 4096 - 1) 0)
-serving-new {ms = ms} {c = c} z w some ch new =
-    serving-over z (serving-push z w some new) some ch
-    (getD-set-same ms (c / 4096) true false (omega (arith, serving-to z w some, z .states, w .marks-long)))
+pub serving-new : {t : Transducer} {back : Bool} {first : List Bool} {bottom s : ℕ} {ms : List Bool} {stack heads next : List ℕ} {top c u k : ℕ} → Sized t
+    → Serving t back first bottom s ms stack top c → (c ≡ 0 → ⊥) → Parts u k c → Chained t back heads next → getD ms u false ≡ false
+    → Serving t back first bottom s (set ms u true) (set stack top u) (top + 1) (getD next (k - 1) 0)
+serving-new {ms = ms} {u = u} z w some p ch new =
+    serving-over z (serving-push z w some p new) some p ch
+    (getD-set-same ms u true false (omega (arith, serving-to z w some p, z .states, w .marks-long)))
 
 pub serving-stop : {t : Transducer} {back : Bool} {first : List Bool} {bottom s : ℕ} {ms : List Bool} {stack : List ℕ} {top c : ℕ} → c ≡ 0
     → Serving t back first bottom s ms stack top c → Served t back bottom first ms stack top

@@ -7,6 +7,7 @@ use lib.Dec.{eqb}
 use lib.ListN.{length, getD}
 use Rattle.transducer.specs.Format.{max-arcs, max-states, Transducer}
 use Rattle.transducer.specs.Path.{arc}
+use Rattle.reach.specs.Cell.{cell-of}
 use Rattle.reach.specs.Marks.{from-end, to-end, Widened, number}
 
 -- Of the first i arcs the last from a state, as its number and one more; 0 where there is none.
@@ -14,10 +15,10 @@ unfoldable pub last : Transducer → (back : Bool) → (s : ℕ) → (i : ℕ) �
 last t back s zero = 0
 last t back s (suc i) = cond (eqb (from-end back (arc t i)) s) (suc i) (last t back s i)
 
--- An arc's cell, by its number and one more: the state that it leads to, and that number. 0 for none.
+-- The cell of an arc, by its link: the state that it leads to, and the link. 0 for none.
 unfoldable pub cell : Transducer → (back : Bool) → (k : ℕ) → ℕ
 cell t back zero = 0
-cell t back (suc i) = 4096 * to-end back (arc t i) + suc i
+cell t back (suc i) = cell-of (to-end back (arc t i)) (suc i)
 
 -- The arcs in chains: at a state the cell of its last arc, at an arc that of the last one before it from the same state.
 pub record Chained (t : Transducer) (back : Bool) (heads next : List ℕ) : Type 0 where

@@ -9,15 +9,9 @@ ghost use Rattle.transducer.specs.Leaf.{Opened};
 ghost use Rattle.reach.specs.Marks.{Closure};
 ghost use Rattle.reach.specs.Stack.{Chained, Waiting, Served, Pushed};
 use crate::arcs;
+use crate::cells;
 use transducer::MAX_ARCS;
 use transducer::MAX_STATES;
-
-// A cell holds a state times this, and the number of an arc and one more, its link, in the bits below.
-pub const LINKS: u32 = 4096;
-
-pub const LINK_MASK: u32 = LINKS - 1;
-
-pub const STATE_SHIFT: u32 = 12;
 
 // Puts the arcs in chains, `heads` being zeros: at a state the cell of its last arc, at an arc the cell of the one before it.
 fn chain(
@@ -38,7 +32,7 @@ fn chain(
         let to = arcs::to_end(table, first, i, back);
         next[i] = heads[from];
         i += 1;
-        heads[from] = LINKS * to as u32 + i as u32;
+        heads[from] = cells::cell_of(to, i);
     }
 }
 
@@ -79,8 +73,8 @@ fn serve(
     let mut cell = heads[s];
     let mut end = top;
     while cell != 0 {
-        let to = (cell >> STATE_SHIFT) as usize;
-        let link = (cell & LINK_MASK) as usize;
+        let to = cells::state_of(cell);
+        let link = cells::link_of(cell);
         cell = next[link - 1];
         if marks[to] {
             continue;

@@ -1,16 +1,17 @@
 -- Two loops. The inner one follows the arcs that lead to the state on top (`Releasing`); the outer one has counted the marked states, and the others
 -- wait (`Underway`).
-use mathlib.Core.Path.{_≡_, refl, _∙_}
+use mathlib.Core.Path.{_≡_, refl, sym, _∙_}
 use mathlib.Core.Bool.{true, false, not}
 use mathlib.Core.List.{List}
-use Prim.Native.Nat.{ℕ, _+_, _-_, _/_, _%_, _≤_, _<_}
+use Prim.Native.Nat.{ℕ, _+_, _-_, _≤_, _<_}
 use native.Mathlib.Omega.{arith}
-use lib.Bits.{bitAnd}
 use lib.ListN.{length, getD, set}
 use Rattle.wire.specs.Bytes.{Bytes}
 use Rattle.transducer.specs.Format.{decode}
 use Rattle.reach.specs.Counted.{count}
-use Rattle.reach.proofs.Chains.{cell-bits, chain-link, chain-less}
+use Rattle.reach.specs.Cell.{link-of}
+use Rattle.reach.proofs.Cell.{Parts}
+use Rattle.reach.proofs.Chains.{chain-link, chain-less}
 use Rattle.paths.specs.Sweep.{at-state, marked}
 use Rattle.paths.specs.Counting.{Underway, Grown}
 use Rattle.paths.proofs.Ready.{Sized, sized}
@@ -26,7 +27,7 @@ Inv-loop2 table heads next waiting marks left₀ stack₀ counts₀ top₀ s who
     Releasing (decode table) marks s (whole .value) left stack top counts cell
 
 abbrev μ-loop2 : tie.MeasureT-loop2
-μ-loop2 table heads next waiting marks left₀ stack₀ counts₀ top₀ s whole cell₀ left stack counts top cell = cell % 4096
+μ-loop2 table heads next waiting marks left₀ stack₀ counts₀ top₀ s whole cell₀ left stack counts top cell = link-of cell
 
 abbrev Inv-loop : tie.InvT-loop
 Inv-loop table heads next waiting marks₀ left₀ stack₀ counts₀ top₀ marks left stack counts top =
@@ -78,9 +79,12 @@ room c = omega (arith, c .loop-test .taken, c .before .loop .inv .0 .counting .s
 marks-room : (c : Turn) → state c < length (c .before .loop .marks)
 marks-room c = omega (arith, top-of c .2, c .before .loop .inv .0 .counting .marks-long)
 
--- A turn of the inner loop: the arc of the cell.
+-- A turn of the inner loop, its cell taken apart.
 abbrev Inner : Type 0
-Inner = tie.In-loop2 Inv-loop2 μ-loop2 Inv-loop μ-loop
+Inner = tie.After-link-of Inv-loop2 μ-loop2 Inv-loop μ-loop
+
+abbrev inner : Inner → tie.In-loop2 Inv-loop2 μ-loop2 Inv-loop μ-loop
+inner c = c .before .before
 
 abbrev outer : tie.At-loop2 Inv-loop2 μ-loop2 Inv-loop μ-loop → Turn
 outer c = c .before .before .before .before
@@ -88,19 +92,23 @@ outer c = c .before .before .before .before
 abbrev added : tie.After-add Inv-loop2 μ-loop2 Inv-loop μ-loop → Inner
 added c = c .before .before .before
 
-source : (c : Inner) → c .before .loop2 .cell / 4096 < 1024
+parts : (c : Inner) → Parts (c .before .state-of .result) (c .link-of .result) (inner c .before .loop2 .cell)
+parts c = record { state-is = sym (c .before .state-of .ensures); link-is = sym (c .link-of .ensures) }
+
+source : (c : Inner) → c .before .state-of .result < 1024
 source c =
-    let o = outer (c .before) in
-    let l = c .before .loop2 in
+    let i = inner c in
+    let o = outer (i .before) in
+    let l = i .before .loop2 in
     let z = size (entry o) in
     let below = releasing-source (decode (start (entry o) .args .table .now)) z (set (o .before .loop .marks) (state o) true) (state o) _ (l .left) (l .stack) (l .top)
-    (l .counts) (l .cell) (l .inv) (c .loop2-test .taken) in
+    (l .counts) (l .cell) (l .inv) (i .loop2-test .taken) (parts c) in
     omega (arith, below, z .states)
 
-link : (c : Inner) → (0 < bitAnd (c .before .loop2 .cell) 4095) × (bitAnd (c .before .loop2 .cell) 4095 ≤ 3072)
+link : (c : Inner) → (0 < c .link-of .result) × (c .link-of .result ≤ 3072)
 link c =
-    rw (cell-bits (c .before .loop2 .cell))
-    (chain-link (size (entry (outer (c .before))) .arcs) (c .before .loop2 .inv .chain) (c .loop2-test .taken))
+    let i = inner c in
+    chain-link (size (entry (outer (i .before))) .arcs) (i .before .loop2 .inv .chain) (parts c) (i .loop2-test .taken)
 
 loop-holds : tie.Need-loop-holds Inv-loop2 μ-loop2 Inv-loop μ-loop
 loop-holds c = (start c .pre .2, λ s m. m)
@@ -153,11 +161,11 @@ loop-again c =
       λ s m. marked-grows ms (state o) (marks-room o) s (o .before .loop .inv .1 s m),
     )
 
-cast-u : tie.Need-cast-u Inv-loop2 μ-loop2 Inv-loop μ-loop
-cast-u c = omega (arith, source c)
+state-of-requires : tie.Need-state-of-requires Inv-loop2 μ-loop2 Inv-loop μ-loop
+state-of-requires c κs = tt
 
-cast-link : tie.Need-cast-link Inv-loop2 μ-loop2 Inv-loop μ-loop
-cast-link c = omega (arith, link c .1)
+link-of-requires : tie.Need-link-of-requires Inv-loop2 μ-loop2 Inv-loop μ-loop
+link-of-requires c κs = tt
 
 sub-cell : tie.Need-sub-cell Inv-loop2 μ-loop2 Inv-loop μ-loop
 sub-cell c = omega (arith, link c .0)
@@ -179,36 +187,38 @@ array-set-from-counts c = source (added c)
 
 close-arc-requires : tie.Need-close-arc-requires Inv-loop2 μ-loop2 Inv-loop μ-loop
 close-arc-requires c κs =
-    let i = added (c .before .before) in
+    let here = added (c .before .before) in
+    let i = inner here in
     let o = outer (i .before) in
     let l = i .before .loop2 in
     let t = decode (start (entry o) .args .table .now) in
     let ms = set (o .before .loop .marks) (state o) true in (
-      source i,
+      source here,
       l .inv .counting .opened .long,
       l .inv .counting .stacked .long,
-      releasing-some t (size (entry o)) ms (state o) _ (l .left) (l .stack) (l .top) (l .counts) (l .cell) (l .inv) (i .loop2-test .taken),
-      releasing-room t (size (entry o)) ms (state o) _ (l .left) (l .stack) (l .top) (l .counts) (l .cell) (l .inv) (i .loop2-test .taken),
+      releasing-some t (size (entry o)) ms (state o) _ (l .left) (l .stack) (l .top) (l .counts) (l .cell) (l .inv) (i .loop2-test .taken) (parts here),
+      releasing-room t (size (entry o)) ms (state o) _ (l .left) (l .stack) (l .top) (l .counts) (l .cell) (l .inv) (i .loop2-test .taken) (parts here),
     )
 
 loop2-less : tie.Need-loop2-less Inv-loop2 μ-loop2 Inv-loop μ-loop
 loop2-less c =
-    let i = added (c .before .before .before) in
+    let here = added (c .before .before .before) in
+    let i = inner here in
     let e = entry (outer (i .before)) in
-    rw (cell-bits (i .before .loop2 .cell)) (chain-less (size e .arcs) (i .before .loop2 .inv .chain) (start e .pre .1) (i .loop2-test .taken))
+    chain-less (size e .arcs) (i .before .loop2 .inv .chain) (parts here) (start e .pre .1) (i .loop2-test .taken)
 
 loop2-again : tie.Need-loop2-again Inv-loop2 μ-loop2 Inv-loop μ-loop
 unfolding at-state
 loop2-again c =
     let sum = c .before .before .before in
-    let i = added sum in
+    let here = added sum in
+    let i = inner here in
     let o = outer (i .before) in
     let a = start (entry o) .args in
     let l = i .before .loop2 in
-    rw (cell-bits (l .cell))
-    (releasing-next (decode (a .table .now)) (size (entry o)) (set (o .before .loop .marks) (state o) true) (state o) _ (l .left) (l .stack) (l .top) (l .counts)
-    (l .cell) (l .inv) (i .loop2-test .taken) (a .heads .now) (a .next .now) (start (entry o) .pre .1) (sum .add .result) _ _ (c .close-arc .result)
-    (sum .add .ensures) (c .close-arc .ensures))
+    releasing-next (decode (a .table .now)) (size (entry o)) (set (o .before .loop .marks) (state o) true) (state o) _ (l .left) (l .stack) (l .top) (l .counts)
+    (l .cell) (l .inv) (i .loop2-test .taken) (parts here) (a .heads .now) (a .next .now) (start (entry o) .pre .1) (sum .add .result) _ _
+    (c .close-arc .result) (sum .add .ensures) (c .close-arc .ensures)
 
 returns : tie.Need-returns Inv-loop2 μ-loop2 Inv-loop μ-loop
 returns c =
@@ -239,8 +249,8 @@ count-all-spec =
     loop2-holds
     loop-less
     loop-again
-    cast-u
-    cast-link
+    state-of-requires
+    link-of-requires
     sub-cell
     mul-cell-2
     element-copy-out-cell-2

@@ -102,35 +102,27 @@ element-write-left c = omega (arith, source-low (c .before .before))
 add-i : tie.Need-add-i Inv-loop μ-loop
 add-i c = omega (arith, few (c .before .before))
 
-cast-heads : tie.Need-cast-heads Inv-loop μ-loop
-cast-heads c = omega (arith, source-low (c .before .before))
+cell-of-requires : tie.Need-cell-of-requires Inv-loop μ-loop
+cell-of-requires c κs = (source-low (c .before .before), omega (arith, few (c .before .before)))
 
 mul-heads : tie.Need-mul-heads Inv-loop μ-loop
-mul-heads c = omega (arith, source-low (c .before .before))
-
-cast-heads-2 : tie.Need-cast-heads-2 Inv-loop μ-loop
-cast-heads-2 c = omega (arith, few (c .before .before))
-
-add-heads : tie.Need-add-heads Inv-loop μ-loop
-add-heads c = omega (arith, source-low (c .before .before), few (c .before .before))
-
-mul-heads-2 : tie.Need-mul-heads-2 Inv-loop μ-loop
-mul-heads-2 c = omega (arith, target-low (c .before .before))
+mul-heads c = omega (arith, target-low (c .before .before .before))
 
 element-write-heads : tie.Need-element-write-heads Inv-loop μ-loop
-element-write-heads c = omega (arith, target-low (c .before .before))
+element-write-heads c = omega (arith, target-low (c .before .before .before))
 
 loop-less : tie.Need-loop-less Inv-loop μ-loop
-loop-less c = omega (arith, c .before .before .before .before .loop-test .taken)
+loop-less c = omega (arith, c .before .before .before .before .before .loop-test .taken)
 
 loop-again : tie.Need-loop-again Inv-loop μ-loop
 loop-again c =
-    let turn = c .before .before in
+    let turn = c .before .before .before in
     let h = at turn in
     let t = decode (start h .args .table .now) in
     let from = turn .before .source in (
       omega (arith, turn .before .before .loop-test .taken),
-      chaining-next (turn .target .result) (from .result) (few turn) (target-low turn) (turn .target .ensures .0) (from .ensures .0) (h .loop .inv .1),
+      rw (c .cell-of .ensures)
+          (chaining-next (turn .target .result) (from .result) (few turn) (target-low turn) (turn .target .ensures .0) (from .ensures .0) (h .loop .inv .1)),
       opened-next t (by-marks t (replicate 1024 false)) (h .loop .i) (h .loop .left) (from .result) (h .loop .inv .2) (none-done t (h .loop .i))
           (from .ensures .0) (source-low turn),
     )
@@ -160,11 +152,8 @@ link-arcs-spec =
     mul-left-2
     element-write-left
     add-i
-    cast-heads
+    cell-of-requires
     mul-heads
-    cast-heads-2
-    add-heads
-    mul-heads-2
     element-write-heads
     loop-less
     loop-again

@@ -70,33 +70,24 @@ element-write-next c = omega (arith, few (c .before), at (c .before) .loop .inv 
 add-i : tie.Need-add-i Inv-loop μ-loop
 add-i c = omega (arith, few (c .before))
 
-cast-heads : tie.Need-cast-heads Inv-loop μ-loop
-cast-heads c = omega (arith, to-below (c .before))
+cell-of-requires : tie.Need-cell-of-requires Inv-loop μ-loop
+cell-of-requires c κs = (to-below (c .before), omega (arith, few (c .before)))
 
 mul-heads : tie.Need-mul-heads Inv-loop μ-loop
-mul-heads c = omega (arith, to-below (c .before))
-
-cast-heads-2 : tie.Need-cast-heads-2 Inv-loop μ-loop
-cast-heads-2 c = omega (arith, few (c .before))
-
-add-heads : tie.Need-add-heads Inv-loop μ-loop
-add-heads c = omega (arith, to-below (c .before), few (c .before))
-
-mul-heads-2 : tie.Need-mul-heads-2 Inv-loop μ-loop
-mul-heads-2 c = omega (arith, from-below (c .before))
+mul-heads c = omega (arith, from-below (c .before .before))
 
 element-write-heads : tie.Need-element-write-heads Inv-loop μ-loop
-element-write-heads c = omega (arith, from-below (c .before), at (c .before) .loop .inv .1 .heads-long)
+element-write-heads c = omega (arith, from-below (c .before .before), at (c .before .before) .loop .inv .1 .heads-long)
 
 loop-less : tie.Need-loop-less Inv-loop μ-loop
-loop-less c = omega (arith, c .before .before .before .loop-test .taken)
+loop-less c = omega (arith, c .before .before .before .before .loop-test .taken)
 
 loop-again : tie.Need-loop-again Inv-loop μ-loop
 loop-again c =
-    let turn = c .before in
+    let turn = c .before .before in
     let from = turn .before .from-end in (
       omega (arith, turn .before .before .loop-test .taken),
-      chaining-next (from .result) (turn .to-end .result) (few turn) (from-below turn) (from .ensures .0) (turn .to-end .ensures .0) (at turn .loop .inv .1),
+      rw (c .cell-of .ensures) (chaining-next (from .result) (turn .to-end .result) (few turn) (from-below turn) (from .ensures .0) (turn .to-end .ensures .0) (at turn .loop .inv .1)),
     )
 
 returns : tie.Need-returns Inv-loop μ-loop
@@ -118,11 +109,8 @@ chain-spec =
     mul-next-2
     element-write-next
     add-i
-    cast-heads
+    cell-of-requires
     mul-heads
-    cast-heads-2
-    add-heads
-    mul-heads-2
     element-write-heads
     loop-less
     loop-again
