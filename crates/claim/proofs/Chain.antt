@@ -1,56 +1,79 @@
--- The composition's pairs and the lattice's paths, put one behind the other. Assumes nothing.
+-- A lattice behind a transducer whose paths are known, and the composition's pairs, put one behind the other. Assumes nothing.
 use mathlib.Core.Path.{_≡_, sym, ap, _∙_}
 use mathlib.Core.Bool.{true}
 use mathlib.Core.List.{List}
 use Prim.Native.Nat.{ℕ}
 use Rattle.transducer.specs.Format.{Transducer, decode}
-use Rattle.transducer.specs.Path.{accepts}
+use Rattle.transducer.specs.Path.{accepts, read-by, written-by, path-cost}
+use Rattle.transducer.specs.Weight.{plus}
 use Rattle.compose.specs.Claim.{met-at, Two-paths, One-to-one}
-use Rattle.compose.specs.Claim.{Stands-for as Composed-stands}
+use Rattle.compose.specs.Claim.{Pair as Composed-pair, Stands-for as Composed-stands}
 use Rattle.trim.specs.Trim.{through}
 use Rattle.lattice.specs.Lattice.{Reads-as, Reads-one-to-one}
-use Rattle.claim.specs.Claim.{Pair, to-pair, Stands-for, Paths-are-pairs}
+use Rattle.claim.specs.Kind.{Kind, those, Stands-for, Paths-are}
+use Rattle.claim.specs.Claim.{Pair, Pairs, to-pair}
 
--- Two pairs with equal paths are one.
-same-paths : (x y : Two-paths) → x .left ≡ y .left → x .right ≡ y .right → x ≡ y
-same-paths x y l r = λ i. record { left = l i; right = r i }
-
-module _ (xs ys cs : List ℕ) (z w : Transducer) (os ls : List ℕ) (one : One-to-one (decode xs) (decode ys) z os) (reads : Reads-one-to-one cs z w ls) where
-  leads : (p : List ℕ) → accepts w p ≡ true → Stands-for xs ys cs w p (to-pair os ls p)
-  unfolding to-pair
+-- A lattice behind a transducer whose paths are of a kind: its paths are those of the kind that read the string.
+module _ (K : Kind) (Of-string : K .Thing → Type 0) (cs : List ℕ) (these : (x : K .Thing) → K .Is x → K .input x ≡ cs → Of-string x)
+    (are-these : (x : K .Thing) → Of-string x → K .Is x × (K .input x ≡ cs)) (z w : Transducer) (ls : List ℕ) (to : List ℕ → K .Thing)
+    (are : Paths-are K z to) (reads : Reads-one-to-one cs z w ls) where
+  leads : (p : List ℕ) → accepts w p ≡ true → Stands-for (those K Of-string) w p (to (through ls p))
   leads p h =
-      let q : List ℕ = through ls p in
-      let r : Reads-as cs z w p q = reads .leads p h in
-      let s : Composed-stands (decode xs) (decode ys) z q (met-at os 0 q) (met-at os 1 q) = one .leads q (r .accepting) in
+      let r : Reads-as cs z w p (through ls p) = reads .leads p h in
+      let s : Stands-for K z (through ls p) (to (through ls p)) = are .leads (through ls p) (r .accepting) in
       record {
-        pair =
-            record {
-              left-accepts = s .pair .left-accepts;
-              left-reads = sym (s .reads) ∙ r .reads;
-              right-accepts = s .pair .right-accepts;
-              meets = s .pair .meets;
-            };
+        is = these (to (through ls p)) (s .is) (sym (s .reads) ∙ r .reads);
+        reads = r .same-input ∙ sym (r .reads) ∙ s .reads;
         writes = r .same-output ∙ s .writes;
         costs = r .same-cost ∙ s .costs;
       }
 
-  never-two : (p q : List ℕ) → accepts w p ≡ true → accepts w q ≡ true → to-pair os ls p ≡ to-pair os ls q → p ≡ q
-  unfolding to-pair
+  never-two : (p q : List ℕ) → accepts w p ≡ true → accepts w q ≡ true → to (through ls p) ≡ to (through ls q) → p ≡ q
   never-two p q h k e =
-      reads .never-two p q h k
-      (one .never-two (through ls p) (through ls q) (reads .leads p h .accepting) (reads .leads q k .accepting) (ap (λ (x : Two-paths). x .left) e)
-      (ap (λ (x : Two-paths). x .right) e))
+      reads .never-two p q h k (are .never-two (through ls p) (through ls q) (reads .leads p h .accepting) (reads .leads q k .accepting) e)
 
-  every : (x : Two-paths) → Pair xs ys cs x → (p : List ℕ) × (accepts w p ≡ true) × (to-pair os ls p ≡ x)
-  unfolding to-pair
-  every x pair =
-      let q =
-      one .every (x .left) (x .right) (record { left-accepts = pair .left-accepts; right-accepts = pair .right-accepts; meets = pair .meets }) in
-      let s : Composed-stands (decode xs) (decode ys) z (q .0) (x .left) (x .right) = rw (q .2, q .3) at (one .leads (q .0) (q .1)) in
-      let p = reads .every (q .0) (q .1) (s .reads ∙ pair .left-reads) in
-      let left : met-at os 0 (through ls (p .0)) ≡ x .left = ap (met-at os 0) (p .2) ∙ q .2 in
-      let right : met-at os 1 (through ls (p .0)) ≡ x .right = ap (met-at os 1) (p .2) ∙ q .3 in
-      (p .0, p .1, same-paths (to-pair os ls (p .0)) x left right)
+  every : (x : K .Thing) → Of-string x → (p : List ℕ) × (accepts w p ≡ true) × (to (through ls p) ≡ x)
+  every x h =
+      let i = are-these x h in
+      let q = are .every x (i .0) in
+      let s : Stands-for K z (q .0) x = rw (q .2) at (are .leads (q .0) (q .1)) in
+      let p = reads .every (q .0) (q .1) (s .reads ∙ i .1) in
+      (p .0, p .1, ap to (p .2) ∙ q .2)
 
-  pub chain-pairs : Paths-are-pairs xs ys cs w (to-pair os ls)
-  chain-pairs = record { leads = leads; never-two = never-two; every = every }
+  pub lattice-paths : Paths-are (those K Of-string) w (λ p. to (through ls p))
+  lattice-paths = record { leads = leads; never-two = never-two; every = every }
+
+-- The pairs of a composition, as a kind.
+abbrev Composed-pairs : (t u : Transducer) → Kind
+Composed-pairs t u =
+    record {
+      Thing = Two-paths;
+      Is = λ x. Composed-pair t u (x .left) (x .right);
+      input = λ x. read-by t (x .left);
+      output = λ x. written-by u (x .right);
+      cost = λ x. plus (path-cost t (x .left)) (path-cost u (x .right));
+    }
+
+abbrev met : (origins path : List ℕ) → Two-paths
+met os p = record { left = met-at os 0 p; right = met-at os 1 p }
+
+composed-paths : (t u z : Transducer) (os : List ℕ) → One-to-one t u z os → Paths-are (Composed-pairs t u) z (met os)
+composed-paths t u z os one =
+    record {
+      leads =
+          λ p h. let s : Composed-stands t u z p (met-at os 0 p) (met-at os 1 p) = one .leads p h in
+          record { is = s .pair; reads = s .reads; writes = s .writes; costs = s .costs };
+      never-two = λ p q h k e. one .never-two p q h k (ap (λ (x : Two-paths). x .left) e) (ap (λ (x : Two-paths). x .right) e);
+      every =
+          λ x pair. let q = one .every (x .left) (x .right) pair in
+          (q .0, q .1, λ i. record { left = q .2 i; right = q .3 i });
+    }
+
+pub chain-pairs : (xs ys cs : List ℕ) (z w : Transducer) (os ls : List ℕ) → One-to-one (decode xs) (decode ys) z os → Reads-one-to-one cs z w ls
+    → Paths-are (Pairs xs ys cs) w (to-pair os ls)
+unfolding to-pair
+chain-pairs xs ys cs z w os ls one reads =
+    lattice-paths (Composed-pairs (decode xs) (decode ys)) (Pair xs ys cs) cs
+    (λ x p h. record { left-accepts = p .left-accepts; left-reads = h; right-accepts = p .right-accepts; meets = p .meets })
+    (λ x p. (record { left-accepts = p .left-accepts; right-accepts = p .right-accepts; meets = p .meets }, p .left-reads))
+    z w ls (met os) (composed-paths (decode xs) (decode ys) z os one) reads

@@ -13,7 +13,8 @@ use Rattle.compose.specs.Claim.{Two-paths}
 use Rattle.paths.specs.Count.{before, paths, endless, path-count, nth-path}
 use Rattle.paths.proofs.Endless.{paths-distinct}
 use Rattle.paths.proofs.NthPath.{nth-path-accepts, nth-path-before, nth-path-onto, path-count-listed}
-use Rattle.claim.specs.Claim.{Calls, composed-bytes, lattice-bytes, lattice-of, Answered, Pair, leads-to, Stands-for, Paths-are-pairs}
+use Rattle.claim.specs.Kind.{Stands-for, Paths-are}
+use Rattle.claim.specs.Claim.{Calls, composed-bytes, lattice-bytes, lattice-of, Answered, Pair, Pairs, leads-to}
 use Rattle.claim.specs.Claim.{told-arcs, Tells, Claim}
 use Rattle.claim.proofs.Answers.{composed-well, applied-well, Told-well, told-well}
 use Rattle.claim.proofs.Answers.{none-counted, count-told, some-counted}
@@ -43,7 +44,7 @@ module _ (c : Calls) (answered : Answered c) where
   accepted : refusal (lattice-bytes c) ≡ 0
   accepted = lattice-accepted chained
 
-  pairs : Paths-are-pairs (c .left) (c .right) (c .string) w (leads-to c)
+  pairs : Paths-are (Pairs (c .left) (c .right) (c .string)) w (leads-to c)
   pairs = paths-are-pairs chained
 
   -- The k-th path
@@ -76,11 +77,11 @@ module _ (c : Calls) (answered : Answered c) where
   tells k l =
       let r : Told-at k = told-at k l in
       let a : Accepting (told-arcs c k) = told-accepting k l in
-      let s : Stands-for (c .left) (c .right) (c .string) w (told-arcs c k) (leads-to c (told-arcs c k)) = pairs .leads (told-arcs c k) a in
+      let s : Stands-for (Pairs (c .left) (c .right) (c .string)) w (told-arcs c k) (leads-to c (told-arcs c k)) = pairs .leads (told-arcs c k) a in
       record {
         well = r .told .well;
         accepting = a;
-        pair = s .pair;
+        pair = s .is;
         output = r .told .labels ∙ ap (written-by w) (sym (r .told .arcs)) ∙ s .writes;
         cost = r .told .cost ∙ ap (path-cost w) (sym (r .told .arcs)) ∙ s .costs;
       }

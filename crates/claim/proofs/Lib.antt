@@ -2,6 +2,7 @@
 pub mod Counting
 -- What the calls' answers say, one after the other.
 pub mod Answers
+pub mod HandedOn
 pub mod Chain
 pub mod ChainCounted
 -- The claim, and the answers of the one call.

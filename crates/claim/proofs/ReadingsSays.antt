@@ -6,9 +6,10 @@ use Prim.Native.Nat.{ℕ, _≤_}
 use lib.ListN.{length, take}
 use Rattle.wire.specs.Bytes.{Bytes}
 use Rattle.transducer.specs.declared.Written.{Written}
-use Rattle.transducer.specs.Format.{Transducer, refusal, decode}
+use Rattle.transducer.specs.Format.{Transducer, Good, refusal, decode}
 use Rattle.transducer.specs.Entry.{or-else}
 use Rattle.transducer.proofs.Answers.{some-or-else, none-or-else, unless-some}
+use Rattle.transducer.proofs.RoundTrip.{accepted-good}
 use Rattle.compose.specs.Entry.{compose-room, compose-refusal, Compose-says}
 use Rattle.lattice.specs.ApplyEntry.{apply-room, apply-refusal, Apply-says}
 use Rattle.lattice.specs.Lattice.{lattice}
@@ -18,7 +19,8 @@ use Rattle.paths.specs.Entry.{count-refusal, Count-says}
 use Rattle.claim.specs.Entry.{composition, composition-lattice, composition-refusal, application-refusal, readings-refusal, Readings-says}
 use Rattle.claim.proofs.Answers.{Composed-well, composed-well, composed-fits}
 use Rattle.claim.proofs.Answers.{Applied-well, applied-well, applied-fits}
-use Rattle.claim.proofs.ChainCounted.{composition-read, composition-accepted, Chained, lattice-read, lattice-accepted, counts-pairs}
+use Rattle.claim.proofs.ChainCounted.{Chained, lattice-read, lattice-accepted, counts-pairs}
+use Rattle.claim.proofs.HandedOn.{composition-read, composition-accepted}
 
 -- Which refusal it is
 
@@ -72,8 +74,14 @@ module _ (xs ys cs : List ℕ) (made : Written) {a a' b b' c c' : List ℕ} (la 
     none : composition-refusal xs ys ≡ 0
     none = sym made-number ∙ well
 
+    good-xs : Good (decode xs)
+    good-xs = accepted-good xs bytes-xs (made-well .left-good)
+
+    good-ys : Good (decode ys)
+    good-ys = accepted-good ys bytes-ys (made-well .right-good)
+
     read : decode (take (made .len) a') ≡ composition xs ys
-    read = composition-read bytes-xs bytes-ys made-well
+    read = composition-read good-xs good-ys made-well
 
     -- The application's answer
 
@@ -84,7 +92,7 @@ module _ (xs ys cs : List ℕ) (made : Written) {a a' b b' c c' : List ℕ} (la 
 
       put-number : put .refusal ≡ application-refusal cs (composition xs ys)
       unfolding apply-refusal apply-room application-refusal or-else
-      put-number = applying .refusal-is ∙ (rw (ld, le, lf, composition-accepted bytes-xs bytes-ys made-well, read))
+      put-number = applying .refusal-is ∙ (rw (ld, le, lf, composition-accepted good-xs good-ys made-well, read))
 
       pub says-unapplied : (put .refusal ≡ 0 → ⊥) → Readings-says xs ys cs (record { refusal = put .refusal; count = 0 })
       says-unapplied bad =

@@ -2,11 +2,9 @@
 -- the k-th path, to the pairs of the two transducers and the string alone. Assumes nothing: these are definitions.
 use mathlib.Core.Path.{_≡_}
 use mathlib.Core.Bool.{true}
-use mathlib.Core.Logic.{_↔_}
 use mathlib.Core.List.{List}
-use mathlib.Core.List.{List·Memᴰ as Among}
-use Prim.Native.Nat.{ℕ, _≤_, _<_, min}
-use lib.ListN.{length, getD, take}
+use Prim.Native.Nat.{ℕ, _≤_, _<_}
+use lib.ListN.{length, take}
 use Rattle.wire.specs.Bytes.{Bytes}
 use Rattle.transducer.specs.declared.Written.{Written}
 use Rattle.transducer.specs.Format.{max-path, max-count, Transducer, decode}
@@ -20,6 +18,7 @@ use Rattle.paths.specs.declared.Counted.{Counted}
 use Rattle.paths.specs.declared.Told.{Told}
 use Rattle.paths.specs.Count.{before}
 use Rattle.paths.specs.Entry.{count-refusal, Count-says, nth-refusal, Nth-says}
+use Rattle.claim.specs.Kind.{Kind, Paths-are, Counts}
 
 -- The calls: what each was handed, its answer, what it was lent, and the same as it was left behind (`-left`).
 pub record Calls : Type 0 where
@@ -98,33 +97,16 @@ pair-cost left right x = plus (path-cost (decode left) (x .left)) (path-cost (de
 unfoldable pub to-pair : (origins lattice-origins path : List ℕ) → Two-paths
 to-pair os ls p = record { left = met-at os 0 (through ls p); right = met-at os 1 (through ls p) }
 
--- A path of the lattice w stands for a pair: it writes the pair's output and costs its cost.
-pub record Stands-for (left right string : List ℕ) (w : Transducer) (path : List ℕ) (x : Two-paths) : Type 0 where
-  pub pair : Pair left right string x
-  pub writes : written-by w path ≡ pair-output right x
-  pub costs : path-cost w path ≡ pair-cost left right x
-
--- Each accepting path of the lattice w leads to a pair that it stands for, never two to one pair, and to every pair some path.
-pub record Paths-are-pairs (left right string : List ℕ) (w : Transducer) (to : List ℕ → Two-paths) : Type 0 where
-  pub leads : (p : List ℕ) → accepts w p ≡ true → Stands-for left right string w p (to p)
-  pub never-two : (p q : List ℕ) → accepts w p ≡ true → accepts w q ≡ true → to p ≡ to q → p ≡ q
-  pub every : (x : Two-paths) → Pair left right string x → (p : List ℕ) × (accepts w p ≡ true) × (to p ≡ x)
-
--- Infinitely many pairs: no list holds them all.
-abbrev pub Infinitely-many : (left right string : List ℕ) → Type 0
-Infinitely-many left right string = (l : List Two-paths) → ((x : Two-paths) → Pair left right string x → Among x l) → ⊥
-
--- A list that has each pair exactly once; its length is the number of pairs.
-pub record Each-once (left right string : List ℕ) (l : List Two-paths) : Type 0 where
-  pub only : (x : Two-paths) → Among x l → Pair left right string x
-  pub all : (x : Two-paths) → Pair left right string x → Among x l
-  pub once : (i j : ℕ) (d : Two-paths) → i < length l → j < length l → getD l i d ≡ getD l j d → i ≡ j
-
--- The count is refused by 14 exactly where the pairs are infinitely many; otherwise it is the least of 99 and the number of pairs.
-pub record Counts-pairs (left right string : List ℕ) (r : Counted) : Type 0 where
-  pub endless : (r .refusal ≡ 14) ↔ Infinitely-many left right string
-  pub finite : (Infinitely-many left right string → ⊥) → (l : List Two-paths) × Each-once left right string l
-  pub number : (l : List Two-paths) → Each-once left right string l → (r .refusal ≡ 0) × (r .count ≡ min max-count (length l))
+-- The pairs as a kind of things that the lattice's paths stand for. A pair's input is what its left path reads.
+abbrev pub Pairs : (left right string : List ℕ) → Kind
+Pairs left right string =
+    record {
+      Thing = Two-paths;
+      Is = Pair left right string;
+      input = λ x. read-by (decode left) (x .left);
+      output = pair-output right;
+      cost = pair-cost left right;
+    }
 
 -- The lattice is what is in the bytes handed to the count; its paths lead by the origins as they were left behind.
 abbrev pub lattice-of : Calls → Transducer
@@ -150,8 +132,8 @@ pub record Tells (c : Calls) (k : ℕ) (x : Two-paths) : Type 0 where
 
 -- What is claimed.
 pub record Claim (c : Calls) : Type 0 where
-  pub paths : Paths-are-pairs (c .left) (c .right) (c .string) (lattice-of c) (leads-to c)
-  pub counts : Counts-pairs (c .left) (c .right) (c .string) (c .counting)
+  pub paths : Paths-are (Pairs (c .left) (c .right) (c .string)) (lattice-of c) (leads-to c)
+  pub counts : Counts (Pairs (c .left) (c .right) (c .string)) (c .counting)
   -- Each k below the count tells the pair that its path leads to, no two the same one, in path order; below 99 every pair is told.
   pub tells : (k : ℕ) → k < c .counting .count → Tells c k (leads-to c (told-arcs c k))
   pub told-once : (j k : ℕ) → j < c .counting .count → k < c .counting .count → leads-to c (told-arcs c j) ≡ leads-to c (told-arcs c k) → j ≡ k

@@ -11,7 +11,8 @@ use Rattle.lattice.specs.Apply.{string-good, applied}
 use Rattle.lattice.specs.Lattice.{lattice}
 use Rattle.paths.specs.declared.Counted.{Counted}
 use Rattle.paths.specs.Count.{endless, path-count}
-use Rattle.claim.specs.Claim.{Counts-pairs}
+use Rattle.claim.specs.Kind.{Counts}
+use Rattle.claim.specs.Claim.{Pairs}
 
 -- The composition of what is in two transducers' bytes, and its lattice of a string.
 abbrev pub composition : (left right : List ℕ) → Transducer
@@ -38,4 +39,4 @@ pub record Readings-says (left right string : List ℕ) (r : Counted) : Type 0 w
   pub refusal-is : r .refusal ≡ readings-refusal left right string
   pub count-is : r .count ≡ unless (readings-refusal left right string) (path-count (composition-lattice left right string))
   -- The claim's part on the number of pairs, where neither composition nor application is refused.
-  pub counts : composition-refusal left right ≡ 0 → application-refusal string (composition left right) ≡ 0 → Counts-pairs left right string r
+  pub counts : composition-refusal left right ≡ 0 → application-refusal string (composition left right) ≡ 0 → Counts (Pairs left right string) r

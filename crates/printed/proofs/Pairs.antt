@@ -11,7 +11,6 @@ use Rattle.wire.specs.Bytes.{Bytes}
 use Rattle.transducer.specs.Format.{Transducer, Good, refusal, decode}
 use Rattle.transducer.specs.Path.{accepts}
 use Rattle.transducer.specs.Entry.{or-else}
-use Rattle.transducer.proofs.Members.{Distinct, distinct-places}
 use Rattle.transducer.proofs.RoundTrip.{accepted-good}
 use Rattle.transducer.proofs.Runs.{Within, good-within}
 use Rattle.explore.specs.Explore.{built-refusal}
@@ -28,22 +27,15 @@ use Rattle.paths.specs.Count.{paths, endless, nth-path}
 use Rattle.paths.proofs.Order.{sorted-places}
 use Rattle.paths.proofs.Endless.{mem-paths, paths-sorted}
 use Rattle.paths.proofs.NthPath.{nth-path-accepts}
-use Rattle.claim.specs.Claim.{Pair, pair-cost, pair-output, Stands-for, Paths-are-pairs, Infinitely-many, Each-once}
+use Rattle.claim.specs.Kind.{Stands-for, Paths-are, Infinitely-many, Each-once}
+use Rattle.claim.specs.Claim.{Pairs, pair-cost, pair-output}
 use Rattle.claim.proofs.Chain.{chain-pairs}
-use Rattle.claim.proofs.Counting.{listed-all, listed-only, listed-distinct, endless-infinitely-many}
-use Rattle.claim.proofs.Pigeonhole.{places-distinct, no-longer}
+use Rattle.claim.proofs.Counting.{endless-infinitely-many, listed-once}
 use Rattle.listing.specs.Code.{labels-in}
 use Rattle.listing.specs.Text.{line, line-of, lines}
 use Rattle.listing.specs.Entry.{applied-refusal, listing-refusal}
 use Rattle.listing.proofs.Steps.{passed-both, applied-fine}
 use Rattle.printed.specs.Printed.{lattice-for, leads-to, In-path-order, pair-lines}
-
--- Two lists that have each pair once are as long.
-pub each-once-long : (xs ys cs : List ℕ) (l m : List Two-paths) → Each-once xs ys cs l → Each-once xs ys cs m → length l ≡ length m
-each-once-long xs ys cs l m p q =
-    let up : length l ≤ length m = no-longer l m (places-distinct l (p .once)) (λ x h. q .all x (p .only x h)) in
-    let down : length m ≤ length l = no-longer m l (places-distinct m (q .once)) (λ x h. p .all x (q .only x h)) in
-    omega arith
 
 -- One line more.
 pair-lines-snoc : (xs ys : List ℕ) (k : ℕ) (l : List Two-paths) (x : Two-paths)
@@ -98,28 +90,21 @@ module _ (xs ys cs : List ℕ) (bytes-xs : Bytes xs) (bytes-ys : Bytes ys) (fine
   within : Within w
   within = good-within w good-lattice
 
-  pairs : Paths-are-pairs xs ys s w (leads-to xs ys s)
+  pairs : Paths-are (Pairs xs ys s) w (leads-to xs ys s)
   pairs =
       chain-pairs xs ys s z w (origin-pairs (composed (decode xs) (decode ys) .steps)) (lattice-origins s z)
       (composed-one-to-one (decode xs) (decode ys) (passed .left-good) (passed .right-good) (passed .composes))
       (lattice-one-to-one s z good-z (passed .string) (passed .applies))
 
-  pub infinite : (endless w ≡ true) ↔ Infinitely-many xs ys s
-  infinite = endless-infinitely-many w within (Pair xs ys s) (leads-to xs ys s) (λ q h. pairs .leads q h .pair) (pairs .never-two) (pairs .every)
+  pub infinite : (endless w ≡ true) ↔ Infinitely-many (Pairs xs ys s)
+  infinite = endless-infinitely-many (Pairs xs ys s) w within (leads-to xs ys s) pairs
 
   -- The pairs that the paths lead to.
   abbrev pub all-pairs : List Two-paths
   all-pairs = map (leads-to xs ys s) (paths w)
 
-  pub listed-once : endless w ≡ false → Each-once xs ys s all-pairs
-  listed-once e =
-      let apart : Distinct (λ x. x) all-pairs =
-      listed-distinct w within (Pair xs ys s) (leads-to xs ys s) (λ q h. pairs .leads q h .pair) (pairs .never-two) (pairs .every) in
-      record {
-        only = listed-only w within (Pair xs ys s) (leads-to xs ys s) (λ q h. pairs .leads q h .pair) (pairs .never-two) (pairs .every);
-        all = listed-all w within (Pair xs ys s) (leads-to xs ys s) (λ q h. pairs .leads q h .pair) (pairs .never-two) (pairs .every) e;
-        once = λ i j d. distinct-places (λ x. x) all-pairs d i j apart;
-      }
+  pub pairs-once : endless w ≡ false → Each-once (Pairs xs ys s) all-pairs
+  pairs-once e = listed-once (Pairs xs ys s) w within (leads-to xs ys s) pairs e
 
   pub in-path-order : In-path-order xs ys s all-pairs
   in-path-order =
@@ -135,7 +120,7 @@ module _ (xs ys cs : List ℕ) (bytes-xs : Bytes xs) (bytes-ys : Bytes ys) (fine
       → line-of w k ≡ line k (pair-cost xs ys (leads-to xs ys s (nth-path w k))) (pair-output ys (leads-to xs ys s (nth-path w k)))
   unfolding line-of
   line-of-pair k h =
-      let r : Stands-for xs ys s w (nth-path w k) (leads-to xs ys s (nth-path w k)) = pairs .leads (nth-path w k) (nth-path-accepts w k h) in
+      let r : Stands-for (Pairs xs ys s) w (nth-path w k) (leads-to xs ys s (nth-path w k)) = pairs .leads (nth-path w k) (nth-path-accepts w k h) in
       rw (r .costs, r .writes)
 
   lines-up-to : (n : ℕ) → n ≤ length (paths w) → lines w n ≡ pair-lines xs ys 0 (map (leads-to xs ys s) (take n (paths w)))

@@ -13,7 +13,9 @@ use Rattle.wire.proofs.Places.{take-filled}
 use Rattle.transducer.specs.Entry.{unless, left-in}
 use Rattle.compose.specs.Claim.{Two-paths}
 use Rattle.paths.specs.Count.{paths, endless, path-count}
-use Rattle.claim.specs.Claim.{Infinitely-many, Each-once}
+use Rattle.claim.specs.Kind.{Infinitely-many}
+use Rattle.claim.specs.Claim.{Pairs}
+use Rattle.claim.proofs.Counting.{each-once-long}
 use Rattle.listing.specs.Code.{labels-in}
 use Rattle.listing.specs.Text.{decimal, readings-word, endless-word, many-word, lines, counted-text, listing-text, refused-text}
 use Rattle.listing.specs.Entry.{text-unless, listing-refusal, text-of, text-room, Listing-says}
@@ -22,7 +24,7 @@ use Rattle.printed.specs.Printed.{Printing, Answered, printed, refusal-o
 use Rattle.printed.specs.Printed.{Begins, Lists, Number-of-pairs, Many-pairs, Form, Printed}
 use Rattle.printed.specs.Printed.Form.{refusal, infinite, many, count}
 use Rattle.printed.proofs.Forms.{refused-or-listed, refused-once, endless-or-many, endless-or-count, many-or-count, count-once}
-use Rattle.printed.proofs.Pairs.{each-once-long, all-pairs, listed-once, in-path-order, lines-are-pairs}
+use Rattle.printed.proofs.Pairs.{all-pairs, pairs-once, in-path-order, lines-are-pairs}
 use Rattle.printed.proofs.Pairs.{infinite as infinite-pairs}
 
 module _ (c : Printing) (answered : Answered c) where
@@ -52,7 +54,7 @@ module _ (c : Printing) (answered : Answered c) where
   -- The four cases.
   data Case : Type 0 where
     refused-case : (refusal-of c ≡ 0 → ⊥) → printed c ≡ refused-text (refusal-of c) → Case
-    endless-case : refusal-of c ≡ 0 → Infinitely-many xs ys s → printed c ≡ readings-word ++ endless-word → Case
+    endless-case : refusal-of c ≡ 0 → Infinitely-many (Pairs xs ys s) → printed c ≡ readings-word ++ endless-word → Case
     many-case : refusal-of c ≡ 0 → Many-pairs xs ys s → printed c ≡ readings-word ++ many-word → Case
     few-case : refusal-of c ≡ 0 → (l : List Two-paths) → length l < 99 → Lists xs ys s (printed c) l → Case
 
@@ -75,14 +77,14 @@ module _ (c : Printing) (answered : Answered c) where
     fine-case false false e f =
         let w = lattice-for xs ys s in
         let most : 99 ≤ path-count w = ltb-false (path-count w) 99 f in
-        let each = listed-once xs ys (c .code) (answered .left-bytes) (answered .right-bytes) fine e in
+        let each = pairs-once xs ys (c .code) (answered .left-bytes) (answered .right-bytes) fine e in
         many-case fine (record { number = length l; pairs = record { list = l; each = each; long = refl }; many = omega (arith, long, most) })
         (lists-all ∙ (listing-finite w e ∙ ap (λ (t : List ℕ). readings-word ++ t) (counted-many w (path-count w) refl most)))
     fine-case false true e f =
         let w = lattice-for xs ys s in
         let few : path-count w < 99 = ltb-true (path-count w) 99 f in
         let all : path-count w ≡ length (paths w) = omega arith in
-        let each = listed-once xs ys (c .code) (answered .left-bytes) (answered .right-bytes) fine e in
+        let each = pairs-once xs ys (c .code) (answered .left-bytes) (answered .right-bytes) fine e in
         let is : counted-text w ≡ decimal (length l) ++ (10 ∷ pair-lines xs ys 0 l) =
         counted-few w (path-count w) refl few
         ∙ rw (all, long, lines-are-pairs xs ys (c .code) (answered .left-bytes) (answered .right-bytes) fine) in
@@ -124,7 +126,7 @@ module _ (c : Printing) (answered : Answered c) where
   text-refused (many-case fine p e) n h = absurd (refused-or-listed (printed c) many-word n h e)
   text-refused (few-case fine l p e) n h = absurd (refused-or-listed (printed c) (decimal (length l) ++ (10 ∷ pair-lines xs ys 0 l)) n h (e .text-is))
 
-  text-endless : Case → printed c ≡ readings-word ++ endless-word → (refusal-of c ≡ 0) × Infinitely-many xs ys s
+  text-endless : Case → printed c ≡ readings-word ++ endless-word → (refusal-of c ≡ 0) × Infinitely-many (Pairs xs ys s)
   text-endless (refused-case bad e) h = absurd (refused-or-listed (printed c) endless-word (refusal-of c) e h)
   text-endless (endless-case fine p e) h = (fine, p)
   text-endless (many-case fine p e) h = absurd (endless-or-many (printed c) h e)
@@ -152,7 +154,7 @@ module _ (c : Printing) (answered : Answered c) where
   refused-text-of (many-case fine p e) n h b = absurd (b (sym h ∙ fine))
   refused-text-of (few-case fine l p e) n h b = absurd (b (sym h ∙ fine))
 
-  endless-text-of : Case → refusal-of c ≡ 0 → Infinitely-many xs ys s → printed c ≡ readings-word ++ endless-word
+  endless-text-of : Case → refusal-of c ≡ 0 → Infinitely-many (Pairs xs ys s) → printed c ≡ readings-word ++ endless-word
   endless-text-of (refused-case bad e) h i = absurd (bad h)
   endless-text-of (endless-case fine p e) h i = e
   endless-text-of (many-case fine p e) h i = absurd (i (p .pairs .list) (p .pairs .each .all))
@@ -163,15 +165,15 @@ module _ (c : Printing) (answered : Answered c) where
   many-text-of (endless-case fine p e) h m = absurd (p (m .pairs .list) (m .pairs .each .all))
   many-text-of (many-case fine p e) h m = e
   many-text-of (few-case fine l p e) h m =
-      absurd (omega (arith, each-once-long xs ys s l (m .pairs .list) (e .each) (m .pairs .each), m .pairs .long, m .many, p))
+      absurd (omega (arith, each-once-long (Pairs xs ys s) l (m .pairs .list) (e .each) (m .pairs .each), m .pairs .long, m .many, p))
 
   few-text-of : Case → (n : ℕ) → refusal-of c ≡ 0 → Number-of-pairs xs ys s n → n < 99 → Begins (printed c) n
   few-text-of (refused-case bad e) n h m few = absurd (bad h)
   few-text-of (endless-case fine p e) n h m few = absurd (p (m .list) (m .each .all))
   few-text-of (many-case fine p e) n h m few =
-      absurd (omega (arith, each-once-long xs ys s (p .pairs .list) (m .list) (p .pairs .each) (m .each), p .pairs .long, p .many, m .long))
+      absurd (omega (arith, each-once-long (Pairs xs ys s) (p .pairs .list) (m .list) (p .pairs .each) (m .each), p .pairs .long, p .many, m .long))
   few-text-of (few-case fine l p e) n h m few =
-      let same : length l ≡ n = each-once-long xs ys s l (m .list) (e .each) (m .each) ∙ m .long in
+      let same : length l ≡ n = each-once-long (Pairs xs ys s) l (m .list) (e .each) (m .each) ∙ m .long in
       rw same at (begins l e)
 
   pub printed-claim : Printed c

@@ -15,7 +15,8 @@ use Rattle.compose.specs.Compose.{composed}
 use Rattle.compose.specs.Entry.{origin-pairs}
 use Rattle.lattice.specs.Lattice.{lattice, lattice-origins}
 use Rattle.paths.specs.Count.{before}
-use Rattle.claim.specs.Claim.{pair-cost, pair-output, to-pair, Infinitely-many, Each-once}
+use Rattle.claim.specs.Kind.{Infinitely-many, Each-once}
+use Rattle.claim.specs.Claim.{Pairs, pair-cost, pair-output, to-pair}
 use Rattle.listing.specs.declared.Listed.{Listed}
 use Rattle.listing.specs.Code.{labels-in}
 use Rattle.listing.specs.Text.{decimal, newline, readings-word, endless-word, many-word, line, refused-text}
@@ -71,14 +72,14 @@ pub record Begins (text : List ℕ) (n : ℕ) : Type 0 where
   pub text-is : text ≡ readings-word ++ (decimal n ++ (newline ∷ rest))
 
 pub record Lists (left right string text : List ℕ) (l : List Two-paths) : Type 0 where
-  pub each : Each-once left right string l
+  pub each : Each-once (Pairs left right string) l
   pub in-order : In-path-order left right string l
   pub text-is : text ≡ readings-word ++ (decimal (length l) ++ (newline ∷ pair-lines left right 0 l))
 
 -- The number of pairs.
 pub record Number-of-pairs (left right string : List ℕ) (n : ℕ) : Type 0 where
   pub list : List Two-paths
-  pub each : Each-once left right string list
+  pub each : Each-once (Pairs left right string) list
   pub long : length list ≡ n
 
 -- Finitely many pairs, 99 or more of them.
@@ -100,7 +101,7 @@ pub record Printed (c : Printing) : Type 0 where
   -- `refused` and a number: that is the first refusal there is.
   pub refused : (n : ℕ) → (printed c ≡ refused-text n) ↔ ((refusal-of c ≡ n) × (n ≡ 0 → ⊥))
   -- `readings endless`: nothing is refused, and the pairs are infinitely many.
-  pub endless : (printed c ≡ readings-word ++ endless-word) ↔ ((refusal-of c ≡ 0) × Infinitely-many (c .left) (c .right) (labels-in (c .code)))
+  pub endless : (printed c ≡ readings-word ++ endless-word) ↔ ((refusal-of c ≡ 0) × Infinitely-many (Pairs (c .left) (c .right) (labels-in (c .code))))
   -- `readings 99+`: nothing is refused, and the pairs are 99 or more.
   pub too-many : (printed c ≡ readings-word ++ many-word) ↔ ((refusal-of c ≡ 0) × Many-pairs (c .left) (c .right) (labels-in (c .code)))
   -- `readings` and a number: nothing is refused, the pairs are so many, and fewer than 99.

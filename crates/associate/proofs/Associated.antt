@@ -1,0 +1,81 @@
+-- What is claimed of three transducers in either bracket holds of any four compositions that were not refused, and of any string applied to both
+-- results. Assumes nothing.
+use mathlib.Core.Path.{_≡_}
+use mathlib.Core.List.{List}
+use Prim.Native.Nat.{ℕ}
+use Rattle.transducer.specs.Format.{Good, refusal, decode}
+use Rattle.transducer.proofs.RoundTrip.{accepted-good}
+use Rattle.trim.specs.Trim.{through}
+use Rattle.claim.specs.Kind.{Paths-are}
+use Rattle.claim.proofs.Answers.{Composed-well, composed-well, Applied-well, applied-well}
+use Rattle.claim.proofs.Chain.{lattice-paths}
+use Rattle.claim.proofs.HandedOn.{composition-good, composition-accepted, composition-pairs, applied-good, applied-accepted, applied-reads}
+use Rattle.associate.specs.Associate.{Composition, composed-bytes, Brackets, Application, lattice-bytes, Triple, Triple-of, Triples, Triples-of, Three-paths}
+use Rattle.associate.specs.Associate.{Holds, left-result, right-result, left-leads, right-leads, Associates, Applied-alike}
+use Rattle.associate.proofs.Triples.{left-paths, right-paths}
+use Rattle.associate.proofs.Agreeing.{holds, agree}
+
+composing : {xs ys : List ℕ} (c : Composition xs ys) → Composed-well xs ys (composed-bytes c) (c .origins-left)
+composing {xs} {ys} c =
+    composed-well xs ys (c .answer) (c .table) (c .table-left) (c .origins) (c .origins-left) (c .states) (c .states-left) (c .says) (c .well)
+
+applying : {cs zs : List ℕ} (x : Application cs zs) → Applied-well cs zs (lattice-bytes x) (x .origins-left)
+applying {cs} {zs} x =
+    applied-well cs zs (x .answer) (x .lattice) (x .lattice-left) (x .origins) (x .origins-left) (x .pairs) (x .pairs-left) (x .says) (x .well)
+
+module _ {a b c : List ℕ} (r : Brackets a b c) where
+  good-a : Good (decode a)
+  good-a = accepted-good a (r .a-bytes) (composing (r .ab) .left-good)
+
+  good-b : Good (decode b)
+  good-b = accepted-good b (r .b-bytes) (composing (r .ab) .right-good)
+
+  good-c : Good (decode c)
+  good-c = accepted-good c (r .c-bytes) (composing (r .bc) .right-good)
+
+  good-ab : Good (decode (composed-bytes (r .ab)))
+  good-ab = composition-good good-a good-b (composing (r .ab))
+
+  good-bc : Good (decode (composed-bytes (r .bc)))
+  good-bc = composition-good good-b good-c (composing (r .bc))
+
+  good-left : Good (decode (left-result r))
+  good-left = composition-good good-ab good-c (composing (r .ab-c))
+
+  good-right : Good (decode (right-result r))
+  good-right = composition-good good-a good-bc (composing (r .a-bc))
+
+  left : Paths-are (Triples (decode a) (decode b) (decode c)) (decode (left-result r)) (left-leads r)
+  left =
+      left-paths (decode a) (decode b) (decode c) (decode (composed-bytes (r .ab))) (decode (left-result r)) (r .ab .origins-left) (r .ab-c .origins-left)
+      (composition-pairs good-a good-b (composing (r .ab))) (composition-pairs good-ab good-c (composing (r .ab-c)))
+
+  right : Paths-are (Triples (decode a) (decode b) (decode c)) (decode (right-result r)) (right-leads r)
+  right =
+      right-paths (decode a) (decode b) (decode c) (decode (composed-bytes (r .bc))) (decode (right-result r)) (r .bc .origins-left)
+      (r .a-bc .origins-left) (composition-pairs good-b good-c (composing (r .bc))) (composition-pairs good-a good-bc (composing (r .a-bc)))
+
+  pub associates : Associates r
+  associates =
+      agree (Triples (decode a) (decode b) (decode c)) (left-result r) (right-result r) (left-leads r) (right-leads r)
+      (holds (Triples (decode a) (decode b) (decode c)) (left-result r) (left-leads r) (composition-accepted good-ab good-c (composing (r .ab-c))) good-left
+      left)
+      (holds (Triples (decode a) (decode b) (decode c)) (right-result r) (right-leads r) (composition-accepted good-a good-bc (composing (r .a-bc)))
+      good-right right)
+
+  -- A lattice of either result: its paths are the triples of the string.
+  applied-holds : (string zs : List ℕ) (x : Application string zs) (to : List ℕ → Three-paths) → Good (decode zs)
+      → Paths-are (Triples (decode a) (decode b) (decode c)) (decode zs) to
+      → Holds (Triples-of (decode a) (decode b) (decode c) string) (lattice-bytes x) (λ p. to (through (x .origins-left) p))
+  applied-holds string zs x to good are =
+      holds (Triples-of (decode a) (decode b) (decode c) string) (lattice-bytes x) (λ p. to (through (x .origins-left) p))
+      (applied-accepted good (applying x)) (applied-good good (applying x))
+      (lattice-paths (Triples (decode a) (decode b) (decode c)) (Triple-of (decode a) (decode b) (decode c) string) string
+      (λ y t h. record { triple = t; reads = h }) (λ y t. (t .triple, t .reads)) (decode zs) (decode (lattice-bytes x)) (x .origins-left) to are
+      (applied-reads good (applying x)))
+
+  pub applied-alike : (string : List ℕ) (x : Application string (left-result r)) (y : Application string (right-result r)) → Applied-alike r string x y
+  applied-alike string x y =
+      agree (Triples-of (decode a) (decode b) (decode c) string) (lattice-bytes x) (lattice-bytes y) (λ p. left-leads r (through (x .origins-left) p))
+      (λ p. right-leads r (through (y .origins-left) p)) (applied-holds string (left-result r) x (left-leads r) good-left left)
+      (applied-holds string (right-result r) y (right-leads r) good-right right)
