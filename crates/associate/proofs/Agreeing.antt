@@ -18,9 +18,9 @@ use Rattle.paths.specs.Count.{path-count}
 use Rattle.paths.specs.Entry.{count-refusal}
 use Rattle.shortest.specs.Shortest.{shortest}
 use Rattle.shortest.specs.Entry.{shortest-refusal}
-use Rattle.claim.specs.Kind.{Kind, Stands-for, Paths-are, Infinitely-many, Counts}
+use Rattle.claim.specs.Kind.{Kind, Stands-for, Paths-are, Counts}
 use Rattle.claim.proofs.Counting.{counts}
-use Rattle.associate.specs.Associate.{Counting, Shortest-path, Nothing, Tells-least, Holds, Alike, Exactly-one, Stand-one-to-one, Agree}
+use Rattle.associate.specs.Associate.{Counting, Shortest-path, Nothing, Tells-least, Holds, Alike, Exactly-one, Agree}
 use Rattle.associate.proofs.Least.{tells-least}
 
 -- Paths, one to one.

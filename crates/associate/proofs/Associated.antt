@@ -1,16 +1,15 @@
 -- What is claimed of three transducers in either bracket holds of any four compositions that were not refused, and of any string applied to both
 -- results. Assumes nothing.
-use mathlib.Core.Path.{_≡_}
 use mathlib.Core.List.{List}
 use Prim.Native.Nat.{ℕ}
-use Rattle.transducer.specs.Format.{Good, refusal, decode}
+use Rattle.transducer.specs.Format.{Good, decode}
 use Rattle.transducer.proofs.RoundTrip.{accepted-good}
 use Rattle.trim.specs.Trim.{through}
 use Rattle.claim.specs.Kind.{Paths-are}
 use Rattle.claim.proofs.Answers.{Composed-well, composed-well, Applied-well, applied-well}
 use Rattle.claim.proofs.Chain.{lattice-paths}
 use Rattle.claim.proofs.HandedOn.{composition-good, composition-accepted, composition-pairs, applied-good, applied-accepted, applied-reads}
-use Rattle.associate.specs.Associate.{Composition, composed-bytes, Brackets, Application, lattice-bytes, Triple, Triple-of, Triples, Triples-of, Three-paths}
+use Rattle.associate.specs.Associate.{Composition, composed-bytes, Brackets, Application, lattice-bytes, Triple-of, Triples, Triples-of, Three-paths}
 use Rattle.associate.specs.Associate.{Holds, left-result, right-result, left-leads, right-leads, Associates, Applied-alike}
 use Rattle.associate.proofs.Triples.{left-paths, right-paths}
 use Rattle.associate.proofs.Agreeing.{holds, agree}

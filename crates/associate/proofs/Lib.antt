@@ -5,3 +5,5 @@ pub mod Least
 pub mod Agreeing
 -- The claim.
 pub mod Associated
+-- It is not empty.
+pub mod Instance
