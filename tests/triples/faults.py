@@ -1,0 +1,93 @@
+#!/usr/bin/env python3
+"""Plants faults, one at a time, and runs the driver of tests/triples: each must be found.
+
+    python3 -B tests/triples/faults.py [--cases N] [--only TEXT]
+
+The model of tests/second stands in the place of the library (shim.rs), so nothing needs to be proved. A fault is planted in that model, or in the driver:
+then the driver does, or expects, what Point 14 rules out. Exit code 1 if a fault is not found or cannot be planted, or if the copy without a fault fails.
+"""
+import argparse
+import os
+import shutil
+import subprocess
+import sys
+import tempfile
+import time
+from pathlib import Path
+
+TESTS = Path(__file__).resolve().parents[1]
+
+# Name, file, anchor, part of a line, replacement: the first such part behind the anchor is replaced.
+FAULTS = [
+    ("the whole buffer handed on", "triples/main.rs", "fn written",
+     "table[..length as usize].to_vec()", "{ let _ = length; table }"),
+    ("the middle table's cost left out", "triples/brute.rs", "", "x.cost + y.cost + z.cost", "x.cost + z.cost"),
+    ("brackets' inner origins mixed up", "triples/main.rs", "fn brackets", "[x, y, origin(&ab_c.origins, i, 1)]", "[y, x, origin(&ab_c.origins, i, 1)]"),
+    ("both sides rest freely", "second/model.rs", "pub fn join", "if mark == 0 {", "if mark <= 1 {"),
+    ("left steps barred after a step of both", "second/model.rs", "pub fn join",
+     "let to = (a.target, b.target, 0);", "let to = (a.target, b.target, mark);"),
+    ("filter state 1 not final", "second/model.rs", "pub fn join",
+     "for (i, &(p, q, _mark)) in triples.iter().enumerate() {", "for (i, &(p, q, _mark)) in triples.iter().enumerate().filter(|x| x.1 .2 == 0) {"),
+    ("origins swapped", "second/model.rs", "pub fn compose", "|o| [o.0, o.1]", "|o| [o.1, o.0]"),
+    ("the right side's final weight left out", "second/model.rs", "pub fn join", "finals.push((i, x + y));", "finals.push((i, x + 0 * y));"),
+    ("origins of a lattice before trimming", "second/model.rs", "pub fn apply", "kept.iter().map(|&i| from[i]).collect()", "kept.clone()"),
+    ("count capped at 98", "second/model.rs", "pub fn count", "MANY", "(MANY - 1)"),
+]
+
+
+def rustc(work, *words):
+    made = subprocess.run(["rustc", "-O", "--edition", "2021", "--cap-lints", "allow", *words], cwd=work, capture_output=True, text=True)
+    if made.returncode != 0:
+        raise RuntimeError(made.stderr.strip())
+
+
+def planted(work, fault):
+    """The two folders of tests with the fault in them, or an error."""
+    for folder in ("second", "triples"):
+        shutil.copytree(TESTS / folder, work / folder, dirs_exist_ok=True)
+    name, file, after, old, new = fault
+    if not file:
+        return
+    text = (work / file).read_text()
+    at = text.find(old, max(text.find(after), 0))
+    if at < 0 or after not in text:
+        raise RuntimeError(f"text not in {file}")
+    (work / file).write_text(text[:at] + new + text[at + len(old):])
+
+
+def outcome(work, fault, cases):
+    try:
+        planted(work, fault)
+        rustc(work, "--crate-type", "cdylib", "--crate-name", "forthwn", "second/shim.rs")
+        rustc(work, "--cfg", "have_all", "triples/main.rs", "-L", f"native={work}", "-l", "dylib=forthwn", "-o", "driver")
+    except RuntimeError as error:
+        return f"NOT PLANTED: {error}"
+    run = subprocess.run(["./driver", "--cases", str(cases)], cwd=work, env={**os.environ, "LD_LIBRARY_PATH": str(work)}, capture_output=True, text=True)
+    if run.returncode == 0:
+        return "agrees"
+    failed = [x for x in run.stdout.splitlines() if "FAILED" in x]
+    return f"found: {failed[0][:150]}" if run.returncode == 1 and failed else f"NOT FOUND: exit code {run.returncode}, {run.stderr.strip()[:200]}"
+
+
+def main():
+    parser = argparse.ArgumentParser()
+    parser.add_argument("--cases", type=int, default=2000)
+    parser.add_argument("--only", default="", help="plant the faults whose name has this text")
+    options = parser.parse_args()
+    faults = [f for f in FAULTS if options.only in f[0]]
+    work, missed, began = Path(tempfile.mkdtemp(prefix="triples-")), [], time.time()
+    try:
+        # Without a fault all must agree, or a found fault says nothing.
+        for number, fault in enumerate([("none", "", "", "", "")] + faults):
+            result = outcome(work, fault, options.cases)
+            if not (result == "agrees" if number == 0 else result.startswith("found")):
+                missed.append(fault[0])
+            print(f"{number:2} {fault[0]}: {result}", flush=True)
+    finally:
+        shutil.rmtree(work)
+    print(f"{len(faults)} faults planted, {len(missed)} not as wanted, {time.time() - began:.0f} seconds")
+    return 1 if missed else 0
+
+
+if __name__ == "__main__":
+    sys.exit(main())

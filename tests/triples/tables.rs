@@ -1,0 +1,122 @@
+// Random triples of small tables, and strings for them.
+
+use crate::model::{Arc, Table};
+use crate::rng::Rng;
+
+/// How a table is drawn.
+struct Shape {
+    states: usize,
+    arcs: usize,
+    labels: usize,
+    /// Labels that are empty, of 100, on either side.
+    empty: [usize; 2],
+    cycles: bool,
+    heaviest: usize,
+}
+
+fn label(rng: &mut Rng, labels: usize, empty: usize) -> u16 {
+    if rng.chance(empty, 100) {
+        0
+    } else {
+        rng.range(1, labels) as u16
+    }
+}
+
+fn draw(rng: &mut Rng, shape: &Shape) -> Table {
+    let n = shape.states;
+    let mut arcs: Vec<Arc> = Vec::new();
+    for _ in 0..shape.arcs {
+        // Without cycles arcs lead to higher states; mostly on by one.
+        let source = if shape.cycles || n == 1 { rng.below(n) } else { rng.below(n - 1) };
+        let target = match (shape.cycles, rng.chance(2, 3)) {
+            (true, false) => rng.below(n),
+            (true, true) => (source + 1) % n,
+            (false, _) if n == 1 => break,
+            (false, true) => source + 1,
+            (false, false) => rng.range(source + 1, n - 1),
+        };
+        let input = label(rng, shape.labels, shape.empty[0]);
+        let output = label(rng, shape.labels, shape.empty[1]);
+        arcs.push(Arc { source, input, output, target, weight: rng.below(shape.heaviest + 1) as u64 });
+    }
+    arcs.sort_by_key(|a| a.source);
+    let ends = |rng: &mut Rng, s: usize| s == n - 1 || rng.chance(1, 3);
+    let mut finals = Vec::new();
+    for s in 0..n {
+        if ends(rng, s) && !rng.chance(1, 20) {
+            finals.push((s, rng.below(shape.heaviest + 1) as u64));
+        }
+    }
+    Table { states: n, start: 0, finals, arcs }
+}
+
+/// A line of states with bundles of arcs: many like paths.
+fn bundle(rng: &mut Rng, states: usize, each: usize) -> Table {
+    let arc = |source, weight| Arc { source, input: 1, output: 1, target: source + 1, weight };
+    let arcs = (0..(states - 1) * each).map(|i| arc(i / each, rng.below(4) as u64)).collect();
+    Table { states, start: 0, finals: vec![(states - 1, 0)], arcs }
+}
+
+/// One state with loops that pass label 1 on.
+fn loops(rng: &mut Rng, arcs: usize) -> Table {
+    let arc = |weight| Arc { source: 0, input: 1, output: 1, target: 0, weight };
+    Table { states: 1, start: 0, finals: vec![(0, 0)], arcs: (0..arcs).map(|_| arc(rng.below(4) as u64)).collect() }
+}
+
+/// A line of states that writes nothing, or reads nothing.
+fn silent(states: usize, input: u16, output: u16) -> Table {
+    let arc = |source| Arc { source, input, output, target: source + 1, weight: 1 };
+    Table { states, start: 0, finals: vec![(states - 1, 0)], arcs: (0..states - 1).map(arc).collect() }
+}
+
+/// Three tables and two strings, one of them along a path of the first.
+pub fn case(rng: &mut Rng) -> ([Table; 3], Vec<Vec<u16>>) {
+    let tables = match rng.below(200) {
+        // 11: silent lines that run beside each other.
+        0 => {
+            let n = rng.range(28, 40);
+            [silent(n, 1, 0), silent(n, 0, 0), silent(rng.range(1, 3), 0, 2)]
+        }
+        // 12: as many arcs as there are ways to match.
+        1..=2 => [0; 3].map(|_| {
+            let k = rng.range(12, 17);
+            loops(rng, k)
+        }),
+        // Up to 216 triples.
+        3..=20 => [0; 3].map(|_| {
+            let each = rng.range(1, 6);
+            bundle(rng, 2, each)
+        }),
+        x => {
+            let labels = rng.range(1, 2);
+            let cycles = rng.chance(1, 3);
+            let heaviest = if x < 28 { 600_000 } else { 9 };
+            [0; 3].map(|_| {
+                let states = rng.range(2, 4);
+                let shape = Shape {
+                    states,
+                    arcs: rng.range(states, 2 * states + 3),
+                    labels,
+                    empty: [rng.pick(&[10, 30, 60]), rng.pick(&[10, 30, 60])],
+                    cycles: cycles && rng.chance(1, 2),
+                    heaviest,
+                };
+                draw(rng, &shape)
+            })
+        }
+    };
+    let strings = vec![along(rng, &tables[0]), (0..rng.below(4)).map(|_| rng.range(1, 2) as u16).collect()];
+    (tables, strings)
+}
+
+/// What a random path reads.
+fn along(rng: &mut Rng, t: &Table) -> Vec<u16> {
+    let (leaving, mut state, mut read) = (t.leaving(), t.start, Vec::new());
+    while !leaving[state].is_empty() && !rng.chance(1, 7) {
+        let a = &t.arcs[rng.pick(&leaving[state])];
+        read.extend(Some(a.input).filter(|&x| x != 0));
+        state = a.target;
+    }
+    read.truncate(64);
+    read
+}
