@@ -53,7 +53,8 @@ same-answer : (m n : Counted) → m .refusal ≡ n .refusal → m .count ≡ n .
 same-answer m n r c = λ i. record { refusal = r i; count = c i }
 
 same-counts : (K : Kind) {bs bs' : List ℕ} (m : Counting bs) (n : Counting bs') → Counts K (m .answer) → Counts K (n .answer) → m .answer ≡ n .answer
-same-counts K m n here there = by-test (eqb (m .answer .refusal) 14) (λ e. endless (eqb-true (m .answer .refusal) 14 e)) (λ e. finite (eqb-false (m .answer .refusal) 14 e))
+same-counts K m n here there =
+    by-test (eqb (m .answer .refusal) 14) (λ e. endless (eqb-true (m .answer .refusal) 14 e)) (λ e. finite (eqb-false (m .answer .refusal) 14 e))
   where
     endless : m .answer .refusal ≡ 14 → m .answer ≡ n .answer
     endless e =
@@ -83,7 +84,8 @@ one-least P cost c d x y =
 
 same-costs : (K : Kind) {bs bs' : List ℕ} (m : Shortest-path bs) (n : Shortest-path bs') → Tells-least K (m .answer) → Tells-least K (n .answer)
     → (m .answer .refusal ≡ n .answer .refusal) × (m .answer .cost ≡ n .answer .cost)
-same-costs K m n here there = by-test (eqb (m .answer .refusal) 16) (λ e. none (eqb-true (m .answer .refusal) 16 e)) (λ e. some (eqb-false (m .answer .refusal) 16 e))
+same-costs K m n here there =
+    by-test (eqb (m .answer .refusal) 16) (λ e. none (eqb-true (m .answer .refusal) 16 e)) (λ e. some (eqb-false (m .answer .refusal) 16 e))
   where
     none : m .answer .refusal ≡ 16 → (m .answer .refusal ≡ n .answer .refusal) × (m .answer .cost ≡ n .answer .cost)
     none e =

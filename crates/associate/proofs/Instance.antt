@@ -18,7 +18,8 @@ use Rattle.transducer.specs.Encode.{weight-bytes, head-record, final-record, ar
 use Rattle.transducer.specs.Path.{is-final, final-weight, arc, ends}
 use Rattle.transducer.specs.Each.{by-number, each-arc, fits, passed}
 use Rattle.transducer.specs.Entry.{or-else, unless}
-use Rattle.explore.specs.Explore.{there, place, met, served, numbered, targets, arcs-here, arcs-from, finals-from, steps-from, built, built-refusal, left-behind}
+use Rattle.explore.specs.Explore.{there, place, met, served, numbered, targets, arcs-here, arcs-from, finals-from, steps-from}
+use Rattle.explore.specs.Explore.{built, built-refusal, left-behind}
 use Rattle.steps.specs.Steps.{same-state, left-alone, right-alone, both-step, left-steps, right-steps, steps, first-state}
 use Rattle.compose.specs.Compose.{final-state, state-weight, composed}
 use Rattle.compose.specs.Entry.{origin-pairs, compose-room, compose-refusal}

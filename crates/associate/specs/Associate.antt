@@ -120,6 +120,7 @@ Triples a b c =
       cost = triple-cost a b c;
     }
 
+-- Those of a string.
 abbrev pub Triples-of : (a b c : Transducer) → (string : List ℕ) → Kind
 Triples-of a b c string = those (Triples a b c) (Triple-of a b c string)
 
@@ -135,10 +136,11 @@ to-triple-right inner outer p =
 
 -- What is claimed of two transducers, for things of any kind
 
--- A shortest path is refused by 16 exactly where there is nothing of the kind; otherwise its cost is the least.
+-- There is nothing of the kind.
 abbrev pub Nothing : Kind → Type 0
 Nothing K = (x : K .Thing) → K .Is x → ⊥
 
+-- A shortest path is refused by 16 exactly where there is nothing of the kind; otherwise its cost is the least.
 pub record Tells-least (K : Kind) (r : Told) : Type 0 where
   pub none : (r .refusal ≡ 16) ↔ Nothing K
   pub some : (Nothing K → ⊥) → (r .refusal ≡ 0) × Least (K .Thing) (K .Is) (K .cost) (r .cost)
@@ -149,7 +151,7 @@ pub record Holds (K : Kind) (bytes : List ℕ) (to : List ℕ → K .Thing) : Ty
   pub counts : (n : Counting bytes) → Counts K (n .answer)
   pub least : (n : Shortest-path bytes) → Tells-least K (n .answer)
 
--- Two paths alike: both accept, lead to the same thing, and have the same input, output and cost.
+-- A path q on one side is like the path p on the other: it accepts, leads to the same thing, and has the same input, output and cost.
 pub record Alike (K : Kind) (z z' : Transducer) (to to' : List ℕ → K .Thing) (p q : List ℕ) : Type 0 where
   pub accepting : accepts z' q ≡ true
   pub same-thing : to' q ≡ to p
@@ -167,12 +169,14 @@ pub record Stand-one-to-one (K : Kind) (z z' : Transducer) (to to' : List ℕ �
   pub over : (p : List ℕ) → accepts z p ≡ true → Exactly-one (Alike K z z' to to' p)
   pub back : (q : List ℕ) → accepts z' q ≡ true → Exactly-one (Alike K z' z to' to q)
 
--- Two runs of bytes hold the same kind: the counts are equal, 14 on both sides or on neither, and so are the least costs, 16 on both sides or on neither.
+-- Two runs of bytes agree on a kind.
 pub record Agree (K : Kind) (left right : List ℕ) (to to' : List ℕ → K .Thing) : Type 0 where
   pub left-holds : Holds K left to
   pub right-holds : Holds K right to'
   pub one-to-one : Stand-one-to-one K (decode left) (decode right) to to'
+  -- The same count, 14 on both sides or on neither.
   pub same-count : (m : Counting left) (n : Counting right) → m .answer ≡ n .answer
+  -- The same least cost, 16 on both sides or on neither.
   pub same-least : (m : Shortest-path left) (n : Shortest-path right)
       → (m .answer .refusal ≡ n .answer .refusal) × (m .answer .cost ≡ n .answer .cost)
 
