@@ -11,7 +11,7 @@
 // compared that have few arcs, and count and cost mostly with each other.
 //
 //   --seed N     seed of the cases; the default is printed
-//   --cases N    how many cases (4,000)
+//   --cases N    how many cases (3,000)
 //   --case K     case K of the seed alone, with its tables
 //
 // Exit code 0 when all agree, 1 when not, 2 for a wrong option.
@@ -34,7 +34,7 @@ use rng::Rng;
 use std::time::Instant;
 
 const SEED: u64 = 20_240_314;
-const CASES: usize = 4_000;
+const CASES: usize = 3_000;
 
 /// What a call wrote: the bytes at the length told, the origins as left.
 struct Written {

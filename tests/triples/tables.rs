@@ -25,15 +25,15 @@ fn label(rng: &mut Rng, labels: usize, empty: usize) -> u16 {
 fn draw(rng: &mut Rng, shape: &Shape) -> Table {
     let n = shape.states;
     let mut arcs: Vec<Arc> = Vec::new();
-    for _ in 0..shape.arcs {
-        // Without cycles arcs lead to higher states; mostly on by one.
-        let source = if shape.cycles || n == 1 { rng.below(n) } else { rng.below(n - 1) };
-        let target = match (shape.cycles, rng.chance(2, 3)) {
-            (true, false) => rng.below(n),
-            (true, true) => (source + 1) % n,
-            (false, _) if n == 1 => break,
-            (false, true) => source + 1,
-            (false, false) => rng.range(source + 1, n - 1),
+    for i in 0..shape.arcs {
+        // A line through all states first; then anywhere, or to higher states where there are to be no cycles.
+        let (source, target) = match shape.cycles {
+            _ if i + 1 < n => (i, i + 1),
+            true => (rng.below(n), rng.below(n)),
+            false => {
+                let source = rng.below(n - 1);
+                (source, rng.range(source + 1, n - 1))
+            }
         };
         let input = label(rng, shape.labels, shape.empty[0]);
         let output = label(rng, shape.labels, shape.empty[1]);
