@@ -93,7 +93,7 @@ module _ (K : Kind) (w : Transducer) (within : Within w) (to : List ℕ → K .T
       on false e out = absurd (out (map to (paths w)) (all-listed e))
 
   -- Any list that has each of them once is as long as that of the paths.
-  pub number-of-paths : endless w ≡ false → (l : List (K .Thing)) → Each-once K l → length l ≡ length (paths w)
+  number-of-paths : endless w ≡ false → (l : List (K .Thing)) → Each-once K l → length l ≡ length (paths w)
   number-of-paths e l each = omega (arith, each-once-long K l (map to (paths w)) each (listed-once e), length-map (paths w) to)
 
 -- The count's answer
