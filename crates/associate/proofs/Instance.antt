@@ -1,5 +1,5 @@
--- The claim is not empty: three transducers of one arc each, 1:2, 2:3 and 3:4, compose in either bracket, and the string 1 is applied to both results,
--- in any buffers that are long enough. Assumes nothing.
+-- The claim is not empty: three transducers of one arc each, 1:2, 2:3 and 3:4, compose in either bracket, the string 1 is applied to both results, and any
+-- bytes may be handed to the count and to the shortest path, in any buffers that are long enough. Assumes nothing.
 use mathlib.Core.Path.{_≡_, refl, sym, ap, subst, _∙_}
 use mathlib.Core.Bool.{true}
 use mathlib.Core.List.{List, [], _∷_}
@@ -10,14 +10,15 @@ use lib.Dec.{ltb}
 use lib.ListN.{length}
 use Rattle.wire.specs.Bytes.{Bytes, two, four, low, places, every}
 use Rattle.wire.proofs.Bool.{and-true}
+use Rattle.transducer.specs.Format.{max-states, max-arcs, max-bytes, max-origins, max-path}
 use Rattle.transducer.specs.Format.{framed-from, framed, records-from, records, kind-good, in-order, kinds-good}
 use Rattle.transducer.specs.Format.{weight-at, weight-good, labels-good, finals-in, arcs-in}
 use Rattle.transducer.specs.Format.{head-states, head-arcs, head-finals, head-start, decode, head-good, states-good, finals-rise, sources-stay, order-good}
 use Rattle.transducer.specs.Format.{all-labels-good, weights-good, first-of, content-refusal, refusal}
 use Rattle.transducer.specs.Encode.{weight-bytes, head-record, final-record, arc-record, final-records, arc-records, encode}
-use Rattle.transducer.specs.Path.{is-final, final-weight, arc, ends}
+use Rattle.transducer.specs.Path.{is-final, final-weight, arc, ends, written-by, path-cost}
 use Rattle.transducer.specs.Each.{by-number, each-arc, fits, passed}
-use Rattle.transducer.specs.Entry.{or-else, unless}
+use Rattle.transducer.specs.Entry.{or-else, unless, left-in}
 use Rattle.explore.specs.Explore.{there, place, met, served, numbered, targets, arcs-here, arcs-from, finals-from, steps-from}
 use Rattle.explore.specs.Explore.{built, built-refusal, left-behind}
 use Rattle.steps.specs.Steps.{same-state, left-alone, right-alone, both-step, left-steps, right-steps, steps, first-state}
@@ -27,8 +28,12 @@ use Rattle.lattice.specs.Apply.{string-good, step, arc-steps, applied}
 use Rattle.lattice.specs.Apply.{same-state as same-position, steps as applied-steps, final-state as final-position}
 use Rattle.lattice.specs.Lattice.{lattice, lattice-origins}
 use Rattle.lattice.specs.ApplyEntry.{apply-room, apply-refusal}
+use Rattle.paths.specs.Count.{path-count}
+use Rattle.paths.specs.Entry.{count-refusal}
+use Rattle.shortest.specs.Shortest.{shortest}
+use Rattle.shortest.specs.Entry.{shortest-refusal}
 use Rattle.claim.proofs.Answers.{composed-well}
-use Rattle.associate.specs.Associate.{Composition, composed-bytes, Brackets, Application, left-result, right-result}
+use Rattle.associate.specs.Associate.{Composition, composed-bytes, Brackets, Application, Counting, Shortest-path, left-result, right-result}
 
 -- One arc from state 0 to state 1, which is final.
 unfoldable pub one-arc : (input output weight : ℕ) → List ℕ
@@ -48,15 +53,15 @@ c = one-arc 3 4 7
 
 -- What the definitions give, computed: each composition is not refused and has one arc, and the string is not refused.
 record Computed : Type 0 where
-  ab-fine : compose-refusal a b 59404 6144 1024 ≡ 0
-  bc-fine : compose-refusal b c 59404 6144 1024 ≡ 0
-  ab-c-fine : compose-refusal (one-arc 1 3 11) c 59404 6144 1024 ≡ 0
-  a-bc-fine : compose-refusal a (one-arc 2 4 13) 59404 6144 1024 ≡ 0
+  ab-fine : compose-refusal a b max-bytes max-origins max-states ≡ 0
+  bc-fine : compose-refusal b c max-bytes max-origins max-states ≡ 0
+  ab-c-fine : compose-refusal (one-arc 1 3 11) c max-bytes max-origins max-states ≡ 0
+  a-bc-fine : compose-refusal a (one-arc 2 4 13) max-bytes max-origins max-states ≡ 0
   ab-is : encode (composed (decode a) (decode b) .result) ≡ one-arc 1 3 11
   bc-is : encode (composed (decode b) (decode c) .result) ≡ one-arc 2 4 13
   ab-c-is : encode (composed (decode (one-arc 1 3 11)) (decode c) .result) ≡ one-arc 1 4 18
   a-bc-is : encode (composed (decode a) (decode (one-arc 2 4 13)) .result) ≡ one-arc 1 4 18
-  applied-fine : apply-refusal (1 ∷ []) (one-arc 1 4 18) 59404 3072 1024 ≡ 0
+  applied-fine : apply-refusal (1 ∷ []) (one-arc 1 4 18) max-bytes max-arcs max-states ≡ 0
 
 computed : Computed
 unfolding one-arc two four low places every framed-from framed records-from records kind-good in-order kinds-good weight-at weight-good labels-good
@@ -93,8 +98,8 @@ handed-on : {xs ys : List ℕ} (x : Composition xs ys) → composed-bytes x ≡ 
 handed-on {xs} {ys} x =
     composed-well xs ys (x .answer) (x .table) (x .table-left) (x .origins) (x .origins-left) (x .states) (x .states-left) (x .says) (x .well) .bytes
 
-module _ (t o s : List ℕ) (long-t : 59404 ≤ length t) (long-o : 6144 ≤ length o) (long-s : 1024 ≤ length s) where
-  composing : (xs ys : List ℕ) → compose-refusal xs ys 59404 6144 1024 ≡ 0 → Composition xs ys
+module _ (t o s : List ℕ) (long-t : max-bytes ≤ length t) (long-o : max-origins ≤ length o) (long-s : max-states ≤ length s) where
+  composing : (xs ys : List ℕ) → compose-refusal xs ys max-bytes max-origins max-states ≡ 0 → Composition xs ys
   unfolding compose-refusal compose-room unless
   composing xs ys none =
       record {
@@ -106,7 +111,7 @@ module _ (t o s : List ℕ) (long-t : 59404 ≤ length t) (long-o : 6144 ≤ len
         states = s;
         states-left = left-behind 0 s [];
         says =
-            rw (le-ltb (length t) 59404 long-t, le-ltb (length o) 6144 long-o, le-ltb (length s) 1024 long-s, none)
+            rw (le-ltb (length t) max-bytes long-t, le-ltb (length o) max-origins long-o, le-ltb (length s) max-states long-s, none)
             (record { refusal-is = refl; len-is = refl; table = refl; origins = refl; states = refl });
         well = refl;
       }
@@ -135,7 +140,7 @@ module _ (t o s : List ℕ) (long-t : 59404 ≤ length t) (long-o : 6144 ≤ len
       handed-on (some-brackets .a-bc)
       ∙ ap (λ (xs : List ℕ). encode (composed (decode a) (decode xs) .result)) (handed-on (some-brackets .bc) ∙ computed .bc-is) ∙ computed .a-bc-is
 
-  module _ (l : List ℕ) (long-l : 3072 ≤ length l) where
+  module _ (l : List ℕ) (long-l : max-arcs ≤ length l) where
     applying : Application (1 ∷ []) (one-arc 1 4 18)
     unfolding apply-refusal apply-room unless
     applying =
@@ -148,10 +153,38 @@ module _ (t o s : List ℕ) (long-t : 59404 ≤ length t) (long-o : 6144 ≤ len
           pairs = s;
           pairs-left = left-behind 0 s [];
           says =
-              rw (le-ltb (length t) 59404 long-t, le-ltb (length l) 3072 long-l, le-ltb (length s) 1024 long-s, computed .applied-fine)
+              rw (le-ltb (length t) max-bytes long-t, le-ltb (length l) max-arcs long-l, le-ltb (length s) max-states long-s, computed .applied-fine)
               (record { refusal-is = refl; len-is = refl; table = refl; origins = refl; pairs = refl });
           well = refl;
         }
 
     pub some-applications : Application (1 ∷ []) (left-result some-brackets) × Application (1 ∷ []) (right-result some-brackets)
     some-applications = (subst (Application (1 ∷ [])) (sym left-is) applying, subst (Application (1 ∷ [])) (sym right-is) applying)
+
+pub some-counting : (bs : List ℕ) → Counting bs
+some-counting bs =
+    record {
+      answer = record { refusal = count-refusal bs; count = unless (count-refusal bs) (path-count (decode bs)) };
+      says = record { refusal-is = refl; count-is = refl };
+    }
+
+pub some-shortest : (bs a l : List ℕ) → max-path ≤ length a → max-path ≤ length l → Shortest-path bs
+some-shortest bs a l long-a long-l =
+    let number : ℕ = shortest-refusal bs (length a) (length l) in
+    let p : List ℕ = shortest (decode bs) in
+    record {
+      answer =
+          record {
+            refusal = number;
+            cost = unless number (path-cost (decode bs) p);
+            arcs = unless number (length p);
+            labels = unless number (length (written-by (decode bs) p));
+          };
+      arcs = a;
+      arcs-left = left-in number a p;
+      labels = l;
+      labels-left = left-in number l (written-by (decode bs) p);
+      says = record { refusal-is = refl; cost-is = refl; arcs-is = refl; labels-is = refl; arcs = refl; labels = refl };
+      arcs-room = long-a;
+      labels-room = long-l;
+    }

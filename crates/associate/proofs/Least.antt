@@ -10,7 +10,7 @@ use lib.Dec.{ltb}
 use lib.ListN.{length}
 use borrow.Author.Tests.{le-ltb}
 use Rattle.wire.proofs.Bool.{by-test, clash, is-false}
-use Rattle.transducer.specs.Format.{Transducer, refusal, decode}
+use Rattle.transducer.specs.Format.{max-path, Transducer, refusal, decode}
 use Rattle.transducer.specs.Path.{accepts, path-cost}
 use Rattle.transducer.proofs.Answers.{none-or-else, unless-none}
 use Rattle.transducer.proofs.Runs.{Within, accepting-accepts}
@@ -45,8 +45,8 @@ module _ (K : Kind) (bs : List ℕ) (to : List ℕ → K .Thing) (ok : refusal b
   unfolding shortest-refusal
   number-is =
       none-or-else (refusal bs)
-      (cond (ltb (length (call .arcs)) 1023 || ltb (length (call .labels)) 1023) 10 (cond some-accepts 0 16)) ok
-      ∙ (rw (le-ltb (length (call .arcs)) 1023 (call .arcs-room), le-ltb (length (call .labels)) 1023 (call .labels-room)))
+      (cond (ltb (length (call .arcs)) max-path || ltb (length (call .labels)) max-path) 10 (cond some-accepts 0 16)) ok
+      ∙ (rw (le-ltb (length (call .arcs)) max-path (call .arcs-room), le-ltb (length (call .labels)) max-path (call .labels-room)))
 
   refused-is : call .answer .refusal ≡ cond some-accepts 0 16
   refused-is = call .says .refusal-is ∙ number-is
