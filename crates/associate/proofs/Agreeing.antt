@@ -10,7 +10,9 @@ use borrow.Author.Tests.{eqb-true, eqb-false}
 use Rattle.wire.proofs.Bool.{by-test}
 use Rattle.transducer.specs.Format.{Transducer, Good, refusal, decode}
 use Rattle.transducer.specs.Path.{accepts, path-cost}
-use Rattle.transducer.proofs.Answers.{unless-some}
+use Rattle.transducer.specs.Weight.{Weight, no-weight}
+use Rattle.transducer.proofs.Weights.{most-both}
+use Rattle.transducer.proofs.Answers.{unless-some, cost-unless-some}
 use Rattle.transducer.proofs.Runs.{good-within}
 use Rattle.compose.specs.Claim.{Least}
 use Rattle.paths.specs.declared.Counted.{Counted}
@@ -20,7 +22,7 @@ use Rattle.shortest.specs.Shortest.{shortest}
 use Rattle.shortest.specs.Entry.{shortest-refusal}
 use Rattle.claim.specs.Kind.{Kind, Stands-for, Paths-are, Counts}
 use Rattle.claim.proofs.Counting.{counts}
-use Rattle.associate.specs.Associate.{Counting, Shortest-path, Nothing, Tells-least, Holds, Alike, Exactly-one, Agree}
+use Rattle.associate.specs.Associate.{Counting, Shortest-path, Nothing, No-least, Tells-least, Holds, Alike, Exactly-one, Agree}
 use Rattle.associate.proofs.Least.{tells-least}
 
 -- Paths, one to one.
@@ -70,33 +72,42 @@ same-counts K m n here there =
 
 -- The least cost
 
-refused-cost : {bs : List ℕ} (m : Shortest-path bs) → (m .answer .refusal ≡ 0 → ⊥) → m .answer .cost ≡ 0
+refused-cost : {bs : List ℕ} (m : Shortest-path bs) → (m .answer .refusal ≡ 0 → ⊥) → m .answer .cost ≡ no-weight
 refused-cost {bs} m bad =
     m .says .cost-is
-    ∙ unless-some (shortest-refusal bs (length (m .arcs)) (length (m .labels))) (path-cost (decode bs) (shortest (decode bs)))
+    ∙ cost-unless-some (shortest-refusal bs (length (m .arcs)) (length (m .labels))) (path-cost (decode bs) (shortest (decode bs)))
     (λ e. bad (m .says .refusal-is ∙ e))
 
-one-least : {X : Type 0} (P : X → Type 0) (cost : X → ℕ) (c d : ℕ) → Least X P cost c → Least X P cost d → c ≡ d
+one-least : {X : Type 0} (P : X → Type 0) (cost : X → Weight) (c d : Weight) → Least X P cost c → Least X P cost d → c ≡ d
 one-least P cost c d x y =
-    let up : c ≤ d = omega (arith, x .least (y .best) (y .holds), y .costs) in
-    let down : d ≤ c = omega (arith, y .least (x .best) (x .holds), x .costs) in
-    omega arith
+    most-both c d (rw (y .costs) at (x .least (y .best) (y .holds))) (rw (x .costs) at (y .least (x .best) (x .holds)))
 
 same-costs : (K : Kind) {bs bs' : List ℕ} (m : Shortest-path bs) (n : Shortest-path bs') → Tells-least K (m .answer) → Tells-least K (n .answer)
     → (m .answer .refusal ≡ n .answer .refusal) × (m .answer .cost ≡ n .answer .cost)
 same-costs K m n here there =
-    by-test (eqb (m .answer .refusal) 16) (λ e. none (eqb-true (m .answer .refusal) 16 e)) (λ e. some (eqb-false (m .answer .refusal) 16 e))
+    by-test (eqb (m .answer .refusal) 16) (λ e. none (eqb-true (m .answer .refusal) 16 e))
+    (λ e.
+    by-test (eqb (m .answer .refusal) 19) (λ f. endless (eqb-true (m .answer .refusal) 19 f))
+    (λ f. some (eqb-false (m .answer .refusal) 16 e) (eqb-false (m .answer .refusal) 19 f)))
   where
-    none : m .answer .refusal ≡ 16 → (m .answer .refusal ≡ n .answer .refusal) × (m .answer .cost ≡ n .answer .cost)
-    none e =
-        let f : n .answer .refusal ≡ 16 = there .none .1 (here .none .0 e) in
-        (e ∙ sym f, refused-cost m (λ z. omega arith) ∙ sym (refused-cost n (λ z. omega arith)))
+    -- Refused by the same number on both sides.
+    refused : (k : ℕ) → (k ≡ 0 → ⊥) → m .answer .refusal ≡ k → n .answer .refusal ≡ k
+        → (m .answer .refusal ≡ n .answer .refusal) × (m .answer .cost ≡ n .answer .cost)
+    refused k bad e f = (e ∙ sym f, refused-cost m (λ z. bad (sym e ∙ z)) ∙ sym (refused-cost n (λ z. bad (sym f ∙ z))))
 
-    some : (m .answer .refusal ≡ 16 → ⊥) → (m .answer .refusal ≡ n .answer .refusal) × (m .answer .cost ≡ n .answer .cost)
-    some bad =
+    none : m .answer .refusal ≡ 16 → (m .answer .refusal ≡ n .answer .refusal) × (m .answer .cost ≡ n .answer .cost)
+    none e = refused 16 (λ z. omega arith) e (there .none .1 (here .none .0 e))
+
+    endless : m .answer .refusal ≡ 19 → (m .answer .refusal ≡ n .answer .refusal) × (m .answer .cost ≡ n .answer .cost)
+    endless e = refused 19 (λ z. omega arith) e (there .endless .1 (here .endless .0 e))
+
+    some : (m .answer .refusal ≡ 16 → ⊥) → (m .answer .refusal ≡ 19 → ⊥)
+        → (m .answer .refusal ≡ n .answer .refusal) × (m .answer .cost ≡ n .answer .cost)
+    some bad worse =
         let thing : Nothing K → ⊥ = λ h. bad (here .none .1 h) in
-        let x = here .some thing in
-        let y = there .some thing in
+        let bound : No-least K → ⊥ = λ h. worse (here .endless .1 h) in
+        let x = here .some thing bound in
+        let y = there .some thing bound in
         (x .0 ∙ sym (y .0), one-least (K .Is) (K .cost) (m .answer .cost) (n .answer .cost) (x .1) (y .1))
 
 -- Together

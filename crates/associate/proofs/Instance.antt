@@ -8,7 +8,7 @@ use native.Mathlib.Omega.{arith}
 use borrow.Author.Tests.{le-ltb, ltb-true}
 use lib.Dec.{ltb}
 use lib.ListN.{length}
-use Rattle.wire.specs.Bytes.{Bytes, two, four, low, places, every}
+use Rattle.wire.specs.Bytes.{Bytes, two, four, low, signed-four, signed-low, places, every}
 use Rattle.wire.proofs.Bool.{and-true}
 use Rattle.transducer.specs.Format.{max-states, max-arcs, max-bytes, max-origins, max-path}
 use Rattle.transducer.specs.Format.{framed-from, framed, records-from, records, kind-good, in-order, kinds-good}
@@ -18,7 +18,7 @@ use Rattle.transducer.specs.Format.{all-labels-good, weights-good, first-of, co
 use Rattle.transducer.specs.Encode.{weight-bytes, head-record, final-record, arc-record, final-records, arc-records, encode}
 use Rattle.transducer.specs.Path.{is-final, final-weight, arc, ends, written-by, path-cost}
 use Rattle.transducer.specs.Each.{by-number, each-arc, fits, passed}
-use Rattle.transducer.specs.Entry.{or-else, unless, left-in}
+use Rattle.transducer.specs.Entry.{or-else, unless, cost-unless, left-in}
 use Rattle.explore.specs.Explore.{there, place, met, served, numbered, targets, arcs-here, arcs-from, finals-from, steps-from}
 use Rattle.explore.specs.Explore.{built, built-refusal, left-behind}
 use Rattle.steps.specs.Steps.{same-state, left-alone, right-alone, both-step, left-steps, right-steps, steps, first-state}
@@ -64,7 +64,8 @@ record Computed : Type 0 where
   applied-fine : apply-refusal (1 ∷ []) (one-arc 1 4 18) max-bytes max-arcs max-states ≡ 0
 
 computed : Computed
-unfolding one-arc two four low places every framed-from framed records-from records kind-good in-order kinds-good weight-at weight-good labels-good
+unfolding one-arc two four low signed-four signed-low places every framed-from framed records-from records kind-good in-order kinds-good weight-at
+    weight-good labels-good
     finals-in arcs-in head-states head-arcs head-finals head-start decode head-good states-good finals-rise sources-stay order-good all-labels-good
     weights-good first-of content-refusal refusal weight-bytes head-record final-record arc-record final-records arc-records encode is-final
     final-weight arc ends by-number each-arc fits passed or-else there place met served numbered targets arcs-here arcs-from finals-from steps-from
@@ -176,7 +177,7 @@ some-shortest bs a l long-a long-l =
       answer =
           record {
             refusal = number;
-            cost = unless number (path-cost (decode bs) p);
+            cost = cost-unless number (path-cost (decode bs) p);
             arcs = unless number (length p);
             labels = unless number (length (written-by (decode bs) p));
           };

@@ -1,95 +1,86 @@
--- Where accepting paths and the things of a kind stand one to one, the shortest path is refused by 16 exactly where there is nothing of the kind, and
--- else costs the least. Assumes nothing.
-use mathlib.Core.Path.{_≡_, refl, sym, ap, _∙_}
-use mathlib.Core.Bool.{Bool, true, false, _||_, cond}
+-- Where accepting paths and the things of a kind stand one to one, what the shortest path says of the paths it says of the things: refused by 16 exactly
+-- where there is nothing of the kind, by 19 exactly where there is no least cost, and else the least. Assumes nothing.
+use mathlib.Core.Path.{_≡_, sym, _∙_}
+use mathlib.Core.Bool.{true}
 use mathlib.Core.Logic.{_↔_}
 use mathlib.Core.List.{List}
-use Prim.Native.Nat.{ℕ, suc, _≤_}
-use native.Mathlib.Omega.{arith}
-use lib.Dec.{ltb}
-use lib.ListN.{length}
-use borrow.Author.Tests.{le-ltb}
-use Rattle.wire.proofs.Bool.{by-test, clash, is-false}
-use Rattle.transducer.specs.Format.{max-path, Transducer, refusal, decode}
+use Prim.Native.Nat.{ℕ}
+use Rattle.wire.proofs.Bool.{clash, is-false}
+use Rattle.transducer.specs.Format.{Transducer, refusal, decode}
 use Rattle.transducer.specs.Path.{accepts, path-cost}
-use Rattle.transducer.proofs.Answers.{none-or-else, unless-none}
-use Rattle.transducer.proofs.Runs.{Within, accepting-accepts}
-use Rattle.reach.specs.Reach.{coaccessible}
-use Rattle.reach.proofs.Reach.{coaccessible-path}
+use Rattle.transducer.specs.Weight.{Weight, At-most, Below}
+use Rattle.transducer.proofs.Runs.{Within}
 use Rattle.compose.specs.Claim.{Least}
-use Rattle.shortest.specs.Shortest.{shortest}
-use Rattle.shortest.specs.Entry.{shortest-refusal}
-use Rattle.shortest.proofs.Best.{Not-better, better-false}
-use Rattle.shortest.proofs.Cheapest.{shortest-accepts, nothing-better, nothing-accepts}
+use Rattle.shortest.specs.Claim.{No-least-cost, Best-of-all, Tells-path, Shortest-claim}
+use Rattle.shortest.proofs.Claimed.{shortest-claimed}
 use Rattle.claim.specs.Kind.{Kind, Stands-for, Paths-are}
-use Rattle.associate.specs.Associate.{Shortest-path, Nothing, Tells-least}
-
--- The last test of a chain of refusals, where it is failed.
-failed-last : (b : Bool) (k : ℕ) → cond b 0 (suc k) ≡ suc k → b ≡ false
-failed-last true k h = absurd (omega arith)
-failed-last false k h = refl
+use Rattle.associate.specs.Associate.{Shortest-path, Nothing, No-least, Tells-least}
 
 module _ (K : Kind) (bs : List ℕ) (to : List ℕ → K .Thing) (ok : refusal bs ≡ 0) (within : Within (decode bs)) (are : Paths-are K (decode bs) to)
     (call : Shortest-path bs) where
   abbrev w : Transducer
   w = decode bs
 
-  -- Whether anything accepts.
-  abbrev some-accepts : Bool
-  some-accepts = coaccessible (w .states) w (w .start)
+  claim : Shortest-claim w (call .answer) (call .arcs-left) (call .labels-left)
+  claim =
+      shortest-claimed bs (call .answer) (call .arcs) (call .arcs-left) (call .labels) (call .labels-left) ok within (call .arcs-room) (call .labels-room)
+      (call .says)
 
-  abbrev number : ℕ
-  number = shortest-refusal bs (length (call .arcs)) (length (call .labels))
+  -- A path for each thing, and a thing for each path, at the same cost.
+  record Path-of (x : K .Thing) : Type 0 where
+    path : List ℕ
+    accepting : accepts w path ≡ true
+    costs : path-cost w path ≡ K .cost x
 
-  number-is : number ≡ cond some-accepts 0 16
-  unfolding shortest-refusal
-  number-is =
-      none-or-else (refusal bs)
-      (cond (ltb (length (call .arcs)) max-path || ltb (length (call .labels)) max-path) 10 (cond some-accepts 0 16)) ok
-      ∙ (rw (le-ltb (length (call .arcs)) max-path (call .arcs-room), le-ltb (length (call .labels)) max-path (call .labels-room)))
-
-  refused-is : call .answer .refusal ≡ cond some-accepts 0 16
-  refused-is = call .says .refusal-is ∙ number-is
+  path-of : (x : K .Thing) → K .Is x → Path-of x
+  path-of x is =
+      let p = are .every x is in
+      let s : Stands-for K w (p .0) x = rw (p .2) at (are .leads (p .0) (p .1)) in
+      record { path = p .0; accepting = p .1; costs = s .costs }
 
   -- 16
 
-  unaccepted : some-accepts ≡ false → Nothing K
-  unaccepted h x is = let p = are .every x is in clash (p .1) (nothing-accepts w within .0 h (p .0))
-
-  nothing : Nothing K → some-accepts ≡ false
-  nothing none = nothing-accepts w within .1 (λ p. is-false (accepts w p) (λ h. none (to p) (are .leads p h .is)))
-
   none : (call .answer .refusal ≡ 16) ↔ Nothing K
-  none = (λ h. unaccepted (failed-last some-accepts 15 (sym refused-is ∙ h)), λ h. refused-is ∙ ap (λ (b : Bool). cond b 0 16) (nothing h))
+  none = (
+    λ h x is. let p : Path-of x = path-of x is in clash (p .accepting) (claim .none .0 h (p .path)),
+    λ h. claim .none .1 (λ p. is-false (accepts w p) (λ e. h (to p) (are .leads p e .is))),
+  )
+
+  -- 19
+
+  over : No-least-cost w → No-least K
+  over h c =
+      let p = h c in
+      let s : Stands-for K w (p .0) (to (p .0)) = are .leads (p .0) (p .1) in
+      (to (p .0), s .is, rw (s .costs) at (p .2))
+
+  back : No-least K → No-least-cost w
+  back h c =
+      let x = h c in
+      let p : Path-of (x .0) = path-of (x .0) (x .1) in
+      (p .path, p .accepting, rw (p .costs) (x .2))
+
+  endless : (call .answer .refusal ≡ 19) ↔ No-least K
+  endless = (λ h. over (claim .bottomless .0 h), λ h. claim .bottomless .1 (back h))
 
   -- The least cost
 
-  module _ (h : some-accepts ≡ true) where
-    accepted : accepts w (shortest w) ≡ true
-    accepted =
-        let p = coaccessible-path (w .states) w (w .start) h in
-        shortest-accepts w within (p .0) (accepting-accepts w (p .0) (p .1))
+  least : (p : List ℕ) → Best-of-all w p → Tells-path w p (call .answer) (call .arcs-left) (call .labels-left)
+      → Least (K .Thing) (K .Is) (K .cost) (call .answer .cost)
+  least p best tells =
+      let s : Stands-for K w p (to p) = are .leads p (best .accepting) in
+      record { best = to p; holds = s .is; costs = sym (s .costs) ∙ sym (tells .cost); least = no-dearer }
+    where
+      no-dearer : (x : K .Thing) → K .Is x → At-most (call .answer .cost) (K .cost x)
+      no-dearer x is =
+          let q : Path-of x = path-of x is in
+          let low : At-most (path-cost w p) (path-cost w (q .path)) = best .least (q .path) (q .accepting) in
+          rw (tells .cost, ← q .costs) low
 
-    none-refused : number ≡ 0
-    none-refused = number-is ∙ (rw h)
-
-    cost-is : call .answer .cost ≡ path-cost w (shortest w)
-    cost-is = call .says .cost-is ∙ unless-none number (path-cost w (shortest w)) none-refused
-
-    no-dearer : (x : K .Thing) → K .Is x → call .answer .cost ≤ K .cost x
-    no-dearer x is =
-        let p = are .every x is in
-        let s : Stands-for K w (p .0) x = rw (p .2) at (are .leads (p .0) (p .1)) in
-        let n : Not-better w (p .0) (shortest w) = better-false w (p .0) (shortest w) (nothing-better w within (p .0) (p .1)) in
-        omega (arith, cost-is, n .near .cost, s .costs)
-
-    least : Least (K .Thing) (K .Is) (K .cost) (call .answer .cost)
-    least =
-        let s : Stands-for K w (shortest w) (to (shortest w)) = are .leads (shortest w) accepted in
-        record { best = to (shortest w); holds = s .is; costs = sym (s .costs) ∙ sym cost-is; least = no-dearer }
-
-  some : (Nothing K → ⊥) → (call .answer .refusal ≡ 0) × Least (K .Thing) (K .Is) (K .cost) (call .answer .cost)
-  some h = by-test some-accepts (λ e. (refused-is ∙ (rw e), least e)) (λ e. absurd (h (unaccepted e)))
+  some : (Nothing K → ⊥) → (No-least K → ⊥) → (call .answer .refusal ≡ 0) × Least (K .Thing) (K .Is) (K .cost) (call .answer .cost)
+  some h g =
+      let r = claim .told (λ e. h (none .0 e)) (λ e. g (endless .0 e)) in
+      (r .0, least (r .1) (r .2) (r .3))
 
   pub tells-least : Tells-least K (call .answer)
-  tells-least = record { none = none; some = some }
+  tells-least = record { none = none; endless = endless; some = some }

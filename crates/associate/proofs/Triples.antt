@@ -5,7 +5,7 @@ use mathlib.Core.List.{List}
 use Prim.Native.Nat.{ℕ}
 use Rattle.transducer.specs.Format.{Transducer}
 use Rattle.transducer.specs.Path.{accepts, path-cost}
-use Rattle.transducer.specs.Weight.{plus}
+use Rattle.transducer.specs.Weight.{Weight, plus}
 use Rattle.transducer.proofs.Weights.{plus-assoc}
 use Rattle.compose.specs.Claim.{met-at, One-to-one}
 use Rattle.compose.specs.Claim.{Stands-for as Stands-for-pair}
@@ -35,7 +35,7 @@ module _ (a b c u z : Transducer) (inner outer : List ℕ) (one : One-to-one a b
         reads = s .reads ∙ r .reads;
         writes = s .writes;
         costs =
-            s .costs ∙ ap (λ (n : ℕ). plus n (path-cost c (met-at outer 1 p))) (r .costs)
+            s .costs ∙ ap (λ (n : Weight). plus n (path-cost c (met-at outer 1 p))) (r .costs)
             ∙ plus-assoc (path-cost a (met-at inner 0 q)) (path-cost b (met-at inner 1 q)) (path-cost c (met-at outer 1 p));
       }
 

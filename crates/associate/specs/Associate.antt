@@ -11,7 +11,7 @@ use Rattle.wire.specs.Bytes.{Bytes}
 use Rattle.transducer.specs.declared.Written.{Written}
 use Rattle.transducer.specs.Format.{max-path, Transducer, decode}
 use Rattle.transducer.specs.Path.{accepts, read-by, written-by, path-cost}
-use Rattle.transducer.specs.Weight.{plus}
+use Rattle.transducer.specs.Weight.{Weight, plus, Below}
 use Rattle.compose.specs.Claim.{met-at, Least}
 use Rattle.compose.specs.Entry.{compose-refusal, Compose-says}
 use Rattle.trim.specs.Trim.{through}
@@ -106,7 +106,7 @@ pub record Triple-of (a b c : Transducer) (string : List ℕ) (x : Three-paths) 
   pub reads : read-by a (x .left) ≡ string
 
 -- The cost of a triple is the sum of the three, final weights included.
-abbrev pub triple-cost : (a b c : Transducer) → Three-paths → ℕ
+abbrev pub triple-cost : (a b c : Transducer) → Three-paths → Weight
 triple-cost a b c x = plus (path-cost a (x .left)) (plus (path-cost b (x .middle)) (path-cost c (x .right)))
 
 -- The triples as a kind of things that paths stand for: a triple reads what its left path reads and writes what its right path writes.
@@ -140,10 +140,16 @@ to-triple-right inner outer p =
 abbrev pub Nothing : Kind → Type 0
 Nothing K = (x : K .Thing) → K .Is x → ⊥
 
--- A shortest path is refused by 16 exactly where there is nothing of the kind; otherwise its cost is the least.
+-- There is no least cost: below any weight there is something of the kind.
+abbrev pub No-least : Kind → Type 0
+No-least K = (w : Weight) → (x : K .Thing) × K .Is x × Below (K .cost x) w
+
+-- A shortest path is refused by 16 exactly where there is nothing of the kind, and by 19 exactly where there is no least cost; otherwise its cost is
+-- the least.
 pub record Tells-least (K : Kind) (r : Told) : Type 0 where
   pub none : (r .refusal ≡ 16) ↔ Nothing K
-  pub some : (Nothing K → ⊥) → (r .refusal ≡ 0) × Least (K .Thing) (K .Is) (K .cost) (r .cost)
+  pub endless : (r .refusal ≡ 19) ↔ No-least K
+  pub some : (Nothing K → ⊥) → (No-least K → ⊥) → (r .refusal ≡ 0) × Least (K .Thing) (K .Is) (K .cost) (r .cost)
 
 -- The accepting paths in some bytes stand one to one with the things of a kind; so the count is their number and the shortest path costs the least.
 pub record Holds (K : Kind) (bytes : List ℕ) (to : List ℕ → K .Thing) : Type 0 where
@@ -176,7 +182,7 @@ pub record Agree (K : Kind) (left right : List ℕ) (to to' : List ℕ → K .Th
   pub one-to-one : Stand-one-to-one K (decode left) (decode right) to to'
   -- The same count, 14 on both sides or on neither.
   pub same-count : (m : Counting left) (n : Counting right) → m .answer ≡ n .answer
-  -- The same least cost, 16 on both sides or on neither.
+  -- The same least cost, 16 and 19 on both sides or on neither.
   pub same-least : (m : Shortest-path left) (n : Shortest-path right)
       → (m .answer .refusal ≡ n .answer .refusal) × (m .answer .cost ≡ n .answer .cost)
 

@@ -2,6 +2,8 @@
 use mathlib.Core.Bool.{Bool, _&&_, not, cond}
 use Prim.Native.Nat.{ℕ, _+_, _*_, _-_}
 use lib.Dec.{ltb, leb}
+use lib.IntN.{ℤ, pos, negsuc}
+use lib.Signed.{leZ}
 
 -- The limits of paper 01.
 abbrev pub max-states : ℕ
@@ -14,8 +16,12 @@ max-arcs = 3072
 abbrev pub index-long : ℕ
 index-long = max-states + 1
 
-abbrev pub max-weight : ℕ
-max-weight = 1000000
+abbrev pub max-weight : ℤ
+max-weight = pos 1000000
+
+-- -1,000,000: `negsuc n` is -(n + 1).
+abbrev pub min-weight : ℤ
+min-weight = negsuc 999999
 
 -- The longest string, the longest accepting path where there are finitely many, and where counting stops.
 abbrev pub max-symbols : ℕ
@@ -64,8 +70,8 @@ unfoldable pub labels-good : (input output : ℕ) → Bool
 labels-good input output = ltb input barred && ltb output barred
 
 -- 8: whether a weight is in range.
-unfoldable pub weight-good : ℕ → Bool
-weight-good w = leb w max-weight
+unfoldable pub weight-good : ℤ → Bool
+weight-good w = leZ min-weight w && leZ w max-weight
 
 -- The first of four tests that fails, as refusal 5, 6, 7 or 8; 0 where none does.
 unfoldable pub first-of : (states order labels weights : Bool) → ℕ

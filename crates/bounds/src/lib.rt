@@ -10,7 +10,9 @@ pub const MAX_ARCS: usize = 3072;
 // An index by state has one entry more than there are states.
 pub const INDEX_LEN: usize = MAX_STATES + 1;
 
-pub const MAX_WEIGHT: u32 = 1000000;
+pub const MAX_WEIGHT: i32 = 1000000;
+
+pub const MIN_WEIGHT: i32 = -1000000;
 
 // The label that no arc may bear.
 pub const BARRED: u16 = 65535;
@@ -62,10 +64,10 @@ pub fn labels_ok(input: u16, output: u16) -> bool
 }
 
 // 8: whether a weight is in range.
-pub fn weight_ok(weight: u32) -> bool
+pub fn weight_ok(weight: i32) -> bool
     ensures { λ r. ⌜ r ≡ weight-good weight ⌝ }
 {
-    weight <= MAX_WEIGHT
+    (MIN_WEIGHT <= weight) & (weight <= MAX_WEIGHT)
 }
 
 // The lowest of refusals 5 to 8 whose test failed, or 0.

@@ -15,7 +15,7 @@ use Rattle.transducer.specs.declared.Written.{Written}
 use Rattle.transducer.specs.Format.{Transducer, refusal, decode}
 use Rattle.transducer.specs.Encode.{encode}
 use Rattle.transducer.specs.Entry.{or-else, unless, left-in}
-use Rattle.transducer.proofs.Answers.{or-else-none, none-or-else, unless-none, left-in-none}
+use Rattle.transducer.proofs.Answers.{or-else-none, none-or-else, unless-none, left-in-none, cost-unless-none}
 use Rattle.transducer.specs.Path.{written-by, path-cost}
 use Rattle.explore.specs.Explore.{built-refusal}
 use Rattle.explore.proofs.LeftBehind.{behind-written}
@@ -171,5 +171,5 @@ told-well bs k r a a' b b' ok finite below room-a room-b says =
       labels =
           take-told (r .labels) (length b) (written-by w p) b' (says .labels-is ∙ unless-none number (length (written-by w p)) none)
           (says .labels ∙ left-in-none number b (written-by w p) none);
-      cost = says .cost-is ∙ unless-none number (path-cost w p) none;
+      cost = says .cost-is ∙ cost-unless-none number (path-cost w p) none;
     }

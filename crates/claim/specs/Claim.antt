@@ -9,7 +9,7 @@ use Rattle.wire.specs.Bytes.{Bytes}
 use Rattle.transducer.specs.declared.Written.{Written}
 use Rattle.transducer.specs.Format.{max-path, max-count, Transducer, decode}
 use Rattle.transducer.specs.Path.{accepts, read-by, written-by, path-cost}
-use Rattle.transducer.specs.Weight.{plus}
+use Rattle.transducer.specs.Weight.{Weight, plus}
 use Rattle.compose.specs.Claim.{met-at, Two-paths}
 use Rattle.compose.specs.Entry.{compose-refusal, Compose-says}
 use Rattle.lattice.specs.ApplyEntry.{apply-refusal, Apply-says}
@@ -89,7 +89,7 @@ pub record Pair (left right string : List ℕ) (x : Two-paths) : Type 0 where
 abbrev pub pair-output : (right : List ℕ) → Two-paths → List ℕ
 pair-output right x = written-by (decode right) (x .right)
 
-abbrev pub pair-cost : (left right : List ℕ) → Two-paths → ℕ
+abbrev pub pair-cost : (left right : List ℕ) → Two-paths → Weight
 pair-cost left right x = plus (path-cost (decode left) (x .left)) (path-cost (decode right) (x .right))
 
 -- Where a lattice path leads: the origin of each of its arcs is an arc of the composition, and the two origins of that one, at 2 i and 2 i + 1,

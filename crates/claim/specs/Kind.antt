@@ -9,6 +9,7 @@ use Prim.Native.Nat.{ℕ, _<_, min}
 use lib.ListN.{length, getD}
 use Rattle.transducer.specs.Format.{max-count, Transducer}
 use Rattle.transducer.specs.Path.{accepts, read-by, written-by, path-cost}
+use Rattle.transducer.specs.Weight.{Weight}
 use Rattle.paths.specs.declared.Counted.{Counted}
 
 -- A kind: which things are of it, and what each of them reads, writes and costs.
@@ -17,7 +18,7 @@ pub record Kind : Type 1 where
   pub Is : Thing → Type 0
   pub input : Thing → List ℕ
   pub output : Thing → List ℕ
-  pub cost : Thing → ℕ
+  pub cost : Thing → Weight
 
 -- Those things of a kind that have a property; each reads, writes and costs what it did.
 abbrev pub those : (K : Kind) → (K .Thing → Type 0) → Kind

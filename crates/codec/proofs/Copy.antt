@@ -8,14 +8,14 @@ use native.Mathlib.Numerals.{add-one, add-two, add-three}
 use native.Mathlib.Omega.{arith}
 use lib.ListN.{length, getD, drop, set, length-append, length-drop}
 use lib.Seq.{sets, sets-eq, take-at, drop-append-add, drop-drop}
-use Rattle.wire.specs.Bytes.{places, filled, cleared}
-use Rattle.wire.proofs.Places.{length-places, places-snoc, cleared-front}
+use Rattle.wire.specs.Bytes.{places, padded, emptied, filled, cleared}
+use Rattle.wire.proofs.Places.{length-places, places-snoc, emptied-front, cleared-front}
 use Rattle.transducer.specs.declared.Arc.{Arc}
 use Rattle.transducer.specs.Format.{arc-at}
 use Rattle.codec.specs.Entry.{arc-fields}
 
 -- The front of a buffer, and what is stored next behind it.
-pub sets-front : (xs out vs : List ℕ) (k : ℕ) → length xs ≡ k → k + length vs ≤ length out →
+pub sets-front : {A : Type 0} (xs out vs : List A) (k : ℕ) → length xs ≡ k → k + length vs ≤ length out →
     sets (xs ++ drop k out) k vs ≡ (xs ++ vs) ++ drop (k + length vs) out
 sets-front xs out vs k e h =
     let long : k + length vs ≤ length (xs ++ drop k out) = simp (length-append, length-drop) (omega arith) in
@@ -25,7 +25,7 @@ sets-front xs out vs k e h =
     ∙ drop-drop (length vs) k out in
     sets-eq vs (xs ++ drop k out) k long ∙ rw (take-at xs (drop k out) k e, rest, append-assoc)
 
-pub length-front : (xs out : List ℕ) (k : ℕ) → length xs ≡ k → k ≤ length out → length (xs ++ drop k out) ≡ length out
+pub length-front : {A : Type 0} (xs out : List A) (k : ℕ) → length xs ≡ k → k ≤ length out → length (xs ++ drop k out) ≡ length out
 length-front xs out k e h = simp (length-append, length-drop) (omega arith)
 
 -- Places counted from elsewhere.
@@ -41,41 +41,41 @@ pub step-inside : (at step i count : ℕ) → i < count → at + step * i + step
 step-inside at step i count h = omega (arith, mul-le-mul-left step h)
 
 -- The first `i` of `count` numbers stand at the front; what lies behind is as it was.
-pub record Copied (f : ℕ → ℕ) (at step count : ℕ) (out₀ out : List ℕ) (place i : ℕ) : Type 0 where
+pub record Copied {A : Type 0} (f : ℕ → A) (at step count : ℕ) (out₀ out : List A) (place i : ℕ) : Type 0 where
   pub within : i ≤ count
   pub there : place ≡ at + step * i
   pub so-far : out ≡ places i at step f ++ drop i out₀
 
-module _ {f : ℕ → ℕ} {at step count : ℕ} {out₀ : List ℕ} where
+module _ {A : Type 0} {f : ℕ → A} {at step count : ℕ} {out₀ : List A} where
   pub copied-first : Copied f at step count out₀ out₀ at 0
   unfolding places
   copied-first = record { within = omega arith; there = omega (arith, mul-zero step); so-far = refl }
 
-  pub copied-inside : {out : List ℕ} {place i : ℕ} (size room : ℕ) → at + step * count + size ≤ room + step → i < count →
+  pub copied-inside : {out : List A} {place i : ℕ} (size room : ℕ) → at + step * count + size ≤ room + step → i < count →
       Copied f at step count out₀ out place i → place + size ≤ room
   copied-inside {i = i} size room h l c = omega (arith, step-inside at step i count l, c .there)
 
-  pub copied-length : {out : List ℕ} {place i : ℕ} → count ≤ length out₀ → Copied f at step count out₀ out place i → length out ≡ length out₀
+  pub copied-length : {out : List A} {place i : ℕ} → count ≤ length out₀ → Copied f at step count out₀ out place i → length out ≡ length out₀
   copied-length {i = i} h c =
       rw (c .so-far) (length-front (places i at step f) out₀ i (length-places i at step f) (omega (arith, c .within)))
 
-  pub copied-next : {out : List ℕ} {place i : ℕ} (v : ℕ) → count ≤ length out₀ → i < count → v ≡ f place → Copied f at step count out₀ out place i →
+  pub copied-next : {out : List A} {place i : ℕ} (v : A) → count ≤ length out₀ → i < count → v ≡ f place → Copied f at step count out₀ out place i →
       Copied f at step count out₀ (set out i v) (place + step) (i + 1)
   copied-next {out} {i = i} v h l e c =
       let value : v ≡ f (at + step * i) = e ∙ ap f (c .there) in
       let stored : set out i v ≡ (places i at step f ++ (v ∷ [])) ++ drop (i + 1) out₀ =
-      ap (λ (l : List ℕ). set l i v) (c .so-far)
+      ap (λ (l : List A). set l i v) (c .so-far)
       ∙ sets-front (places i at step f) out₀ (v ∷ []) i (length-places i at step f) (omega arith) in
       let more : places (i + 1) at step f ≡ places i at step f ++ (v ∷ []) = rw (add-one, value) (places-snoc i at step f) in
       record { within = omega arith; there = omega (arith, c .there); so-far = rw more stored }
 
-  -- All of them stand, and zeros are put behind them.
-  pub copied-stop : {out : List ℕ} {place i : ℕ} (end : List ℕ) → count ≤ length out₀ → count ≤ i → end ≡ cleared count out →
-      Copied f at step count out₀ out place i → end ≡ filled (length out₀) (places count at step f)
-  copied-stop {out} {i = i} end h l e c =
+  -- All of them stand, and nothing is left behind them.
+  pub copied-stop : {out : List A} {place i : ℕ} (none : A) (end : List A) → count ≤ length out₀ → count ≤ i → end ≡ emptied none count out →
+      Copied f at step count out₀ out place i → end ≡ padded none (length out₀) (places count at step f)
+  copied-stop {out} {i = i} none end h l e c =
       let all : i ≡ count = omega (arith, c .within) in
       let stored : out ≡ places count at step f ++ drop count out₀ = rw all at (c .so-far) in
-      e ∙ rw stored (cleared-front count (places count at step f) out₀ (length-places count at step f) h)
+      e ∙ rw stored (emptied-front none count (places count at step f) out₀ (length-places count at step f) h)
 
 -- arc-fields
 

@@ -4,3 +4,5 @@ pub mod ReadSays
 pub mod WriteSays
 -- Reading and writing undo each other.
 pub mod ReadWrite
+-- Tables from before weights had a sign.
+pub mod Unsigned

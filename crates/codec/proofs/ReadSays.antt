@@ -7,9 +7,10 @@ use native.Mathlib.Omega.{arith}
 use borrow.Author.Tests.{lt-ltb, le-ltb, ne-eqb}
 use lib.Dec.{ltb, eqb}
 use lib.ListN.{length}
-use Rattle.wire.specs.Bytes.{Bytes, two, four, places, filled}
+use Rattle.wire.specs.Bytes.{Bytes, two, places, filled, signed-filled}
 use Rattle.wire.proofs.Places.{map-places}
-use Rattle.transducer.specs.Entry.{or-else, unless, left-in}
+use Rattle.transducer.specs.Entry.{or-else, unless, left-in, weights-left-in}
+use Rattle.transducer.specs.Weight.{Weight}
 use Rattle.transducer.specs.declared.Arc.{Arc}
 use Rattle.transducer.specs.declared.Final.{Final}
 use Rattle.transducer.specs.declared.Header.{Header}
@@ -47,8 +48,9 @@ module _ (a b c d : ℕ) where
 abbrev pub refused-header : ℕ → Header
 refused-header n = record { refusal = n; states = 0; arcs = 0; finals = 0; start = 0 }
 
-says-refused : (bs : List ℕ) (number n : ℕ) (r : Header) (a b c d : List ℕ) → number ≡ n → (n ≡ 0 → ⊥) → r ≡ refused-header n → Read-says bs number r a a b b c c d d
-unfolding unless left-in
+says-refused : (bs : List ℕ) (number n : ℕ) (r : Header) (a : List ℕ) (b : List Weight) (c : List ℕ) (d : List Weight) → number ≡ n → (n ≡ 0 → ⊥)
+    → r ≡ refused-header n → Read-says bs number r a a b b c c d d
+unfolding unless left-in weights-left-in
 says-refused bs number n r a b c d e nonzero h =
     let test : eqb n 0 ≡ false = ne-eqb n 0 nonzero in
     rw (e, h) (record {
@@ -63,7 +65,7 @@ says-refused bs number n r a b c d e nonzero h =
       arc-weights = rw test;
     })
 
-module _ {bs a b c d : List ℕ} {n : ℕ} {r : Header} where
+module _ {bs a : List ℕ} {b : List Weight} {c : List ℕ} {d : List Weight} {n : ℕ} {r : Header} where
   -- 1 to 8
   pub says-bad : n ≡ refusal bs → (n ≡ 0 → ⊥) → r ≡ refused-header n →
       Read-says bs (read-refusal bs (length a) (length b) (length c) (length d)) r a a b b c c d d
@@ -106,26 +108,27 @@ module _ (bs : List ℕ) (bytes : Bytes bs) (ok : refusal bs ≡ 0) where
       rw (decode-finals bs bytes ok, map-places (λ (f : Final). f .state) (head-finals bs) 12 10 (final-at bs))
       (sym (places-shift (head-finals bs) 12 4 10 (two bs)))
 
-  weights-read : map (λ f. f .weight) (decode bs .finals) ≡ places (head-finals bs) 18 10 (four bs)
-  unfolding final-at weight-at
+  weights-read : map (λ f. f .weight) (decode bs .finals) ≡ places (head-finals bs) 18 10 (weight-at bs)
+  unfolding final-at
   weights-read =
       rw (decode-finals bs bytes ok, map-places (λ (f : Final). f .weight) (head-finals bs) 12 10 (final-at bs))
-      (sym (places-shift (head-finals bs) 12 6 10 (four bs)))
+      (sym (places-shift (head-finals bs) 12 6 10 (weight-at bs)))
 
-  arc-weights-read : map (λ f. f .weight) (decode bs .arcs) ≡ places (head-arcs bs) (12 + 10 * head-finals bs + 12) 16 (four bs)
-  unfolding arc-at weight-at
+  arc-weights-read : map (λ f. f .weight) (decode bs .arcs) ≡ places (head-arcs bs) (12 + 10 * head-finals bs + 12) 16 (weight-at bs)
+  unfolding arc-at
   arc-weights-read =
       rw (decode-arcs bs bytes ok, map-places (λ (a : Arc). a .weight) (head-arcs bs) (12 + 10 * head-finals bs) 16 (arc-at bs))
-      (sym (places-shift (head-arcs bs) (12 + 10 * head-finals bs) 12 16 (four bs)))
+      (sym (places-shift (head-arcs bs) (12 + 10 * head-finals bs) 12 16 (weight-at bs)))
 
-  pub says-read : {head : Header} {first : ℕ} {a a' b b' c c' d d' : List ℕ} → 1024 ≤ length a → 1024 ≤ length b → 12288 ≤ length c → 3072 ≤ length d →
+  pub says-read : {head : Header} {first : ℕ} {a a' : List ℕ} {b b' : List Weight} {c c' : List ℕ} {d d' : List Weight} → 1024 ≤ length a
+      → 1024 ≤ length b → 12288 ≤ length c → 3072 ≤ length d →
       head ≡ header-of bs → first ≡ arcs-at (head .finals) →
       a' ≡ filled (length a) (places (head .finals) 16 10 (two bs)) →
-      b' ≡ filled (length b) (places (head .finals) 18 10 (four bs)) →
+      b' ≡ signed-filled (length b) (places (head .finals) 18 10 (weight-at bs)) →
       c' ≡ filled (length c) (arc-fields (places (head .arcs) first 16 (arc-at bs))) →
-      d' ≡ filled (length d) (places (head .arcs) (first + 12) 16 (four bs)) →
+      d' ≡ signed-filled (length d) (places (head .arcs) (first + 12) 16 (weight-at bs)) →
       Read-says bs (read-refusal bs (length a) (length b) (length c) (length d)) head a a' b b' c c' d d'
-  unfolding read-refusal or-else header-of unless left-in
+  unfolding read-refusal or-else header-of unless left-in weights-left-in
   says-read {head} {first} {a} {a'} {b} {b'} {c} {c'} {d} {d'} la lb lc ld h place ea eb ec ed =
       rw (ok, long-enough (length a) (length b) (length c) (length d) la lb lc ld, h) (record {
         refusal-is = refl;

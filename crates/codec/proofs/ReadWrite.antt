@@ -13,8 +13,8 @@ use borrow.Author.Tests.{ltb-false, le-ltb}
 use lib.Dec.{ltb}
 use lib.ListN.{length, getD, take, List·getD-map, length-map}
 use lib.Seq.{take-length}
-use Rattle.wire.specs.Bytes.{places, filled}
-use Rattle.wire.proofs.Places.{length-places, places-same, map-places, getD-filled, length-filled, take-filled}
+use Rattle.wire.specs.Bytes.{places, filled, signed-filled}
+use Rattle.wire.proofs.Places.{length-places, places-same, map-places, getD-padded, getD-filled, length-padded, length-filled, take-filled}
 use Rattle.wire.proofs.Bool.{passed, or-false, not-raised}
 use Rattle.transducer.specs.Entry.{or-else}
 use Rattle.transducer.specs.declared.Arc.{Arc}
@@ -24,9 +24,10 @@ use Rattle.transducer.specs.declared.Written.{Written}
 use Rattle.transducer.specs.Format.{Transducer, Good, max-states, max-arcs, max-bytes, decode, refusal, head-good, content-refusal}
 use Rattle.transducer.specs.Encode.{encode}
 use Rattle.transducer.specs.Path.{no-arc}
+use Rattle.transducer.specs.Weight.{Weight, no-weight}
 use Rattle.codec.specs.Entry.{Read-says, read-refusal, read-room, Write-says, write-refusal, too-few, given, final-of, arc-of, arc-fields}
 use Rattle.codec.specs.RoundTrip.{Read-then-written, Same-bytes, Written-then-read, Same-transducer}
-use Rattle.transducer.proofs.Answers.{or-else-none, none-or-else, unless-none, left-in-none}
+use Rattle.transducer.proofs.Answers.{or-else-none, none-or-else, unless-none, left-in-none, weights-left-in-none}
 use Rattle.codec.proofs.Copy.{places-shift, length-arc-fields}
 use Rattle.transducer.proofs.Good.{Head-range}
 use Rattle.codec.proofs.ReadSays.{long-enough}
@@ -52,7 +53,7 @@ places-are xs d f h =
     places-same (length xs) 0 1 f (λ i. getD xs i d) (λ i l. h (0 + 1 * i)) ∙ places-getD (length xs) xs d (omega arith) ∙ take-length xs
 
 -- One arc further in the runs.
-arc-of-next : (x₀ x₁ x₂ x₃ w : ℕ) (c d : List ℕ) (i : ℕ) → arc-of (x₀ ∷ x₁ ∷ x₂ ∷ x₃ ∷ c) (w ∷ d) (suc i) ≡ arc-of c d i
+arc-of-next : (x₀ x₁ x₂ x₃ : ℕ) (w : Weight) (c : List ℕ) (d : List Weight) (i : ℕ) → arc-of (x₀ ∷ x₁ ∷ x₂ ∷ x₃ ∷ c) (w ∷ d) (suc i) ≡ arc-of c d i
 unfolding arc-of
 arc-of-next x₀ x₁ x₂ x₃ w c d i =
     let e₀ : 4 * suc i ≡ suc (suc (suc (suc (4 * i)))) = omega arith in
@@ -64,7 +65,7 @@ arc-of-next x₀ x₁ x₂ x₃ w c d i =
 -- From a transducer to the runs and back
 
 no-final : Final
-no-final = record { state = 0; weight = 0 }
+no-final = record { state = 0; weight = no-weight }
 
 final-of-runs : (fs : List Final) (i : ℕ) → final-of (map (λ f. f .state) fs) (map (λ f. f .weight) fs) i ≡ getD fs i no-final
 unfolding final-of no-final
@@ -78,66 +79,70 @@ arc-of-runs (a ∷ xs) (suc i) =
     arc-of-next _ _ _ _ (a .weight) (arc-fields xs) (map (λ x. x .weight) xs) i ∙ arc-of-runs xs i
 
 -- Zeros behind the runs are not looked at.
-final-of-filled : (a b : ℕ) (xs ys : List ℕ) (i : ℕ) → final-of (filled a xs) (filled b ys) i ≡ final-of xs ys i
-unfolding final-of
-final-of-filled a b xs ys i = rw (getD-filled a xs i, getD-filled b ys i)
+final-of-filled : (a b : ℕ) (xs : List ℕ) (ys : List Weight) (i : ℕ) → final-of (filled a xs) (signed-filled b ys) i ≡ final-of xs ys i
+unfolding final-of signed-filled
+final-of-filled a b xs ys i = rw (getD-filled a xs i, getD-padded no-weight b ys i)
 
-arc-of-filled : (c d : ℕ) (xs ys : List ℕ) (i : ℕ) → arc-of (filled c xs) (filled d ys) i ≡ arc-of xs ys i
-unfolding arc-of
+arc-of-filled : (c d : ℕ) (xs : List ℕ) (ys : List Weight) (i : ℕ) → arc-of (filled c xs) (signed-filled d ys) i ≡ arc-of xs ys i
+unfolding arc-of signed-filled
 arc-of-filled c d xs ys i =
-    rw (getD-filled c xs (4 * i), getD-filled c xs (4 * i + 1), getD-filled c xs (4 * i + 2), getD-filled c xs (4 * i + 3), getD-filled d ys i)
+    rw (getD-filled c xs (4 * i), getD-filled c xs (4 * i + 1), getD-filled c xs (4 * i + 2), getD-filled c xs (4 * i + 3), getD-padded no-weight d ys i)
+
+long-weights : (room : ℕ) (xs : List Weight) → length xs ≤ room → length (signed-filled room xs) ≡ room
+unfolding signed-filled
+long-weights room xs h = length-padded no-weight room xs h
 
 -- A transducer's four runs.
 abbrev states-of : Transducer → List ℕ
 states-of t = map (λ f. f .state) (t .finals)
 
-abbrev weights-of : Transducer → List ℕ
+abbrev weights-of : Transducer → List Weight
 weights-of t = map (λ f. f .weight) (t .finals)
 
 abbrev fields-of : Transducer → List ℕ
 fields-of t = arc-fields (t .arcs)
 
-abbrev arc-weights-of : Transducer → List ℕ
+abbrev arc-weights-of : Transducer → List Weight
 arc-weights-of t = map (λ x. x .weight) (t .arcs)
 
 module _ (t : Transducer) (a b c d : ℕ) where
-  finals-left : places (length (t .finals)) 0 1 (final-of (filled a (states-of t)) (filled b (weights-of t))) ≡ t .finals
+  finals-left : places (length (t .finals)) 0 1 (final-of (filled a (states-of t)) (signed-filled b (weights-of t))) ≡ t .finals
   finals-left =
-      places-are (t .finals) no-final (final-of (filled a (states-of t)) (filled b (weights-of t)))
+      places-are (t .finals) no-final (final-of (filled a (states-of t)) (signed-filled b (weights-of t)))
       (λ i. final-of-filled a b (states-of t) (weights-of t) i ∙ final-of-runs (t .finals) i)
 
-  arcs-left : places (length (t .arcs)) 0 1 (arc-of (filled c (fields-of t)) (filled d (arc-weights-of t))) ≡ t .arcs
+  arcs-left : places (length (t .arcs)) 0 1 (arc-of (filled c (fields-of t)) (signed-filled d (arc-weights-of t))) ≡ t .arcs
   arcs-left =
-      places-are (t .arcs) no-arc (arc-of (filled c (fields-of t)) (filled d (arc-weights-of t)))
+      places-are (t .arcs) no-arc (arc-of (filled c (fields-of t)) (signed-filled d (arc-weights-of t)))
       (λ i. arc-of-filled c d (fields-of t) (arc-weights-of t) i ∙ arc-of-runs (t .arcs) i)
 
   -- The transducer in what reading leaves.
   given-left : given (t .states) (length (t .arcs)) (length (t .finals)) (t .start) (filled a (states-of t))
-      (filled b (weights-of t)) (filled c (fields-of t)) (filled d (arc-weights-of t))
+      (signed-filled b (weights-of t)) (filled c (fields-of t)) (signed-filled d (arc-weights-of t))
       ≡ t
   unfolding given
   given-left = λ i. record { states = t .states; start = t .start; finals = finals-left i; arcs = arcs-left i }
 
 -- From the runs to a transducer and back
 
-states-given : (f : ℕ) (a b : List ℕ) → f ≤ length a → map (λ x. x .state) (places f 0 1 (final-of a b)) ≡ take f a
+states-given : (f : ℕ) (a : List ℕ) (b : List Weight) → f ≤ length a → map (λ x. x .state) (places f 0 1 (final-of a b)) ≡ take f a
 unfolding final-of
 states-given f a b h = map-places (λ (x : Final). x .state) f 0 1 (final-of a b) ∙ places-getD f a 0 h
 
-weights-given : (f : ℕ) (a b : List ℕ) → f ≤ length b → map (λ x. x .weight) (places f 0 1 (final-of a b)) ≡ take f b
+weights-given : (f : ℕ) (a : List ℕ) (b : List Weight) → f ≤ length b → map (λ x. x .weight) (places f 0 1 (final-of a b)) ≡ take f b
 unfolding final-of
-weights-given f a b h = map-places (λ (x : Final). x .weight) f 0 1 (final-of a b) ∙ places-getD f b 0 h
+weights-given f a b h = map-places (λ (x : Final). x .weight) f 0 1 (final-of a b) ∙ places-getD f b no-weight h
 
-arc-weights-given : (m : ℕ) (c d : List ℕ) → m ≤ length d → map (λ x. x .weight) (places m 0 1 (arc-of c d)) ≡ take m d
+arc-weights-given : (m : ℕ) (c : List ℕ) (d : List Weight) → m ≤ length d → map (λ x. x .weight) (places m 0 1 (arc-of c d)) ≡ take m d
 unfolding arc-of
-arc-weights-given m c d h = map-places (λ (x : Arc). x .weight) m 0 1 (arc-of c d) ∙ places-getD m d 0 h
+arc-weights-given m c d h = map-places (λ (x : Arc). x .weight) m 0 1 (arc-of c d) ∙ places-getD m d no-weight h
 
-fields-given : (m : ℕ) (c d : List ℕ) → 4 * m ≤ length c → m ≤ length d → arc-fields (places m 0 1 (arc-of c d)) ≡ take (4 * m) c
+fields-given : (m : ℕ) (c : List ℕ) (d : List Weight) → 4 * m ≤ length c → m ≤ length d → arc-fields (places m 0 1 (arc-of c d)) ≡ take (4 * m) c
 unfolding places arc-fields arc-of
 fields-given zero c d h l = refl
 fields-given (suc m) (x₀ ∷ x₁ ∷ x₂ ∷ x₃ ∷ c) (w ∷ d) h l = next m x₀ x₁ x₂ x₃ w c d (fields-given m c d (omega arith) (omega arith))
   where
-    next : (m x₀ x₁ x₂ x₃ w : ℕ) (c d : List ℕ) → arc-fields (places m 0 1 (arc-of c d)) ≡ take (4 * m) c →
+    next : (m x₀ x₁ x₂ x₃ : ℕ) (w : Weight) (c : List ℕ) (d : List Weight) → arc-fields (places m 0 1 (arc-of c d)) ≡ take (4 * m) c →
         arc-fields (places (suc m) 0 1 (arc-of (x₀ ∷ x₁ ∷ x₂ ∷ x₃ ∷ c) (w ∷ d))) ≡ take (4 * suc m) (x₀ ∷ x₁ ∷ x₂ ∷ x₃ ∷ c)
     next m x₀ x₁ x₂ x₃ w c d more =
         let f = arc-of (x₀ ∷ x₁ ∷ x₂ ∷ x₃ ∷ c) (w ∷ d) in
@@ -185,7 +190,7 @@ module _ (t : Transducer) (good : Good t) (a b c d : ℕ) (room : Room a b c d) 
   few = good-range t good
 
   runs-enough : Enough (length (t .finals)) (length (t .arcs)) (length (filled a (states-of t)))
-      (length (filled b (weights-of t))) (length (filled c (fields-of t))) (length (filled d (arc-weights-of t)))
+      (length (signed-filled b (weights-of t))) (length (filled c (fields-of t))) (length (signed-filled d (arc-weights-of t)))
   runs-enough =
       let states : length (states-of t) ≡ length (t .finals) = length-map (t .finals) (λ f. f .state) in
       let weights : length (weights-of t) ≡ length (t .finals) = length-map (t .finals) (λ f. f .weight) in
@@ -196,15 +201,15 @@ module _ (t : Transducer) (good : Good t) (a b c d : ℕ) (room : Room a b c d) 
         few,
         room,
         length-filled a (states-of t) (omega (arith, few, room)),
-        length-filled b (weights-of t) (omega (arith, few, room)),
+        long-weights b (weights-of t) (omega (arith, few, room)),
         length-filled c (fields-of t) (omega (arith, few, room)),
-        length-filled d (arc-weights-of t) (omega (arith, few, room)),
+        long-weights d (arc-weights-of t) (omega (arith, few, room)),
       )
 
   -- What reading leaves is accepted by writing.
   left-accepted : (out : ℕ) → max-bytes ≤ out → write-refusal (t .states) (length (t .arcs)) (length (t .finals)) (t .start)
-      (filled a (states-of t)) (filled b (weights-of t)) (filled c (fields-of t))
-      (filled d (arc-weights-of t)) out ≡ 0
+      (filled a (states-of t)) (signed-filled b (weights-of t)) (filled c (fields-of t))
+      (signed-filled d (arc-weights-of t)) out ≡ 0
   unfolding write-refusal or-else
   left-accepted out h = rw (good .head, not-too-few _ _ _ _ _ _ runs-enough, given-left t a b c d, good .content, le-ltb out max-bytes h)
 
@@ -224,18 +229,18 @@ written-well {t} {t'} {number} {r} {out} {out'} says none is =
     }
 
 -- Bytes read, the transducer in them is told and left in the buffers, zeros behind it.
-record Read-well (t : Transducer) (r : Header) (a a' b b' c c' d d' : List ℕ) : Type 0 where
+record Read-well (t : Transducer) (r : Header) (a a' : List ℕ) (b b' : List Weight) (c c' : List ℕ) (d d' : List Weight) : Type 0 where
   accepted : r .refusal ≡ 0
   states : r .states ≡ t .states
   arcs : r .arcs ≡ length (t .arcs)
   finals : r .finals ≡ length (t .finals)
   start : r .start ≡ t .start
   final-states : a' ≡ filled (length a) (states-of t)
-  final-weights : b' ≡ filled (length b) (weights-of t)
+  final-weights : b' ≡ signed-filled (length b) (weights-of t)
   fields : c' ≡ filled (length c) (fields-of t)
-  arc-weights : d' ≡ filled (length d) (arc-weights-of t)
+  arc-weights : d' ≡ signed-filled (length d) (arc-weights-of t)
 
-read-well : {t : Transducer} {bs : List ℕ} {number : ℕ} {r : Header} {a a' b b' c c' d d' : List ℕ} →
+read-well : {t : Transducer} {bs : List ℕ} {number : ℕ} {r : Header} {a a' : List ℕ} {b b' : List Weight} {c c' : List ℕ} {d d' : List Weight} →
     Read-says bs number r a a' b b' c c' d d' → number ≡ 0 → decode bs ≡ t → Read-well t r a a' b b' c c' d d'
 read-well {number = number} {a = a} {b = b} {c = c} {d = d} says none is =
     record {
@@ -245,13 +250,14 @@ read-well {number = number} {a = a} {b = b} {c = c} {d = d} says none is =
       finals = says .finals-is ∙ unless-none number _ none ∙ ap (λ (u : Transducer). length (u .finals)) is;
       start = says .start-is ∙ unless-none number _ none ∙ ap (λ (u : Transducer). u .start) is;
       final-states = says .final-states ∙ left-in-none number a _ none ∙ ap (λ (u : Transducer). filled (length a) (states-of u)) is;
-      final-weights = says .final-weights ∙ left-in-none number b _ none ∙ ap (λ (u : Transducer). filled (length b) (weights-of u)) is;
+      final-weights = says .final-weights ∙ weights-left-in-none number b _ none ∙ ap (λ (u : Transducer). signed-filled (length b) (weights-of u)) is;
       fields = says .fields ∙ left-in-none number c _ none ∙ ap (λ (u : Transducer). filled (length c) (fields-of u)) is;
-      arc-weights = says .arc-weights ∙ left-in-none number d _ none ∙ ap (λ (u : Transducer). filled (length d) (arc-weights-of u)) is;
+      arc-weights = says .arc-weights ∙ weights-left-in-none number d _ none ∙ ap (λ (u : Transducer). signed-filled (length d) (arc-weights-of u)) is;
     }
 
 -- What reading says of a transducer, handed to writing.
-written-back : {t : Transducer} {r : Header} {a a' b b' c c' d d' : List ℕ} {w : Written} {out out' : List ℕ} → Good t →
+written-back : {t : Transducer} {r : Header} {a a' : List ℕ} {b b' : List Weight} {c c' : List ℕ} {d d' : List Weight} {w : Written} {out out' : List ℕ}
+    → Good t →
     Room (length a) (length b) (length c) (length d) → Read-well t r a a' b b' c c' d d' → max-bytes ≤ length out →
     Write-says (given (r .states) (r .arcs) (r .finals) (r .start) a' b' c' d')
     (write-refusal (r .states) (r .arcs) (r .finals) (r .start) a' b' c' d' (length out)) w out out' → Written-well t w out out'
@@ -286,11 +292,12 @@ written-same c =
 -- Written, then read
 
 -- What writing that was not refused says of the numbers and the runs.
-record Given-well (n m f start : ℕ) (a b c d : List ℕ) : Type 0 where
+record Given-well (n m f start : ℕ) (a : List ℕ) (b : List Weight) (c : List ℕ) (d : List Weight) : Type 0 where
   good : Good (given n m f start a b c d)
   enough : Enough f m (length a) (length b) (length c) (length d)
 
-given-well : (n m f start : ℕ) (a b c d : List ℕ) (room : ℕ) → write-refusal n m f start a b c d room ≡ 0 → Given-well n m f start a b c d
+given-well : (n m f start : ℕ) (a : List ℕ) (b : List Weight) (c : List ℕ) (d : List Weight) (room : ℕ) → write-refusal n m f start a b c d room ≡ 0
+    → Given-well n m f start a b c d
 unfolding write-refusal given
 given-well n m f start a b c d room h =
     let t = given n m f start a b c d in
@@ -304,7 +311,7 @@ given-well n m f start a b c d room h =
     }
 
 -- A transducer's bytes, handed to reading.
-read-back : {t : Transducer} {bs : List ℕ} {r : Header} {a a' b b' c c' d d' : List ℕ} → Good t → bs ≡ encode t →
+read-back : {t : Transducer} {bs : List ℕ} {r : Header} {a a' : List ℕ} {b b' : List Weight} {c c' : List ℕ} {d d' : List Weight} → Good t → bs ≡ encode t →
     Room (length a) (length b) (length c) (length d) →
     Read-says bs (read-refusal bs (length a) (length b) (length c) (length d)) r a a' b b' c c' d d' → Read-well t r a a' b b' c c' d d'
 unfolding read-refusal
@@ -338,9 +345,13 @@ read-same c =
       finals = r .finals ∙ length-places (c .finals) 0 1 (final-of a b);
       start = r .start;
       final-states = r .final-states ∙ ap (λ (l : List ℕ). filled (length (c .lent .final-states)) l) (states-given (c .finals) a b (h .enough .states));
-      final-weights = r .final-weights ∙ ap (λ (l : List ℕ). filled (length (c .lent .final-weights)) l) (weights-given (c .finals) a b (h .enough .weights));
+      final-weights =
+          r .final-weights
+          ∙ ap (λ (l : List Weight). signed-filled (length (c .lent .final-weights)) l) (weights-given (c .finals) a b (h .enough .weights));
       fields =
           r .fields
           ∙ ap (λ (l : List ℕ). filled (length (c .lent .fields)) l) (fields-given (c .arcs) e g (h .enough .fields) (h .enough .arc-weights));
-      arc-weights = r .arc-weights ∙ ap (λ (l : List ℕ). filled (length (c .lent .arc-weights)) l) (arc-weights-given (c .arcs) e g (h .enough .arc-weights));
+      arc-weights =
+          r .arc-weights
+          ∙ ap (λ (l : List Weight). signed-filled (length (c .lent .arc-weights)) l) (arc-weights-given (c .arcs) e g (h .enough .arc-weights));
     }

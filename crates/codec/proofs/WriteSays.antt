@@ -19,6 +19,7 @@ use Rattle.codec.specs.Entry.{Write-says, write-refusal, given, final-of
 use Rattle.transducer.proofs.Good.{head-range}
 use Rattle.transducer.proofs.Checked.{content-checked}
 use Rattle.transducer.proofs.Encode.{length-encode, sets-encode, cleared-sets}
+use Rattle.transducer.specs.Weight.{Weight}
 
 -- The four runs are long enough.
 pub record Enough (f m a b c d : ℕ) : Type 0 where
@@ -28,7 +29,7 @@ pub record Enough (f m a b c d : ℕ) : Type 0 where
   pub arc-weights : m ≤ d
 
 -- The tests of 5 to 8 over the runs are those of the transducer that they give.
-pub given-content : (n m f start : ℕ) (a b c d : List ℕ) →
+pub given-content : (n m f start : ℕ) (a : List ℕ) (b : List Weight) (c : List ℕ) (d : List Weight) →
     let all = arcs-checked m 0 1 n (λ _. arc-word) (arc-of c d) (from-0 (finals-checked f 0 1 n (λ _. final-word) (final-of a b) none-failed)) in
     first-of (all .states) (all .order) (all .labels) (all .weights) ≡ content-refusal (given n m f start a b c d)
 unfolding given
@@ -71,7 +72,7 @@ unfolding unless left-in
 says-written t number len out out' is long bytes = record { refusal-is = sym is; len-is = rw is long; bytes = rw is bytes }
 
 -- One law for each answer, in the order of the tests.
-module _ (n m f start : ℕ) (a b c d out : List ℕ) where
+module _ (n m f start : ℕ) (a : List ℕ) (b : List Weight) (c : List ℕ) (d : List Weight) (out : List ℕ) where
   abbrev pub Refused : (k : ℕ) → Type 0
   Refused k =
       (r : Written) → r ≡ record { refusal = k; len = 0 } → Write-says (given n m f start a b c d) (write-refusal n m f start a b c d (length out)) r out out

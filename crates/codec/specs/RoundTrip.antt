@@ -3,18 +3,19 @@ use mathlib.Core.Path.{_≡_}
 use mathlib.Core.List.{List}
 use Prim.Native.Nat.{ℕ, _*_, _≤_}
 use lib.ListN.{length, take}
-use Rattle.wire.specs.Bytes.{Bytes, filled}
+use Rattle.wire.specs.Bytes.{Bytes, filled, signed-filled}
 use Rattle.transducer.specs.declared.Header.{Header}
 use Rattle.transducer.specs.declared.Written.{Written}
 use Rattle.transducer.specs.Format.{max-states, max-arcs, max-fields, max-bytes}
+use Rattle.transducer.specs.Weight.{Weight}
 use Rattle.codec.specs.Entry.{Read-says, read-refusal, Write-says, write-refusal, given}
 
 -- The four buffers that reading is lent, and the four runs that writing is handed.
 pub record Four : Type 0 where
   pub final-states : List ℕ
-  pub final-weights : List ℕ
+  pub final-weights : List Weight
   pub fields : List ℕ
-  pub arc-weights : List ℕ
+  pub arc-weights : List Weight
 
 -- `read` was answered as its contract says, and so was `write`.
 abbrev pub Answers-read : (bytes : List ℕ) → Header → (lent left : Four) → Type 0
@@ -80,6 +81,6 @@ pub record Same-transducer (c : Written-then-read) : Type 0 where
   pub finals : c .reading .finals ≡ c .finals
   pub start : c .reading .start ≡ c .start
   pub final-states : c .left .final-states ≡ filled (length (c .lent .final-states)) (take (c .finals) (c .runs .final-states))
-  pub final-weights : c .left .final-weights ≡ filled (length (c .lent .final-weights)) (take (c .finals) (c .runs .final-weights))
+  pub final-weights : c .left .final-weights ≡ signed-filled (length (c .lent .final-weights)) (take (c .finals) (c .runs .final-weights))
   pub fields : c .left .fields ≡ filled (length (c .lent .fields)) (take (4 * c .arcs) (c .runs .fields))
-  pub arc-weights : c .left .arc-weights ≡ filled (length (c .lent .arc-weights)) (take (c .arcs) (c .runs .arc-weights))
+  pub arc-weights : c .left .arc-weights ≡ signed-filled (length (c .lent .arc-weights)) (take (c .arcs) (c .runs .arc-weights))

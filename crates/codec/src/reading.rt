@@ -2,8 +2,8 @@
 ghost use mathlib.Core.Path.{_≡_};
 ghost use Prim.Native.Nat.{ℕ, _+_, _*_, _≤_, _<_};
 ghost use lib.ListN.{length};
-ghost use Rattle.wire.specs.Bytes.{two, four, places, filled};
-ghost use Rattle.transducer.specs.Format.{arc-bytes, arc-at};
+ghost use Rattle.wire.specs.Bytes.{two, places, filled, signed-filled};
+ghost use Rattle.transducer.specs.Format.{arc-bytes, arc-at, weight-at};
 ghost use Rattle.codec.specs.Entry.{Read-says, read-refusal, arc-fields};
 use transducer::Header;
 
@@ -41,20 +41,19 @@ fn copy16(bytes: &[u8], at: usize, step: usize, count: usize, out: &mut [u16])
     wire::clear16(out, count);
 }
 
-// Copies `count` numbers of four bytes, the first at `at`, each `step` past the one before, to the front of `out`;
-// behind them it puts zeros.
-fn copy32(bytes: &[u8], at: usize, step: usize, count: usize, out: &mut [u32])
+// Copies `count` weights, the first at `at`, each `step` past the one before, to the front of `out`; behind them it puts zeros.
+fn copy_weights(bytes: &[u8], at: usize, step: usize, count: usize, out: &mut [i32])
     requires { ⌜ (count ≤ length (now out)) × (at + step * count + 4 ≤ length (now bytes) + step) × (step ≤ arc-bytes) ⌝ }
-    ensures { λ _. ⌜ now (out .exit) ≡ filled (length (now (out .entry))) (places count at step (four (now (bytes .entry)))) ⌝ }
+    ensures { λ _. ⌜ now (out .exit) ≡ signed-filled (length (now (out .entry))) (places count at step (weight-at (now (bytes .entry)))) ⌝ }
 {
     let mut place = at;
     let mut i = 0;
     while i < count {
-        out[i] = wire::u32_at(bytes, place);
+        out[i] = wire::i32_at(bytes, place);
         place += step;
         i += 1;
     }
-    wire::clear32(out, count);
+    wire::clear_i32(out, count);
 }
 
 // Copies the four fields of `count` arcs whose records begin at `at` to the front of `out`; behind them it puts zeros.
@@ -80,9 +79,9 @@ fn copy_fields(bytes: &[u8], at: usize, count: usize, out: &mut [u16])
 pub fn read(
     bytes: &[u8],
     final_states: &mut [u16],
-    final_weights: &mut [u32],
+    final_weights: &mut [i32],
     fields: &mut [u16],
-    arc_weights: &mut [u32],
+    arc_weights: &mut [i32],
 ) -> Header
     ensures { λ r. ⌜ Read-says (now (bytes .entry))
         (read-refusal (now (bytes .entry)) (length (now («final_states» .entry))) (length (now («final_weights» .entry)))
@@ -111,8 +110,8 @@ pub fn read(
     let m = head.arcs as usize;
     let first = transducer::arcs_at(f);
     copy16(bytes, STATE_AT, transducer::FINAL_BYTES, f, final_states);
-    copy32(bytes, WEIGHT_AT, transducer::FINAL_BYTES, f, final_weights);
+    copy_weights(bytes, WEIGHT_AT, transducer::FINAL_BYTES, f, final_weights);
     copy_fields(bytes, first, m, fields);
-    copy32(bytes, first + 12, transducer::ARC_BYTES, m, arc_weights);
+    copy_weights(bytes, first + 12, transducer::ARC_BYTES, m, arc_weights);
     head
 }

@@ -14,7 +14,7 @@ use transducer::Final;
 use transducer::Written;
 
 // Writes `count` final records from two runs behind the head.
-fn put_finals(states: &[u16], weights: &[u32], count: usize, out: &mut [u8])
+fn put_finals(states: &[u16], weights: &[i32], count: usize, out: &mut [u8])
     requires { ⌜ (count ≤ length (now states)) × (count ≤ length (now weights)) × (arcs-at count ≤ length (now out)) ⌝ }
     ensures { λ _. ⌜ now (out .exit) ≡ sets (now (out .entry)) head-bytes
         (final-records (places count 0 1 (final-of (now (states .entry)) (now (weights .entry))))) ⌝ }
@@ -33,7 +33,7 @@ fn put_finals(states: &[u16], weights: &[u32], count: usize, out: &mut [u8])
 }
 
 // Writes `count` arc records from two runs at a place.
-fn put_arcs(fields: &[u16], weights: &[u32], count: usize, first: usize, out: &mut [u8])
+fn put_arcs(fields: &[u16], weights: &[i32], count: usize, first: usize, out: &mut [u8])
     requires { ⌜ (4 * count ≤ length (now fields)) × (count ≤ length (now weights)) × (first + arc-bytes * count ≤ length (now out)) ⌝ }
     ensures { λ _. ⌜ now (out .exit) ≡ sets (now (out .entry)) first (arc-records (places count 0 1 (arc-of (now (fields .entry)) (now (weights .entry))))) ⌝ }
 {
@@ -47,7 +47,7 @@ fn put_arcs(fields: &[u16], weights: &[u32], count: usize, first: usize, out: &m
 }
 
 // The tests of the first `count` finals in two runs.
-fn check_given_finals(states: &[u16], weights: &[u32], count: usize, n: u32, c: Checks) -> Checks
+fn check_given_finals(states: &[u16], weights: &[i32], count: usize, n: u32, c: Checks) -> Checks
     requires { ⌜ (count ≤ length (now states)) × (count ≤ length (now weights)) ⌝ }
     ensures { λ r. ⌜ r ≡ finals-checked count 0 1 n (λ _. final-word) (final-of (now (states .entry)) (now (weights .entry))) c ⌝ }
 {
@@ -65,7 +65,7 @@ fn check_given_finals(states: &[u16], weights: &[u32], count: usize, n: u32, c: 
 }
 
 // The tests of the first `count` arcs in two runs, four fields to an arc in the first.
-fn check_given_arcs(fields: &[u16], weights: &[u32], count: usize, n: u32, c: Checks) -> Checks
+fn check_given_arcs(fields: &[u16], weights: &[i32], count: usize, n: u32, c: Checks) -> Checks
     requires { ⌜ (4 * count ≤ length (now fields)) × (count ≤ length (now weights)) ⌝ }
     ensures { λ r. ⌜ r ≡ arcs-checked count 0 1 n (λ _. arc-word) (arc-of (now (fields .entry)) (now (weights .entry))) c ⌝ }
 {
@@ -84,7 +84,7 @@ fn check_given_arcs(fields: &[u16], weights: &[u32], count: usize, n: u32, c: Ch
 }
 
 // Arc `i` of two runs.
-fn given_arc(fields: &[u16], weights: &[u32], i: usize) -> Arc
+fn given_arc(fields: &[u16], weights: &[i32], i: usize) -> Arc
     requires { ⌜ (4 * i + 3 < length (now fields)) × (i < length (now weights)) ⌝ }
     ensures { λ r. ⌜ r ≡ arc-of (now (fields .entry)) (now (weights .entry)) i ⌝ }
 {
@@ -103,9 +103,9 @@ fn content_number(
     m: usize,
     f: usize,
     final_states: &[u16],
-    final_weights: &[u32],
+    final_weights: &[i32],
     fields: &[u16],
-    arc_weights: &[u32],
+    arc_weights: &[i32],
 ) -> u32
     requires { ⌜ (f ≤ length (now «final_states»)) × (f ≤ length (now «final_weights»)) × (4 * m ≤ length (now fields)) × (m ≤ length (now «arc_weights»)) ⌝ }
     ensures { λ r. ⌜ ((start : ℕ) → r ≡ content-refusal (given n m f start (now («final_states» .entry)) (now («final_weights» .entry))
@@ -130,9 +130,9 @@ pub fn write(
     f: u32,
     start: u32,
     final_states: &[u16],
-    final_weights: &[u32],
+    final_weights: &[i32],
     fields: &[u16],
-    arc_weights: &[u32],
+    arc_weights: &[i32],
     out: &mut [u8],
 ) -> Written
     ensures { λ r. ⌜ Write-says

@@ -9,6 +9,7 @@ use Rattle.transducer.specs.Format.{Transducer, Good, refusal, decode}
 use Rattle.transducer.specs.Encode.{encode}
 use Rattle.transducer.specs.Path.{accepts, read-by, written-by, path-cost}
 use Rattle.transducer.proofs.RoundTrip.{accepted-good}
+use Rattle.transducer.specs.Weight.{plus}
 use Rattle.explore.specs.Explore.{Step, built-refusal}
 use Rattle.explore.proofs.Member.{at-length, at-getD}
 use Rattle.explore.proofs.Trails.{inputs, outputs, weights, along, Once}
@@ -53,7 +54,7 @@ module _ (t u : Transducer) (good-t : Good t) (good-u : Good u) (fine : built-re
     accepted : Accepted t u (taken p) last
     reads : read-by (composed t u .result) p ≡ inputs (taken p)
     writes : written-by (composed t u .result) p ≡ outputs (taken p)
-    costs : path-cost (composed t u .result) p ≡ weights (taken p) + state-weight t u last
+    costs : path-cost (composed t u .result) p ≡ plus (weights (taken p)) (state-weight t u last)
 
   steps-of : (p : List ℕ) → accepts (composed t u .result) p ≡ true → Steps-of p
   unfolding composed

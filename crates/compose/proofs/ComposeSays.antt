@@ -45,7 +45,7 @@ use Rattle.compose.specs.Finished.{key-final, key-weight, key-finals, Fi
 use Rattle.steps.specs.Packing.{pack}
 use Rattle.compose.specs.Walk.{key-steps, key-walk}
 use Rattle.compose.proofs.Explored.{two-origins, composed-keying, steps-light, key-bounded}
-use Rattle.compose.proofs.KeyFinals.{code-most, pack-final, pack-weight}
+use Rattle.compose.proofs.KeyFinals.{pack-final, pack-weight}
 use Rattle.steps.proofs.Within.{Within, within-bounded}
 use Rattle.compose.proofs.Written.{steps-labelled}
 
@@ -217,15 +217,16 @@ module _ (left right : List ℕ) (lb : Bytes left) (rb : Bytes right) (lok : ref
               stored = omega arith;
               room = omega arith;
               keys = λ i l. key-bounded t u tg ug (getD states i 0) (told-key keying (final-state t u) (state-weight t u) told i l);
-              left = code-most t ls tg lby;
-              right = code-most u rs ug rby;
+              left = lby .small;
+              right = rby .small;
             }
 
         finals-are : key-finals ls rs (take (w .states) states) ≡ z .finals
         unfolding composed
         finals-are =
             told-key-finals keying (final-state t u) (state-weight t u) told (key-final ls rs) (key-weight ls rs)
-            (λ x h. pack-final t u ls rs lby rby x (within-bounded t u tg ug x h)) (λ x h e. pack-weight t u ls rs lby rby x (within-bounded t u tg ug x h))
+            (λ x h. pack-final t u ls rs lby rby x (within-bounded t u tg ug x h))
+            (λ x h e. pack-weight t u ls rs lby rby tg ug x (within-bounded t u tg ug x h) e)
 
         module _ (f : FinalsPut) (t1 : List ℕ) (put : Finals-stored (key-finals ls rs (take (w .states) states)) f table t1) where
           finals-put : Finals-stored (z .finals) f table t1

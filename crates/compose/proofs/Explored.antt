@@ -42,8 +42,8 @@ module _ (t u : Transducer) (tg : Good t) (ug : Good u) where
         next-is = λ x w. rw (unpacked-pack x (within-bounded t u tg ug x w)) (keyed-steps (steps t u x));
       }
 
-  pub steps-light : Weighing 4294967296 (steps t u)
-  steps-light x s m = omega (arith, step-weight t u tg ug x s (mem-in m))
+  pub steps-light : Weighing (steps t u)
+  steps-light x s m = step-weight t u tg ug x s (mem-in m)
 
   -- What a stored key tells.
   pub key-inside : (key : ℕ) → Key-of pack (Within t u) key → In-both t u (unpacked key)

@@ -2,50 +2,50 @@
 -- over paths are least sums over pairs. Assumes nothing.
 use mathlib.Core.Path.{_≡_, sym, _∙_}
 use mathlib.Core.List.{List}
-use Prim.Native.Nat.{ℕ, _+_, _≤_}
-use native.Mathlib.Omega.{arith}
+use Prim.Native.Nat.{ℕ}
 use Rattle.transducer.specs.Format.{Transducer}
 use Rattle.transducer.specs.Path.{path-cost}
+use Rattle.transducer.specs.Weight.{Weight, plus, At-most}
+use Rattle.transducer.proofs.Weights.{most-both}
 use Rattle.compose.specs.Claim.{met-at, Stands-for, One-to-one, Least, Path-between, Two-paths, Pair-between, Least-sums}
 
 -- For each x of the one kind there is one of the other, at the same cost.
-pub record Matched (X Y : Type 0) (Q : Y → Type 0) (cost : X → ℕ) (cost' : Y → ℕ) (x : X) : Type 0 where
+pub record Matched (X Y : Type 0) (Q : Y → Type 0) (cost : X → Weight) (cost' : Y → Weight) (x : X) : Type 0 where
   pub other : Y
   pub holds : Q other
   pub same : cost' other ≡ cost x
 
-pub least-unique : (X : Type 0) (P : X → Type 0) (cost : X → ℕ) (c c' : ℕ) → Least X P cost c → Least X P cost c' → c ≡ c'
+pub least-unique : (X : Type 0) (P : X → Type 0) (cost : X → Weight) (c c' : Weight) → Least X P cost c → Least X P cost c' → c ≡ c'
 least-unique X P cost c c' l l' =
-    let a : c ≤ cost (l' .best) = l .least (l' .best) (l' .holds) in
-    let b : c' ≤ cost (l .best) = l' .least (l .best) (l .holds) in
+    let a : At-most c (cost (l' .best)) = l .least (l' .best) (l' .holds) in
+    let b : At-most c' (cost (l .best)) = l' .least (l .best) (l .holds) in
     let e : cost (l .best) ≡ c = l .costs in
     let e' : cost (l' .best) ≡ c' = l' .costs in
-    omega arith
+    most-both c c' (rw e' at a) (rw e at b)
 
-module _ (X Y : Type 0) (P : X → Type 0) (Q : Y → Type 0) (cost : X → ℕ) (cost' : Y → ℕ) where
-  pub least-over : ((x : X) → P x → Matched X Y Q cost cost' x) → ((y : Y) → Q y → Matched Y X P cost' cost y) → (c : ℕ)
+module _ (X Y : Type 0) (P : X → Type 0) (Q : Y → Type 0) (cost : X → Weight) (cost' : Y → Weight) where
+  pub least-over : ((x : X) → P x → Matched X Y Q cost cost' x) → ((y : Y) → Q y → Matched Y X P cost' cost y) → (c : Weight)
       → Least X P cost c → Least Y Q cost' c
   least-over over back c l =
       let m : Matched X Y Q cost cost' (l .best) = over (l .best) (l .holds) in
       record { best = m .other; holds = m .holds; costs = m .same ∙ l .costs; least = below }
     where
-      below : (y : Y) → Q y → c ≤ cost' y
+      below : (y : Y) → Q y → At-most c (cost' y)
       below y q =
           let m : Matched Y X P cost' cost y = back y q in
-          let h : c ≤ cost (m .other) = l .least (m .other) (m .holds) in
-          let e : cost (m .other) ≡ cost' y = m .same in
-          omega arith
+          let h : At-most c (cost (m .other)) = l .least (m .other) (m .holds) in
+          rw (m .same) at h
 
-pub least-across : (X Y : Type 0) (P : X → Type 0) (Q : Y → Type 0) (cost : X → ℕ) (cost' : Y → ℕ)
-    → ((x : X) → P x → Matched X Y Q cost cost' x) → ((y : Y) → Q y → Matched Y X P cost' cost y) → (c : ℕ)
+pub least-across : (X Y : Type 0) (P : X → Type 0) (Q : Y → Type 0) (cost : X → Weight) (cost' : Y → Weight)
+    → ((x : X) → P x → Matched X Y Q cost cost' x) → ((y : Y) → Q y → Matched Y X P cost' cost y) → (c : Weight)
     → (Least X P cost c → Least Y Q cost' c) × (Least Y Q cost' c → Least X P cost c)
 least-across X Y P Q cost cost' over back c =
     (least-over X Y P Q cost cost' over back c, least-over Y X Q P cost' cost back over c)
 
 -- Where paths and pairs stand one to one, least costs are least sums.
 module _ (t u z : Transducer) (origins : List ℕ) (one : One-to-one t u z origins) where
-  abbrev sum : Two-paths → ℕ
-  sum paths = path-cost t (paths .left) + path-cost u (paths .right)
+  abbrev sum : Two-paths → Weight
+  sum paths = plus (path-cost t (paths .left)) (path-cost u (paths .right))
 
   path-matched : (input output p : List ℕ) → Path-between z input output p
       → Matched (List ℕ) Two-paths (Pair-between t u input output) (path-cost z) sum p

@@ -7,6 +7,7 @@ use lib.ListN.{length, getD}
 use Rattle.wire.specs.Bytes.{filled}
 use Rattle.wire.proofs.Places.{getD-filled}
 use Rattle.transducer.specs.Format.{Transducer, barred}
+use Rattle.transducer.specs.Weight.{no-weight}
 use Rattle.explore.specs.Explore.{Step, Built}
 use Rattle.explore.specs.Walk.{all-origins}
 use Rattle.explore.proofs.Trails.{Trail, along}
@@ -22,7 +23,7 @@ use Rattle.compose.proofs.Origins.{led-lefts, led-rights}
 -- The step that is read where there is none; its origins are 0, as what is read behind a list's end is.
 abbrev pub no-step : Step State Origin
 no-step =
-    record { target = record { left = 0; right = 0; filter = 0 }; input = 0; output = 0; weight = 0; origin = Both 0 0 }
+    record { target = record { left = 0; right = 0; filter = 0 }; input = 0; output = 0; weight = no-weight; origin = Both 0 0 }
 
 pub left-at : (ss : List (Step State Origin)) (i : ℕ) → getD (origin-pairs ss) (2 * i + 0) 0 ≡ left-origin (getD ss i no-step .origin)
 unfolding origin-pairs all-origins origin-pair left-origin

@@ -4,12 +4,12 @@ use mathlib.Core.Path.{_≡_}
 use mathlib.Core.Bool.{true, cond}
 use mathlib.Core.Logic.{_↔_}
 use mathlib.Core.List.{List, [], _∷_, map}
-use Prim.Native.Nat.{ℕ, _+_, _*_, _≤_}
+use Prim.Native.Nat.{ℕ, _+_, _*_}
 use lib.Dec.{eqb}
 use lib.ListN.{getD}
 use Rattle.transducer.specs.Format.{Transducer, barred}
 use Rattle.transducer.specs.Path.{accepts, read-by, written-by, path-cost}
-use Rattle.transducer.specs.Weight.{plus}
+use Rattle.transducer.specs.Weight.{Weight, plus, At-most}
 
 -- The arc numbers met, 65,535 being passed over.
 unfoldable pub led : List ℕ → List ℕ
@@ -41,11 +41,11 @@ pub record One-to-one (t u z : Transducer) (origins : List ℕ) : Type 0 where
   pub every : (x y : List ℕ) → Pair t u x y → (p : List ℕ) × (accepts z p ≡ true) × (met-at origins 0 p ≡ x) × (met-at origins 1 p ≡ y)
 
 -- The least cost of what has a property.
-pub record Least (X : Type 0) (P : X → Type 0) (cost : X → ℕ) (c : ℕ) : Type 0 where
+pub record Least (X : Type 0) (P : X → Type 0) (cost : X → Weight) (c : Weight) : Type 0 where
   pub best : X
   pub holds : P best
   pub costs : cost best ≡ c
-  pub least : (x : X) → P x → c ≤ cost x
+  pub least : (x : X) → P x → At-most c (cost x)
 
 -- An accepting path that reads one string and writes another.
 pub record Path-between (z : Transducer) (input output : List ℕ) (path : List ℕ) : Type 0 where
@@ -67,6 +67,6 @@ pub record Pair-between (t u : Transducer) (input output : List ℕ) (paths : Tw
 -- For every input and output string the least cost over accepting paths is the least sum over pairs, where either exists.
 unfoldable pub Least-sums : (t u z : Transducer) → Type 0
 Least-sums t u z =
-    (input output : List ℕ) (c : ℕ)
+    (input output : List ℕ) (c : Weight)
     → Least (List ℕ) (Path-between z input output) (path-cost z) c
     ↔ Least Two-paths (Pair-between t u input output) (λ paths. plus (path-cost t (paths .left)) (path-cost u (paths .right))) c

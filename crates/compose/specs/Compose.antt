@@ -4,7 +4,7 @@ use mathlib.Core.Bool.{Bool, _&&_}
 use Prim.Native.Nat.{ℕ}
 use Rattle.transducer.specs.Format.{Transducer}
 use Rattle.transducer.specs.Path.{is-final, final-weight}
-use Rattle.transducer.specs.Weight.{plus}
+use Rattle.transducer.specs.Weight.{Weight, plus}
 use Rattle.explore.specs.Explore.{Built, built}
 use Rattle.steps.specs.declared.State.{State}
 use Rattle.steps.specs.declared.Origin.{Origin}
@@ -14,7 +14,7 @@ use Rattle.steps.specs.Steps.{same-state, steps, first-state}
 unfoldable pub final-state : Transducer → Transducer → State → Bool
 final-state t u x = is-final (t .finals) (x .left) && is-final (u .finals) (x .right)
 
-unfoldable pub state-weight : Transducer → Transducer → State → ℕ
+unfoldable pub state-weight : Transducer → Transducer → State → Weight
 state-weight t u x = plus (final-weight (t .finals) (x .left)) (final-weight (u .finals) (x .right))
 
 -- The composition, untrimmed, with the states and steps that it was built from.

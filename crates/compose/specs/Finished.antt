@@ -2,14 +2,15 @@
 use mathlib.Core.Path.{_≡_}
 use mathlib.Core.Bool.{Bool, _&&_, not}
 use mathlib.Core.List.{List, []}
-use Prim.Native.Nat.{ℕ, _+_, _-_, _≤_, _<_}
+use Prim.Native.Nat.{ℕ, _+_, _≤_, _<_}
 use lib.Dec.{eqb}
 use lib.ListN.{length, getD}
 use Rattle.wire.specs.Bytes.{filled}
 use Rattle.transducer.specs.declared.Final.{Final}
 use Rattle.transducer.specs.declared.Written.{Written}
-use Rattle.transducer.specs.Format.{max-states, max-arcs, max-weight, max-bytes, max-origins, arcs-at, refusal, decode}
-use Rattle.transducer.specs.Weight.{plus}
+use Rattle.transducer.specs.Format.{max-states, max-arcs, max-bytes, max-origins, arcs-at, refusal, decode}
+use Rattle.transducer.specs.Weight.{Weight, plus, weight-of}
+use Rattle.transducer.specs.Leaf.{max-code}
 use Rattle.explore.specs.declared.Walk.{Walk}
 use Rattle.explore.specs.Explore.{finals-from}
 use Rattle.explore.specs.Walk.{Told}
@@ -20,8 +21,8 @@ use Rattle.compose.specs.Walk.{key-walk}
 unfoldable pub key-final : (lcodes rcodes : List ℕ) → (key : ℕ) → Bool
 key-final ls rs k = not (eqb (getD ls (unpacked k .left) 0) 0) && not (eqb (getD rs (unpacked k .right) 0) 0)
 
-unfoldable pub key-weight : (lcodes rcodes : List ℕ) → (key : ℕ) → ℕ
-key-weight ls rs k = plus (getD ls (unpacked k .left) 0 - 1) (getD rs (unpacked k .right) 0 - 1)
+unfoldable pub key-weight : (lcodes rcodes : List ℕ) → (key : ℕ) → Weight
+key-weight ls rs k = plus (weight-of (getD ls (unpacked k .left) 0)) (weight-of (getD rs (unpacked k .right) 0))
 
 abbrev pub key-finals : (lcodes rcodes keys : List ℕ) → List Final
 key-finals ls rs keys = finals-from (key-final ls rs) (key-weight ls rs) 0 keys
@@ -32,8 +33,8 @@ pub record Finishable (lcodes rcodes states : List ℕ) (count : ℕ) (table : L
   pub stored : count ≤ length states
   pub room : arcs-at max-states ≤ length table
   pub keys : (i : ℕ) → i < count → Bounded (unpacked (getD states i 0))
-  pub left : (s : ℕ) → s < max-states → getD lcodes s 0 ≤ max-weight + 1
-  pub right : (s : ℕ) → s < max-states → getD rcodes s 0 ≤ max-weight + 1
+  pub left : (s : ℕ) → s < max-states → getD lcodes s 0 ≤ max-code
+  pub right : (s : ℕ) → s < max-states → getD rcodes s 0 ≤ max-code
 
 -- A refusal once the buffers have been written to.
 pub record Refused-with (number : ℕ) (r : Written) (a a' b b' c c' : List ℕ) : Type 0 where

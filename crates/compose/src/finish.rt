@@ -34,7 +34,7 @@ pub fn put_finals(
         s += 1;
         if a != 0 {
             if b != 0 {
-                let weight = (a - 1) + (b - 1);
+                let weight = transducer::weight_of(a) + transducer::weight_of(b);
                 let f = Final {
                     state: state,
                     weight: weight,

@@ -7,7 +7,7 @@ use lib.ListN.{length, getD}
 use Rattle.wire.proofs.Bool.{and-true}
 use Rattle.transducer.specs.Format.{Transducer}
 use Rattle.transducer.specs.Path.{runs, ends, accepts, is-final, read-by, written-by, arcs-cost, path-cost}
-use Rattle.transducer.specs.Weight.{plus}
+use Rattle.transducer.specs.Weight.{plus, Weight}
 use Rattle.explore.specs.Explore.{Step, Decides, Built, built}
 use Rattle.explore.proofs.Parts.{built-start, built-some, built-first, built-final, built-final-weight}
 use Rattle.explore.proofs.Trails.{Trail, inputs, outputs, weights, along, Once, read-along, written-along, cost-along, along-once, path-trail, trail-path}
@@ -17,7 +17,7 @@ pub record Accepting {A O : Type 0} (steps : A → List (Step A O)) (final : A �
   pub trail : Trail steps first ss y
   pub final-end : final y ≡ true
 
-module _ {A O : Type 0} (same : A → A → Bool) (steps : A → List (Step A O)) (final : A → Bool) (weight : A → ℕ) (first : A) where
+module _ {A O : Type 0} (same : A → A → Bool) (steps : A → List (Step A O)) (final : A → Bool) (weight : A → Weight) (first : A) where
   abbrev b : Built A O
   b = built same steps final weight first
 

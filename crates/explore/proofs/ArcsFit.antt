@@ -2,16 +2,20 @@
 use mathlib.Core.Path.{_≡_}
 use mathlib.Core.Bool.{Bool, true, _&&_}
 use mathlib.Core.List.{List}
-use Prim.Native.Nat.{ℕ, _≤_, _<_}
+use Prim.Native.Nat.{ℕ, _^_, _≤_, _<_}
 use native.Mathlib.Omega.{arith}
 use lib.Dec.{ltb}
 use lib.ListN.{length, getD}
+use lib.Signed.{mag}
+use mir.Syntax.{w32}
+use mir.Val.{SFits}
 use borrow.Author.Tests.{ltb-true, lt-ltb}
 use Rattle.wire.specs.Bytes.{every}
 use Rattle.wire.proofs.Places.{every-getD}
 use Rattle.wire.proofs.Bool.{and-true}
 use Rattle.transducer.specs.declared.Arc.{Arc}
 use Rattle.transducer.specs.Format.{Transducer, barred, labels-good, states-good, all-labels-good}
+use Rattle.transducer.specs.Weight.{Weight}
 use Rattle.explore.specs.Explore.{Step, Decides, Built, built}
 use Rattle.explore.proofs.Member.{Mem}
 use Rattle.explore.proofs.Parts.{built-states}
@@ -23,22 +27,23 @@ pub record Arc-fits (a : Arc) : Type 0 where
   pub input : a .input < 65536
   pub output : a .output < 65536
   pub target : a .target < 65536
-  pub weight : a .weight < 4294967296
+  pub weight : SFits w32 (a .weight)
 
--- Each step of a reached state has a weight below a bound.
-abbrev pub Weighing : {A O : Type 0} → (bound : ℕ) → (steps : A → List (Step A O)) → Type 0
-Weighing {A} {O} bound steps = (x : A) (s : Step A O) → Mem s (steps x) → s .weight < bound
+-- Each step of a reached state has a weight of 32 bits.
+abbrev pub Weighing : {A O : Type 0} → (steps : A → List (Step A O)) → Type 0
+Weighing {A} {O} steps = (x : A) (s : Step A O) → Mem s (steps x) → SFits w32 (s .weight)
 
-module _ {A O : Type 0} (same : A → A → Bool) (steps : A → List (Step A O)) (final : A → Bool) (weight : A → ℕ) (first : A) where
+module _ {A O : Type 0} (same : A → A → Bool) (steps : A → List (Step A O)) (final : A → Bool) (weight : A → Weight) (first : A) where
   abbrev b : Built A O
   b = built same steps final weight first
 
-  built-weights : (bound : ℕ) → Weighing bound steps → every (λ a. ltb (a .weight) bound) (b .result .arcs) ≡ true
+  built-weights : Weighing steps → every (λ a. ltb (mag (a .weight)) (2 ^ 31)) (b .result .arcs) ≡ true
   unfolding built
-  built-weights bound light =
-      every-arc same (b .states) (λ a. ltb (a .weight) bound) steps 0 (b .states) (λ k x s h m. lt-ltb (s .weight) bound (light x s m))
+  built-weights light =
+      every-arc same (b .states) (λ a. ltb (mag (a .weight)) (2 ^ 31)) steps 0 (b .states)
+      (λ k x s h m. lt-ltb (mag (s .weight)) (2 ^ 31) (light x s m .sfits))
 
-  pub built-fits : Decides same → length (b .states) ≤ 1024 → Labelled steps → Weighing 4294967296 steps → (k : ℕ) (d : Arc)
+  pub built-fits : Decides same → length (b .states) ≤ 1024 → Labelled steps → Weighing steps → (k : ℕ) (d : Arc)
       → k < length (b .result .arcs) → Arc-fits (getD (b .result .arcs) k d)
   unfolding states-good all-labels-good labels-good
   built-fits right few labelled light k d l =
@@ -58,5 +63,8 @@ module _ {A O : Type 0} (same : A → A → Bool) (steps : A → List (Step A O)
         input = omega (arith, ltb-true (a .input) barred (labels .0));
         output = omega (arith, ltb-true (a .output) barred (labels .1));
         target = omega (arith, ltb-true (a .target) (z .states) (ends .1));
-        weight = ltb-true (a .weight) 4294967296 (every-getD (λ a. ltb (a .weight) 4294967296) (z .arcs) k d (built-weights 4294967296 light) l);
+        weight =
+            record {
+              sfits = ltb-true (mag (a .weight)) (2 ^ 31) (every-getD (λ a. ltb (mag (a .weight)) (2 ^ 31)) (z .arcs) k d (built-weights light) l);
+            };
       }

@@ -15,6 +15,7 @@ use Rattle.wire.proofs.Bool.{and-true, true-and, by-test, passed-last, not-rais
 use Rattle.transducer.specs.declared.Arc.{Arc}
 use Rattle.transducer.specs.Format.{Transducer, barred, head-good, states-good, sources-stay, order-good, labels-good, all-labels-good, weights-good, first-of, content-refusal, Good}
 use Rattle.transducer.proofs.GoodParts.{good-parts}
+use Rattle.transducer.specs.Weight.{Weight}
 use Rattle.explore.specs.Explore.{Step, Decides, Built, targets, built, built-refusal, place, arcs-here, arcs-from}
 use Rattle.explore.proofs.Member.{At, Mem, at-length, at-getD, mem-here, mem-later, mem-there, place-length}
 use Rattle.explore.proofs.Numbering.{More, numbered-more}
@@ -103,7 +104,7 @@ over-11 t = (
 pub good-unrefused : (t : Transducer) → Good t → Unrefused t
 good-unrefused t g = let p = good-parts t g in record { few-states = p .few-states; few-arcs = p .few-arcs; light = p .weights-are }
 
-module _ {A O : Type 0} (same : A → A → Bool) (steps : A → List (Step A O)) (final : A → Bool) (weight : A → ℕ) (first : A) where
+module _ {A O : Type 0} (same : A → A → Bool) (steps : A → List (Step A O)) (final : A → Bool) (weight : A → Weight) (first : A) where
   abbrev b : Built A O
   b = built same steps final weight first
 

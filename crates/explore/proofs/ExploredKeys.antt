@@ -13,6 +13,7 @@ use borrow.Author.Tests.{eq-eqb, ne-eqb, leb-true, leb-false}
 use Rattle.wire.specs.Bytes.{every}
 use Rattle.transducer.specs.declared.Arc.{Arc}
 use Rattle.transducer.specs.Format.{weight-good}
+use Rattle.transducer.specs.Weight.{Weight}
 use Rattle.explore.specs.Explore.{Decides, Step, there, place, met, served, numbered, targets, Built, built, arcs-here, arcs-from, steps-from}
 use Rattle.explore.specs.Walk.{Keyed, keyed, all-origins, Sofar, with-key, taken, all-taken, state-served, served-from, begun, explored}
 use Rattle.wire.proofs.Bool.{by-test, clash}
@@ -302,7 +303,7 @@ module _ {A O : Type 0} {same : A → A → Bool} {steps : A → List (Step A O)
 
   -- What is built in the end
 
-  module _ (final : A → Bool) (weight : A → ℕ) where
+  module _ (final : A → Bool) (weight : A → Weight) where
     abbrev made : Built A O
     made = built same steps final weight first
 

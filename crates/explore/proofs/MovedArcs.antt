@@ -6,14 +6,16 @@ use native.Mathlib.Nat.{not-suc-le-zero, le-of-suc-le-suc}
 use native.Mathlib.Omega.{arith}
 use lib.ListN.{length, getD, set, take, drop, take-append-drop}
 use lib.Seq.{sets, drop-set-lt, drop-drop, ext-getD}
-use Rattle.wire.specs.Bytes.{two, four, low, places}
-use Rattle.wire.proofs.Low.{two-drop, four-drop, two-low-front, four-low-front}
+use Rattle.wire.specs.Bytes.{two, four, low, signed-four, signed-low, places}
+use Rattle.wire.proofs.Low.{two-drop, two-low-front}
+use Rattle.wire.proofs.Signed.{signed-low-front}
 use Rattle.wire.proofs.Places.{length-places, getD-places}
 use Rattle.transducer.specs.declared.Arc.{Arc}
 use Rattle.transducer.specs.Format.{arc-at, weight-at}
 use Rattle.transducer.specs.Encode.{arc-record, arc-records, weight-bytes}
 use Rattle.transducer.specs.Path.{no-arc}
 use Rattle.transducer.proofs.Encode.{sets-arcs, sets-no-arcs, length-arc-records}
+use Rattle.transducer.proofs.RoundTrip.{weight-there}
 use Rattle.explore.specs.Walk.{stored-arc, stored-arcs}
 use Rattle.explore.proofs.ArcsFit.{Arc-fits}
 
@@ -24,10 +26,10 @@ drop-sets-before n l i (v ∷ vs) h = drop-sets-before n (set l i v) (suc i) vs 
 
 -- An arc is read from what stands from its place on.
 arc-there : (bs xs : List ℕ) (at : ℕ) → drop at bs ≡ xs → arc-at bs at ≡ arc-at xs 0
-unfolding arc-at weight-at
+unfolding arc-at
 arc-there bs xs at e =
     let word : (i : ℕ) → two bs (at + i) ≡ two xs i = λ i. sym (two-drop bs at i) ∙ ap (λ (l : List ℕ). two l i) e in
-    let weight : four bs (at + 12) ≡ four xs 12 = sym (four-drop bs at 12) ∙ ap (λ (l : List ℕ). four l 12) e in
+    let weight : weight-at bs (at + 12) ≡ weight-at xs 12 = weight-there bs xs at 12 e in
     rw (word 4, word 6, word 8, word 10, weight)
 
 -- The loop
@@ -53,17 +55,17 @@ moved-next table₀ table table' first j a low' is loaded put =
 -- What stands there
 
 arc-read : (a : Arc) (rest : List ℕ) → Arc-fits a → arc-at (arc-record a ++ rest) 0 ≡ a
-unfolding arc-at weight-at arc-record weight-bytes two four low
+unfolding arc-at weight-at arc-record weight-bytes signed-four signed-low two four low
 arc-read a rest fits =
     let source : two (arc-record a ++ rest) 4 ≡ a .source = two-low-front (a .source) [] (fits .source) in
     let input : two (arc-record a ++ rest) 6 ≡ a .input = two-low-front (a .input) [] (fits .input) in
     let output : two (arc-record a ++ rest) 8 ≡ a .output = two-low-front (a .output) [] (fits .output) in
     let target : two (arc-record a ++ rest) 10 ≡ a .target = two-low-front (a .target) [] (fits .target) in
-    let weight : four (arc-record a ++ rest) 12 ≡ a .weight = four-low-front (a .weight) [] (omega (arith, fits .weight)) in
+    let weight : weight-at (arc-record a ++ rest) 12 ≡ a .weight = signed-low-front (a .weight) [] (fits .weight) in
     λ k. record { source = source k; input = input k; output = output k; target = target k; weight = weight k }
 
 record-next : (a : Arc) (rest : List ℕ) → drop 16 (arc-record a ++ rest) ≡ rest
-unfolding arc-record weight-bytes low
+unfolding arc-record weight-bytes signed-low low
 record-next a rest = refl
 
 arcs-there : (as' : List Arc) (bs rest : List ℕ) (at i : ℕ) (d : Arc) → i < length as' → drop at bs ≡ arc-records as' ++ rest → Arc-fits (getD as' i d)

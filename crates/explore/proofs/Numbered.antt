@@ -11,6 +11,7 @@ use Rattle.explore.proofs.Numbering.{Reach, More, numbered-distinct, nu
 use Rattle.explore.proofs.Order.{built-is-met, built-first-met}
 use Rattle.explore.proofs.Parts.{built-first}
 use Rattle.explore.proofs.Built.{unrefused-few}
+use Rattle.transducer.specs.Weight.{Weight}
 
 -- Steps lead from the first state to a state.
 abbrev pub Reached : {A O : Type 0} → (steps : A → List (Step A O)) → (first : A) → A → Type 0
@@ -30,7 +31,7 @@ pub record Numbered {A O : Type 0} (same : A → A → Bool) (steps : A → List
   pub is-met : (i : ℕ) → i < length states → Mem (getD states i first) met
   pub in-order : (i j : ℕ) → i < j → j < length states → place same (getD states i first) met < place same (getD states j first) met
 
-module _ {A O : Type 0} (same : A → A → Bool) (steps : A → List (Step A O)) (final : A → Bool) (weight : A → ℕ) (first : A) (right : Decides same) where
+module _ {A O : Type 0} (same : A → A → Bool) (steps : A → List (Step A O)) (final : A → Bool) (weight : A → Weight) (first : A) (right : Decides same) where
   abbrev b : Built A O
   b = built same steps final weight first
 

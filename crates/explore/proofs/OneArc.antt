@@ -11,6 +11,7 @@ use Rattle.wire.proofs.Bool.{and-true}
 use Rattle.transducer.specs.declared.Arc.{Arc}
 use Rattle.transducer.specs.Format.{Transducer}
 use Rattle.transducer.specs.Path.{no-arc, arc, runs}
+use Rattle.transducer.specs.Weight.{Weight}
 use Rattle.explore.specs.Explore.{Step, Decides, Built, targets, built, place}
 use Rattle.explore.proofs.Member.{At, Mem, at-length, at-getD, getD-at, mem-getD, mem-map, mem-there, place-getD}
 use Rattle.explore.proofs.Numbering.{numbered-closed}
@@ -41,7 +42,7 @@ pub record By-step {A O : Type 0} (same : A → A → Bool) (steps : A → List 
   pub step-is : At (b .steps) j s
   pub arc-is : arc (b .result) j ≡ arc-of same (b .states) i s
 
-module _ {A O : Type 0} (same : A → A → Bool) (steps : A → List (Step A O)) (final : A → Bool) (weight : A → ℕ) (first : A) where
+module _ {A O : Type 0} (same : A → A → Bool) (steps : A → List (Step A O)) (final : A → Bool) (weight : A → Weight) (first : A) where
   abbrev b : Built A O
   b = built same steps final weight first
 

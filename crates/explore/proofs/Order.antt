@@ -10,6 +10,7 @@ use lib.ListN.{length, getD, take}
 use lib.Seq.{take-all, take-suc, take-append-le}
 use borrow.Author.Tests.{leb-true, leb-false}
 use Rattle.transducer.specs.Format.{max-states}
+use Rattle.transducer.specs.Weight.{Weight}
 use Rattle.explore.specs.Explore.{Step, Decides, Built, there, place, met, served, numbered, targets, steps-from, built}
 use Rattle.wire.proofs.Bool.{by-test, clash}
 use Rattle.explore.proofs.Member.{Mem, mem-left, mem-later, place-length, place-left, place-right}
@@ -135,7 +136,7 @@ numbered-is-met {A} same next first few x m =
     ⊎-elim (λ h. mem-left ys h) (λ h. mem-later first h)
     (met-mem same ys (first ∷ []) (subst (λ (l : List A). Mem x l) (numbered-met same next first few) m))
 
-module _ {A O : Type 0} {same : A → A → Bool} (right : Decides same) (steps : A → List (Step A O)) (final : A → Bool) (weight : A → ℕ) (first : A) where
+module _ {A O : Type 0} {same : A → A → Bool} (right : Decides same) (steps : A → List (Step A O)) (final : A → Bool) (weight : A → Weight) (first : A) where
   abbrev b : Built A O
   b = built same steps final weight first
 

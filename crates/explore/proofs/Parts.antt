@@ -6,13 +6,14 @@ use Prim.Native.Nat.{ℕ, _≤_, _<_}
 use native.Mathlib.Nat.{zero-add}
 use lib.ListN.{length, getD}
 use Rattle.transducer.specs.Path.{is-final, final-weight}
+use Rattle.transducer.specs.Weight.{Weight}
 use Rattle.explore.specs.Explore.{Step, Built, targets, built}
 use Rattle.explore.proofs.Member.{getD-at}
 use Rattle.explore.proofs.Numbering.{numbered-some, numbered-first}
 use Rattle.explore.proofs.Arcs.{length-arcs-from}
 use Rattle.explore.proofs.Finals.{is-final-at, final-weight-at, length-finals-from}
 
-module _ {A O : Type 0} (same : A → A → Bool) (steps : A → List (Step A O)) (final : A → Bool) (weight : A → ℕ) (first : A) where
+module _ {A O : Type 0} (same : A → A → Bool) (steps : A → List (Step A O)) (final : A → Bool) (weight : A → Weight) (first : A) where
   abbrev b : Built A O
   b = built same steps final weight first
 

@@ -12,13 +12,14 @@ use Rattle.transducer.specs.declared.Final.{Final}
 use Rattle.transducer.specs.Format.{weight-good}
 use Rattle.transducer.specs.Encode.{final-record, final-records}
 use Rattle.transducer.proofs.Encode.{sets-then, length-final-records, final-records-append}
+use Rattle.transducer.specs.Weight.{Weight}
 use Rattle.explore.specs.Explore.{finals-from}
 use Rattle.explore.specs.Walk.{Finals-stored}
 use Rattle.wire.proofs.Places.{not-every-snoc}
 use Rattle.explore.proofs.Finals.{finals-from-append}
 
 -- The finals of the first s keys are written; `final` and `weight` read a key.
-pub record Finishing (final : ℕ → Bool) (weight : ℕ → ℕ) (states : List ℕ) (count : ℕ) (table₀ table : List ℕ) (finals : ℕ) (dear : Bool) (s : ℕ)
+pub record Finishing (final : ℕ → Bool) (weight : ℕ → Weight) (states : List ℕ) (count : ℕ) (table₀ table : List ℕ) (finals : ℕ) (dear : Bool) (s : ℕ)
     : Type 0 where
   pub within : s ≤ count
   pub few : finals ≤ s
@@ -27,7 +28,7 @@ pub record Finishing (final : ℕ → Bool) (weight : ℕ → ℕ) (states : Lis
   pub dear-is : dear ≡ not (every (λ f. weight-good (f .weight)) (finals-from final weight 0 (take s states)))
   pub stored : table ≡ sets table₀ 12 (final-records (finals-from final weight 0 (take s states)))
 
-module _ (final : ℕ → Bool) (weight : ℕ → ℕ) (states : List ℕ) where
+module _ (final : ℕ → Bool) (weight : ℕ → Weight) (states : List ℕ) where
   pub finishing-first : (count : ℕ) (table : List ℕ) → Finishing final weight states count table table 0 false 0
   unfolding finals-from every final-records
   finishing-first count table = record { within = omega arith; few = omega arith; kept = refl; count-is = refl; dear-is = refl; stored = refl }
@@ -64,7 +65,7 @@ module _ (final : ℕ → Bool) (weight : ℕ → ℕ) (states : List ℕ) where
           }
 
       -- It is that of a final state, and is written.
-      pub finishing-more : (table' : List ℕ) (value : ℕ) (ok : Bool) → final (getD states s 0) ≡ true → value ≡ weight (getD states s 0)
+      pub finishing-more : (table' : List ℕ) (value : Weight) (ok : Bool) → final (getD states s 0) ≡ true → value ≡ weight (getD states s 0)
           → table' ≡ sets table (12 + 10 * finals) (final-record (record { state = s; weight = value })) → length table' ≡ length table
           → ok ≡ weight-good value → Finishing final weight states count table₀ table' (finals + 1) (dear || not ok) (s + 1)
       unfolding finals-from final-records every
@@ -74,7 +75,7 @@ module _ (final : ℕ → Bool) (weight : ℕ → ℕ) (states : List ℕ) where
           let more : finals-from final weight 0 (take (s + 1) states) ≡ fs ++ (f ∷ []) =
           rw add-one
           (one-more s (omega arith)
-          ∙ (rw final-is (ap (λ (w : ℕ). fs ++ (record { state = s; weight = w } ∷ [])) (sym value-is)))) in
+          ∙ (rw final-is (ap (λ (w : Weight). fs ++ (record { state = s; weight = w } ∷ [])) (sym value-is)))) in
           record {
             within = omega arith;
             few = omega (arith, inv .few);

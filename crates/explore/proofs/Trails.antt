@@ -7,7 +7,7 @@ use native.Mathlib.Omega.{arith}
 use lib.ListN.{length, getD}
 use Rattle.transducer.specs.declared.Arc.{Arc}
 use Rattle.transducer.specs.Path.{arc, runs, ends, non-empty, read-by, written-by, arcs-cost}
-use Rattle.transducer.specs.Weight.{no-weight, plus}
+use Rattle.transducer.specs.Weight.{no-weight, plus, Weight}
 use Rattle.explore.specs.Explore.{Step, Decides, Built, built}
 use Rattle.explore.proofs.Member.{At, Mem, at-getD, getD-at}
 use Rattle.explore.proofs.Arcs.{before}
@@ -28,7 +28,7 @@ unfoldable pub outputs : {A O : Type 0} → List (Step A O) → List ℕ
 outputs [] = []
 outputs (s ∷ ss) = non-empty (s .output) (outputs ss)
 
-unfoldable pub weights : {A O : Type 0} → List (Step A O) → ℕ
+unfoldable pub weights : {A O : Type 0} → List (Step A O) → Weight
 weights [] = no-weight
 weights (s ∷ ss) = plus (s .weight) (weights ss)
 
@@ -45,7 +45,7 @@ pub trail-end : {A O : Type 0} (steps : A → List (Step A O)) (x : A) (ss : Lis
 trail-end steps x [] y z t u = sym t ∙ u
 trail-end steps x (s ∷ ss) y z t u = trail-end steps (s .target) ss y z (t .1) (u .1)
 
-module _ {A O : Type 0} (same : A → A → Bool) (steps : A → List (Step A O)) (final : A → Bool) (weight : A → ℕ) (first : A) (d : Step A O) where
+module _ {A O : Type 0} (same : A → A → Bool) (steps : A → List (Step A O)) (final : A → Bool) (weight : A → Weight) (first : A) (d : Step A O) where
   abbrev b : Built A O
   b = built same steps final weight first
 

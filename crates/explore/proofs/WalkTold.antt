@@ -12,6 +12,7 @@ use Rattle.transducer.specs.declared.Arc.{Arc}
 use Rattle.transducer.specs.Format.{Transducer, weight-good}
 use Rattle.transducer.specs.Encode.{head-record, final-records, arc-records, encode}
 use Rattle.transducer.proofs.Encode.{length-final-records, length-encode, cleared-sets}
+use Rattle.transducer.specs.Weight.{Weight}
 use Rattle.explore.specs.declared.Walk.{Walk}
 use Rattle.explore.specs.Explore.{Step, Built, built, built-refusal, finals-from}
 use Rattle.explore.specs.Walk.{Keyed, all-origins, explored, Told, stored-arcs}
@@ -34,7 +35,7 @@ length-all-origins width os wide (s ∷ ss) =
     ∙ (rw (wide (s .origin), length-all-origins width os wide ss, mul-suc width (length ss)) (omega arith))
 
 -- Finals by keys are those by states, where they are so for each state.
-finals-from-keys : {A : Type 0} (pack : A → ℕ) (final : A → Bool) (final' : ℕ → Bool) (weight : A → ℕ) (weight' : ℕ → ℕ) (i : ℕ) (xs : List A)
+finals-from-keys : {A : Type 0} (pack : A → ℕ) (final : A → Bool) (final' : ℕ → Bool) (weight : A → Weight) (weight' : ℕ → Weight) (i : ℕ) (xs : List A)
     → ((x : A) → Mem x xs → final' (pack x) ≡ final x) → ((x : A) → Mem x xs → final x ≡ true → weight' (pack x) ≡ weight x)
     → finals-from final' weight' i (map pack xs) ≡ finals-from final weight i xs
 unfolding finals-from
@@ -48,7 +49,7 @@ finals-from-keys pack final final' weight weight' i (x ∷ xs) f w =
     on false e more = rw (f x (mem-here x xs), e, more)
 
 module _ {A O : Type 0} {same : A → A → Bool} {steps : A → List (Step A O)} {first : A} {pack : A → ℕ} {os : O → List ℕ} {next : ℕ → List Keyed}
-    {Within : A → Type 0} (k : Keying same steps first pack os next Within) (final : A → Bool) (weight : A → ℕ) where
+    {Within : A → Type 0} (k : Keying same steps first pack os next Within) (final : A → Bool) (weight : A → Weight) where
   abbrev made : Built A O
   made = built same steps final weight first
 
@@ -99,7 +100,7 @@ module _ {A O : Type 0} {same : A → A → Bool} {steps : A → List (Step A O)
         }
 
     -- Their finals, where what is read from a key is right for its state.
-    pub told-key-finals : (final' : ℕ → Bool) (weight' : ℕ → ℕ) → ((x : A) → Within x → final' (pack x) ≡ final x)
+    pub told-key-finals : (final' : ℕ → Bool) (weight' : ℕ → Weight) → ((x : A) → Within x → final' (pack x) ≡ final x)
         → ((x : A) → Within x → final x ≡ true → weight' (pack x) ≡ weight x)
         → finals-from final' weight' 0 (take (w .states) states) ≡ z .finals
     unfolding built
@@ -125,7 +126,7 @@ module _ {A O : Type 0} {same : A → A → Bool} {steps : A → List (Step A O)
       told-0 cheap light = built-0 z few-states (omega (arith, arcs-long)) (none-dear z (sym told-dear ∙ cheap) light)
 
       -- The arcs stand where they were written, once the finals are stored in front of them.
-      pub arcs-stored : Labelled steps → Weighing 4294967296 steps → (t1 : List ℕ) → t1 ≡ sets table 12 (final-records (z .finals))
+      pub arcs-stored : Labelled steps → Weighing steps → (t1 : List ℕ) → t1 ≡ sets table 12 (final-records (z .finals))
           → stored-arcs t1 (w .arcs) ≡ z .arcs
       arcs-stored labelled light t1 finals =
           let behind : drop 10252 t1 ≡ drop 10252 table =
@@ -146,7 +147,7 @@ module _ {A O : Type 0} {same : A → A → Bool} {steps : A → List (Step A O)
       length-written f is = length-encode z ∙ omega (arith, is, arcs-long)
 
       -- The finals, the arcs moved behind them, the head and zeros behind are the transducer's bytes.
-      pub table-written : Labelled steps → Weighing 4294967296 steps → (f : ℕ) (t1 t2 t3 t4 : List ℕ) → f ≡ length (z .finals)
+      pub table-written : Labelled steps → Weighing steps → (f : ℕ) (t1 t2 t3 t4 : List ℕ) → f ≡ length (z .finals)
           → 12 + 10 * f + 16 * w .arcs ≤ length table → t1 ≡ sets table 12 (final-records (z .finals))
           → t2 ≡ sets t1 (12 + 10 * f) (arc-records (stored-arcs t1 (w .arcs)))
           → t3 ≡ sets t2 0 (head-record (w .states) (w .arcs) f 0)

@@ -10,6 +10,7 @@ use Rattle.wire.specs.Bytes.{filled}
 use Rattle.transducer.specs.declared.Arc.{Arc}
 use Rattle.transducer.specs.declared.Final.{Final}
 use Rattle.transducer.specs.Format.{Transducer, max-states, max-arcs, weights-good}
+use Rattle.transducer.specs.Weight.{Weight}
 
 -- A test that two states are the same is right.
 pub record Decides {A : Type 0} (same : A → A → Bool) : Type 0 where
@@ -21,7 +22,7 @@ pub record Step (A O : Type 0) : Type 0 where
   pub target : A
   pub input : ℕ
   pub output : ℕ
-  pub weight : ℕ
+  pub weight : Weight
   pub origin : O
 
 -- Whether a state stands in a list, and its place there (the list's length where it does not).
@@ -62,7 +63,7 @@ unfoldable pub arcs-from : {A O : Type 0} → (same : A → A → Bool) → (ste
 arcs-from same steps all i [] = []
 arcs-from same steps all i (x ∷ xs) = arcs-here same all i (steps x) ++ arcs-from same steps all (suc i) xs
 
-unfoldable pub finals-from : {A : Type 0} → (final : A → Bool) → (weight : A → ℕ) → (i : ℕ) → List A → List Final
+unfoldable pub finals-from : {A : Type 0} → (final : A → Bool) → (weight : A → Weight) → (i : ℕ) → List A → List Final
 finals-from final weight i [] = []
 finals-from final weight i (x ∷ xs) =
     cond (final x) (record { state = i; weight = weight x } ∷ finals-from final weight (suc i) xs) (finals-from final weight (suc i) xs)
@@ -78,7 +79,8 @@ pub record Built (A O : Type 0) : Type 0 where
   pub steps : List (Step A O)
   pub result : Transducer
 
-unfoldable pub built : {A O : Type 0} → (same : A → A → Bool) → (steps : A → List (Step A O)) → (final : A → Bool) → (weight : A → ℕ) → (first : A) → Built A O
+unfoldable pub built : {A O : Type 0} → (same : A → A → Bool) → (steps : A → List (Step A O)) → (final : A → Bool) → (weight : A → Weight) → (first : A)
+    → Built A O
 built same steps final weight first =
     let xs = numbered same (λ x. targets (steps x)) first in
     record {

@@ -12,6 +12,7 @@ use Rattle.transducer.specs.declared.Arc.{Arc}
 use Rattle.transducer.specs.declared.Final.{Final}
 use Rattle.transducer.specs.Format.{max-states, max-arcs, max-bytes, head-bytes, arc-bytes, arcs-at, weight-good, arc-at}
 use Rattle.transducer.specs.Encode.{final-records, arc-records}
+use Rattle.transducer.specs.Weight.{Weight}
 use Rattle.explore.specs.declared.FinalsPut.{FinalsPut}
 use Rattle.explore.specs.declared.Walk.{Walk}
 use Rattle.explore.specs.Explore.{Step, there, place}
@@ -22,7 +23,7 @@ pub record Keyed : Type 0 where
   pub target : ℕ
   pub input : ℕ
   pub output : ℕ
-  pub weight : ℕ
+  pub weight : Weight
   pub origins : List ℕ
 
 -- A step between states as a step by keys.

@@ -4,6 +4,7 @@ use mathlib.Core.List.{List}
 use lib.ListN.{getD}
 use Rattle.transducer.specs.declared.Header.{Header}
 use Rattle.transducer.specs.declared.Written.{Written}
+use Rattle.transducer.specs.Weight.{Weight, no-weight, magnitude}
 use Rattle.paths.specs.declared.Counted.{Counted}
 use Rattle.paths.specs.declared.Told.{Told}
 use Rattle.listing.specs.declared.Listed.{Listed}
@@ -18,9 +19,10 @@ written r l = record { refusal = r; len = l }
 abbrev pub counted : (refusal count : ℕ) → Counted
 counted r n = record { refusal = r; count = n }
 
--- What is told of a path in its order: cost, arcs, labels.
-abbrev pub told : (refusal : ℕ) → (numbers : List ℕ) → Told
-told r h = record { refusal = r; cost = getD h 0 0; arcs = getD h 1 0; labels = getD h 2 0 }
+-- What is told of a path in its order: cost, arcs, labels. All three are signed, as the cost is; the other two are never below 0.
+abbrev pub told : (refusal : ℕ) → (numbers : List Weight) → Told
+told r h =
+    record { refusal = r; cost = getD h 0 no-weight; arcs = magnitude (getD h 1 no-weight); labels = magnitude (getD h 2 no-weight) }
 
 abbrev pub listed : (refusal len said : ℕ) → Listed
 listed r l s = record { refusal = r; len = l; said = s }

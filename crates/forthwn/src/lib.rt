@@ -27,9 +27,9 @@ pub extern "C" fn forthwn_refusal(bytes: &[u8]) -> u32
 pub extern "C" fn forthwn_read(
     bytes: &[u8],
     final_states: &mut [u16],
-    final_weights: &mut [u32],
+    final_weights: &mut [i32],
     fields: &mut [u16],
-    arc_weights: &mut [u32],
+    arc_weights: &mut [i32],
     head: &mut [u32; 4],
 ) -> u32
     ensures { λ r. ⌜ Read-says (now (bytes .entry))
@@ -52,9 +52,9 @@ pub extern "C" fn forthwn_write(
     f: u32,
     start: u32,
     final_states: &[u16],
-    final_weights: &[u32],
+    final_weights: &[i32],
     fields: &[u16],
-    arc_weights: &[u32],
+    arc_weights: &[i32],
     out: &mut [u8],
     len: &mut u32,
 ) -> u32
@@ -156,14 +156,14 @@ pub extern "C" fn forthwn_nth(
     k: u32,
     arcs: &mut [u16],
     labels: &mut [u16],
-    numbers: &mut [u64; 3],
+    numbers: &mut [i64; 3],
 ) -> u32
     ensures { λ r. ⌜ Nth-says (now (table .entry)) k
         (nth-refusal (now (table .entry)) k (length (now (arcs .entry))) (length (now (labels .entry))))
         (told r (now (numbers .exit))) (now (arcs .entry)) (now (arcs .exit)) (now (labels .entry)) (now (labels .exit)) ⌝ }
 {
     let answer = paths::nth_path(table, k, arcs, labels);
-    *numbers = [answer.cost, answer.arcs as u64, answer.labels as u64];
+    *numbers = [answer.cost, answer.arcs as i64, answer.labels as i64];
     answer.refusal
 }
 
@@ -174,14 +174,14 @@ pub extern "C" fn forthwn_shortest(
     table: &[u8],
     arcs: &mut [u16],
     labels: &mut [u16],
-    numbers: &mut [u64; 3],
+    numbers: &mut [i64; 3],
 ) -> u32
     ensures { λ r. ⌜ Shortest-says (now (table .entry))
         (shortest-refusal (now (table .entry)) (length (now (arcs .entry))) (length (now (labels .entry))))
         (told r (now (numbers .exit))) (now (arcs .entry)) (now (arcs .exit)) (now (labels .entry)) (now (labels .exit)) ⌝ }
 {
     let answer = shortest::shortest_path(table, arcs, labels);
-    *numbers = [answer.cost, answer.arcs as u64, answer.labels as u64];
+    *numbers = [answer.cost, answer.arcs as i64, answer.labels as i64];
     answer.refusal
 }
 

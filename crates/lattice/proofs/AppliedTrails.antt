@@ -62,7 +62,7 @@ leads-empty cs t x i ss y below leaves empty l =
       within = l .within;
       reads = empty-passed 0 (inputs ss) refl ∙ l .reads ∙ sym (empty-passed (arc t i .input) (read-by t (numbers ss)) empty);
       writes = ap (non-empty (arc t i .output)) (l .writes);
-      costs = ap (λ (n : ℕ). arc t i .weight + n) (l .costs);
+      costs = ap (plus (arc t i .weight)) (l .costs);
     }
 
 leads-symbol : (cs : List ℕ) (t : Transducer) (x : State) (i : ℕ) (ss : List (Step State ℕ)) (y : State) → i < length (t .arcs)
@@ -80,7 +80,7 @@ leads-symbol cs t x i ss y below leaves symbol here fit l =
       within = λ h. l .within (omega arith);
       reads = ap₂ non-empty (sym fit) (l .reads);
       writes = ap (non-empty (arc t i .output)) (l .writes);
-      costs = ap (λ (n : ℕ). arc t i .weight + n) (l .costs);
+      costs = ap (plus (arc t i .weight)) (l .costs);
     }
 
 leads-step : (cs : List ℕ) (t : Transducer) (x : State) (s : Step State ℕ) (ss : List (Step State ℕ)) (y : State) (i : ℕ) → i < length (t .arcs)

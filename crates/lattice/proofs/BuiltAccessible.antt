@@ -9,6 +9,7 @@ use Rattle.transducer.specs.declared.Arc.{Arc}
 use Rattle.transducer.specs.Format.{max-states, Transducer}
 use Rattle.transducer.specs.Path.{arc}
 use Rattle.transducer.proofs.Runs.{Within}
+use Rattle.transducer.specs.Weight.{Weight}
 use Rattle.explore.specs.Explore.{Step, Decides, Built, targets, built}
 use Rattle.explore.proofs.Arcs.{before}
 use Rattle.explore.proofs.Member.{At, Mem, map-mem}
@@ -20,7 +21,7 @@ use Rattle.reach.specs.Reach.{accessible, All-accessible}
 use Rattle.reach.proofs.Reach.{accessible-start}
 use Rattle.reach.proofs.Closure.{accessible-passes}
 
-module _ {A O : Type 0} (same : A → A → Bool) (steps : A → List (Step A O)) (final : A → Bool) (weight : A → ℕ) (first : A) (right : Decides same) where
+module _ {A O : Type 0} (same : A → A → Bool) (steps : A → List (Step A O)) (final : A → Bool) (weight : A → Weight) (first : A) (right : Decides same) where
   abbrev b : Built A O
   b = built same steps final weight first
 

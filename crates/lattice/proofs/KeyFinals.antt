@@ -14,17 +14,20 @@ use Rattle.wire.proofs.Bool.{and-true}
 use Rattle.transducer.specs.declared.Final.{Final}
 use Rattle.transducer.specs.Format.{max-states, head-bytes, final-bytes, arcs-at, Transducer, Good, weight-good}
 use Rattle.transducer.specs.Encode.{final-record, final-records}
-use Rattle.transducer.specs.Leaf.{Finals-by-state, final-code}
+use Rattle.transducer.specs.Leaf.{Finals-by-state, final-code, max-code}
+use Rattle.transducer.specs.Weight.{Weight, weight-of}
 use Rattle.transducer.specs.Path.{is-final, final-weight}
+use Rattle.transducer.proofs.Finals.{final-code-some, weight-final-code}
+use Rattle.transducer.proofs.RoundTrip.{good-passed}
 use Rattle.explore.specs.Explore.{finals-from}
 use Rattle.explore.proofs.Finals.{finals-from-append}
 use Rattle.explore.proofs.PutFinals.{Finishing, finishing-first, finishing-none, finishing-more, finishing-stop}
 use Rattle.lattice.specs.declared.State.{State}
 use Rattle.lattice.specs.Apply.{final-state}
-use Rattle.lattice.specs.Applying.{key-code, key-finals, State-in}
+use Rattle.lattice.specs.Applying.{key-code, key-finals, Small-codes, State-in}
 use Rattle.lattice.specs.Pack.{pack, unpacked}
 use Rattle.lattice.proofs.KeyParts.{state-small}
-use Rattle.lattice.proofs.Pack.{unpacked-pack}
+use Rattle.lattice.proofs.Pack.{unpacked-pack, unpacked-small}
 
 -- The code of a key
 
@@ -37,12 +40,21 @@ module _ (codes : List ℕ) (last k : ℕ) (x : State) (is : x ≡ unpacked k) w
   unfolding key-code
   code-elsewhere h = rw (← is, ne-eqb (x .position) last h)
 
+-- It is that of a weight, or 0.
+pub key-code-small : (codes : List ℕ) (last k : ℕ) → Small-codes codes → key-code codes last k ≤ max-code
+unfolding key-code
+key-code-small codes last k small = on (eqb (unpacked k .position) last)
+  where
+    on : (b : Bool) → cond b (getD codes (unpacked k .state) 0) 0 ≤ max-code
+    on true = small (unpacked k .state) (unpacked-small k)
+    on false = omega arith
+
 -- Whether the state of a key is final, and its weight, by its code.
 abbrev pub key-final : (codes : List ℕ) → (last k : ℕ) → Bool
 key-final codes last k = not (eqb (key-code codes last k) 0)
 
-abbrev pub key-weight : (codes : List ℕ) → (last k : ℕ) → ℕ
-key-weight codes last k = key-code codes last k - 1
+abbrev pub key-weight : (codes : List ℕ) → (last k : ℕ) → Weight
+key-weight codes last k = weight-of (key-code codes last k)
 
 not-final : (codes : List ℕ) (last k code : ℕ) → code ≡ key-code codes last k → code ≡ 0 → key-final codes last k ≡ false
 not-final codes last k code is z = rw (eq-eqb (key-code codes last k) 0 (sym is ∙ z))
@@ -141,13 +153,13 @@ module _ (codes : List ℕ) (last : ℕ) (states : List ℕ) where
           (inv .0, finishing-none (key-final codes last) (key-weight codes last) states (inv .1) less room (not-final codes last (getD states s 0) code is z))
 
       pub putting-more : (table' : List ℕ) → (code ≡ 0 → ⊥) → {place : ℕ} → place ≡ arcs-at finals
-          → table' ≡ sets table place (final-record (record { state = s; weight = code - 1 })) → length table' ≡ length table
+          → table' ≡ sets table place (final-record (record { state = s; weight = weight-of code })) → length table' ≡ length table
           → Putting codes last states count table₀ table' (finals + 1) (s + 1)
       putting-more table' z there put-there long =
-          let put : table' ≡ sets table (arcs-at finals) (final-record (record { state = s; weight = code - 1 })) = rw there at put-there in (
+          let put : table' ≡ sets table (arcs-at finals) (final-record (record { state = s; weight = weight-of code })) = rw there at put-there in (
             _,
-            finishing-more (key-final codes last) (key-weight codes last) states (inv .1) less room table' (code - 1) (weight-good (code - 1))
-                (is-key-final codes last (getD states s 0) code is z) (ap (λ (n : ℕ). n - 1) is) put long refl,
+            finishing-more (key-final codes last) (key-weight codes last) states (inv .1) less room table' (weight-of code) (weight-good (weight-of code))
+                (is-key-final codes last (getD states s 0) code is z) (ap weight-of is) put long refl,
           )
 
 -- The finals of the states met
@@ -162,17 +174,20 @@ module _ (cs : List ℕ) (t : Transducer) (good : Good t) (codes : List ℕ) (by
       rw (e, by-state .at-state (x .state) small)
 
   pub pack-final : (x : State) → State-in cs t x → key-final codes (length cs) (pack x) ≡ final-state cs t x
-  unfolding final-state final-code
-  pack-final x w = rw (code-pack x w) (on (eqb (x .position) (length cs)) (is-final (t .finals) (x .state)))
+  unfolding final-state
+  pack-final x w = rw (code-pack x w) (on (eqb (x .position) (length cs)))
     where
-      on : (a b : Bool) → not (eqb (cond a (cond b (final-weight (t .finals) (x .state) + 1) 0) 0) 0) ≡ a && b
-      on true true = rw (ne-eqb (final-weight (t .finals) (x .state) + 1) 0 (omega arith))
-      on true false = refl
-      on false b = refl
+      twice : (b : Bool) → not (not b) ≡ b
+      twice true = refl
+      twice false = refl
+
+      on : (a : Bool) → not (eqb (cond a (final-code (t .finals) (x .state)) 0) 0) ≡ a && is-final (t .finals) (x .state)
+      on true = rw (final-code-some (t .finals) (x .state)) (twice (is-final (t .finals) (x .state)))
+      on false = refl
 
   pub pack-weight : (x : State) → State-in cs t x → final-state cs t x ≡ true
       → key-weight codes (length cs) (pack x) ≡ final-weight (t .finals) (x .state)
-  unfolding final-state final-code
+  unfolding final-state
   pack-weight x w f =
       let two = and-true (eqb (x .position) (length cs)) (is-final (t .finals) (x .state)) f in
-      rw (code-pack x w, two .0, two .1) (omega arith)
+      rw (code-pack x w, two .0) (weight-final-code (t .finals) (x .state) (good-passed t good .final-weights) (two .1))

@@ -18,6 +18,8 @@ use Rattle.transducer.specs.Path.{arc, no-arc, final-weight}
 use Rattle.transducer.proofs.GoodParts.{good-parts}
 use Rattle.transducer.proofs.Labels.{Unbarred}
 use Rattle.transducer.proofs.RoundTrip.{refusal-encode, decode-encode}
+use Rattle.transducer.specs.Weight.{Weight}
+use Rattle.transducer.proofs.Finals.{final-weight-good}
 use Rattle.explore.specs.Explore.{Step, built, built-refusal, finals-from}
 use Rattle.explore.proofs.Member.{Mem, mem-in}
 use Rattle.explore.proofs.Built.{Labelled, every-arc, good-built}
@@ -29,19 +31,12 @@ use Rattle.lattice.proofs.SameState.{same-state-decides}
 use Rattle.trim.proofs.TrimmedGood.{trimmed-good}
 
 -- The final weight of a lattice state.
-abbrev pub state-weight : Transducer → State → ℕ
+abbrev pub state-weight : Transducer → State → Weight
 state-weight t x = final-weight (t .finals) (x .state)
 
 -- Weights: those of the transducer's arcs and finals.
 
-final-weight-good : (fs : List Final) (s : ℕ) → every (λ f. weight-good (f .weight)) fs ≡ true → weight-good (final-weight fs s) ≡ true
-unfolding every final-weight weight-good
-final-weight-good [] s h = refl
-final-weight-good (f ∷ fs) s h =
-    let two = and-true (weight-good (f .weight)) (every (λ f. weight-good (f .weight)) fs) h in
-    by-test (eqb (f .state) s) (λ e. rw e (two .0)) (λ e. rw e (final-weight-good fs s (two .1)))
-
-finals-light : {A : Type 0} (final : A → Bool) (weight : A → ℕ) (i : ℕ) (xs : List A) → ((x : A) → weight-good (weight x) ≡ true)
+finals-light : {A : Type 0} (final : A → Bool) (weight : A → Weight) (i : ℕ) (xs : List A) → ((x : A) → weight-good (weight x) ≡ true)
     → every (λ f. weight-good (f .weight)) (finals-from final weight i xs) ≡ true
 unfolding every finals-from
 finals-light final weight i [] h = refl

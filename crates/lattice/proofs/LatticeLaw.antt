@@ -11,7 +11,7 @@ use Rattle.wire.specs.Bytes.{filled}
 use Rattle.wire.proofs.Places.{getD-filled}
 use Rattle.transducer.specs.Format.{max-states, Transducer, Good}
 use Rattle.transducer.specs.Path.{arc, runs, accepts, read-by, written-by, path-cost}
-use Rattle.transducer.specs.Weight.{plus}
+use Rattle.transducer.specs.Weight.{plus, no-weight}
 use Rattle.transducer.proofs.Members.{distinct-places}
 use Rattle.transducer.proofs.Paths.{Runs, runs-cons}
 use Rattle.transducer.proofs.Runs.{accepts-accepting, Within, good-within}
@@ -33,7 +33,7 @@ use Rattle.trim.proofs.TrimmedKeeps.{length-origins}
 
 -- The step that is read where there is none; its origin is 0, as what is read behind a list's end is.
 abbrev no-step : Step State ℕ
-no-step = record { target = record { position = 0; state = 0 }; input = 0; output = 0; weight = 0; origin = 0 }
+no-step = record { target = record { position = 0; state = 0 }; input = 0; output = 0; weight = no-weight; origin = 0 }
 
 -- No step stands twice among the steps of a state.
 pub steps-once : (cs : List ℕ) (t : Transducer) → Once (steps cs t)

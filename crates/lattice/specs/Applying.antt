@@ -3,7 +3,7 @@
 use mathlib.Core.Path.{_≡_}
 use mathlib.Core.Bool.{Bool, true, false, not, cond}
 use mathlib.Core.List.{List, [], _∷_, map}
-use Prim.Native.Nat.{ℕ, _+_, _-_, _≤_, _<_}
+use Prim.Native.Nat.{ℕ, _+_, _≤_, _<_}
 use lib.Dec.{eqb}
 use lib.ListN.{length, getD, take, drop}
 use Rattle.wire.specs.Bytes.{filled}
@@ -12,7 +12,8 @@ use Rattle.transducer.specs.declared.Final.{Final}
 use Rattle.transducer.specs.declared.Written.{Written}
 use Rattle.transducer.specs.Format.{Transducer, max-states, max-arcs, max-bytes, arcs-at, refusal, decode}
 use Rattle.transducer.specs.Encode.{encode}
-use Rattle.transducer.specs.Leaf.{Opened, Indexed}
+use Rattle.transducer.specs.Leaf.{Opened, Indexed, max-code}
+use Rattle.transducer.specs.Weight.{weight-of}
 use Rattle.explore.specs.Explore.{finals-from}
 use Rattle.explore.specs.Walk.{Keyed, Sofar, keyed, explored, Told}
 use Rattle.explore.specs.declared.Walk.{Walk}
@@ -49,9 +50,13 @@ pub record State-in (cs : List ℕ) (t : Transducer) (x : State) : Type 0 where
 unfoldable pub key-code : (codes : List ℕ) → (last key : ℕ) → ℕ
 key-code codes last k = cond (eqb (unpacked k .position) last) (getD codes (unpacked k .state) 0) 0
 
+-- Each code is that of a weight, or 0.
+abbrev pub Small-codes : (codes : List ℕ) → Type 0
+Small-codes codes = (s : ℕ) → s < max-states → getD codes s 0 ≤ max-code
+
 -- The finals of the states of some keys, by their final codes.
 unfoldable pub key-finals : (codes : List ℕ) → (last : ℕ) → (keys : List ℕ) → List Final
-key-finals codes last keys = finals-from (λ k. not (eqb (key-code codes last k) 0)) (λ k. key-code codes last k - 1) 0 keys
+key-finals codes last keys = finals-from (λ k. not (eqb (key-code codes last k) 0)) (λ k. weight-of (key-code codes last k)) 0 keys
 
 -- The lattice before trimming, by what the walk has found.
 unfoldable pub closed : (codes : List ℕ) → (last : ℕ) → Sofar → Transducer

@@ -13,7 +13,7 @@ ghost use Rattle.explore.specs.Walk.{Sofar, taken, state-served, Walked, Went, 
 ghost use Rattle.lattice.specs.Apply.{string-good, applied};
 ghost use Rattle.lattice.specs.ApplyEntry.{Apply-says, apply-refusal};
 ghost use Rattle.lattice.specs.Pack.{unpacked};
-ghost use Rattle.lattice.specs.Applying.{next, arc-keyed, found, Applicable, State-in, key-code, key-finals, closed, Closes};
+ghost use Rattle.lattice.specs.Applying.{next, arc-keyed, found, Applicable, State-in, key-code, key-finals, Small-codes, closed, Closes};
 ghost use Rattle.lattice.specs.Applying.{Apply-asks, Refused-with};
 use crate::packing;
 use explore::Walk;
@@ -236,7 +236,7 @@ fn final_count(codes: &[u32; MAX_STATES], last: u32, states: &[u32], count: usiz
 // Writes the finals of the first `count` states, in order, behind the head.
 fn put_finals(codes: &[u32; MAX_STATES], last: u32, states: &[u32], count: usize, table: &mut [u8])
     requires { ⌜ (count ≤ length (now states)) × (count ≤ max-states)
-        × (arcs-at (length (key-finals (now codes) last (take count (now states)))) ≤ length (now table)) ⌝ }
+        × (arcs-at (length (key-finals (now codes) last (take count (now states)))) ≤ length (now table)) × Small-codes (now codes) ⌝ }
     ensures { λ _. ⌜ now (table .exit) ≡ sets (now (table .entry)) head-bytes
         (final-records (key-finals (now (codes .entry)) last (take count (now (states .entry))))) ⌝ }
 {
@@ -249,7 +249,7 @@ fn put_finals(codes: &[u32; MAX_STATES], last: u32, states: &[u32], count: usize
         if code != 0 {
             let f = Final {
                 state: state,
-                weight: code - 1,
+                weight: transducer::weight_of(code),
             };
             transducer::put_final(table, transducer::arcs_at(finals), f);
             finals += 1;
@@ -259,7 +259,7 @@ fn put_finals(codes: &[u32; MAX_STATES], last: u32, states: &[u32], count: usize
 
 // Writes head and finals in front of the arcs. Answers where the head begins.
 fn close(codes: &[u32; MAX_STATES], last: u32, states: &[u32], w: Walk, table: &mut [u8]) -> usize
-    requires { ⌜ ((b : Sofar) × (origins : List ℕ) × Told 1 b w (now table) origins (now states)) × (w .arcs ≤ max-arcs) ⌝ }
+    requires { ⌜ ((b : Sofar) × (origins : List ℕ) × Told 1 b w (now table) origins (now states)) × (w .arcs ≤ max-arcs) × Small-codes (now codes) ⌝ }
     ensures { λ r. ⌜ ((b : Sofar) (origins : List ℕ) → Told 1 b w (now (table .entry)) origins (now (states .entry)) →
         Closes (closed (now (codes .entry)) last b) r (now (table .entry)) (now (table .exit))) ⌝ }
 {

@@ -54,14 +54,25 @@ pub fn run16(bytes: &[u8], run: &mut [u16]) {
     }
 }
 
-// Puts numbers of four bytes at the front of a run.
-pub fn run32(bytes: &[u8], run: &mut [u32]) {
+// The weight in the four bytes from a place.
+pub fn weight_or_0(bytes: &[u8], at: usize) -> i32 {
+    if bytes.len() < 4 {
+        return 0;
+    }
+    if bytes.len() - 4 < at {
+        return 0;
+    }
+    wire::i32_at(bytes, at)
+}
+
+// Puts weights at the front of a run.
+pub fn run_weights(bytes: &[u8], run: &mut [i32]) {
     let mut i = 0;
     while i < run.len() {
         if bytes.len() <= 4 * i {
             return;
         }
-        run[i] = u32_or_0(bytes, 4 * i);
+        run[i] = weight_or_0(bytes, 4 * i);
         i += 1;
     }
 }

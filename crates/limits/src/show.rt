@@ -14,6 +14,17 @@ pub fn number(text: &[u8], value: u64) {
     io::print_decimal(1, value);
 }
 
+// Prints a word and a cost.
+pub fn cost(text: &[u8], value: i64) {
+    io::write_all(1, text);
+    if 0 <= value {
+        io::print_decimal(1, value as u64);
+        return;
+    }
+    io::write_all(1, b"-");
+    io::print_decimal(1, (-1 - value) as u64 + 1);
+}
+
 fn wide8(x: u8) -> u64
     ensures { λ r. ⌜ r < 256 ⌝ }
 {
@@ -60,6 +71,27 @@ pub fn sum32(cells: &[u32]) -> u64 {
     let mut i = 0;
     while i < cells.len() {
         sum = (sum * 31 + wide32(cells[i])) % PRIME;
+        i += 1;
+    }
+    sum
+}
+
+// The bits of a weight.
+fn wide_weight(x: i32) -> u64
+    ensures { λ r. ⌜ r < 4294967296 ⌝ }
+{
+    if 0 <= x {
+        return x as u64;
+    }
+    4294967295 - (-1 - x) as u64
+}
+
+// The same of weights, by their bits.
+pub fn sum_weights(cells: &[i32]) -> u64 {
+    let mut sum: u64 = 0;
+    let mut i = 0;
+    while i < cells.len() {
+        sum = (sum * 31 + wide_weight(cells[i])) % PRIME;
         i += 1;
     }
     sum

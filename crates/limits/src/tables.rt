@@ -15,16 +15,16 @@ const ARCS: usize = 3072;
 const BYTES: usize = 59404;
 
 // Prints what reading answered, and the four buffers.
-fn show_read(head: Header, states: &[u16], weights: &[u32], fields: &[u16], arc_weights: &[u32]) {
+fn show_read(head: Header, states: &[u16], weights: &[i32], fields: &[u16], arc_weights: &[i32]) {
     show::number(b" refusal ", head.refusal as u64);
     show::number(b" states ", head.states as u64);
     show::number(b" arcs ", head.arcs as u64);
     show::number(b" finals ", head.finals as u64);
     show::number(b" start ", head.start as u64);
     show::number(b" sums ", show::sum16(states));
-    show::number(b" ", show::sum32(weights));
+    show::number(b" ", show::sum_weights(weights));
     show::number(b" ", show::sum16(fields));
-    show::number(b" ", show::sum32(arc_weights));
+    show::number(b" ", show::sum_weights(arc_weights));
 }
 
 // Prints what writing answered, and the buffer.
@@ -39,9 +39,9 @@ fn read_into(
     bytes: &[u8],
     room: u8,
     states: &mut [u16],
-    weights: &mut [u32],
+    weights: &mut [i32],
     fields: &mut [u16],
-    arc_weights: &mut [u32],
+    arc_weights: &mut [i32],
 ) -> Header {
     let a = lent::cells(room, 1, states.len());
     let b = lent::cells(room, 2, weights.len());
@@ -59,9 +59,9 @@ fn read_into(
 // Reads a transducer.
 pub fn read(bytes: &[u8], room: u8) {
     let mut states = [lent::DIRTY16; STATES + lent::SPARE];
-    let mut weights = [lent::DIRTY32; STATES + lent::SPARE];
+    let mut weights = [lent::DIRTY_WEIGHT; STATES + lent::SPARE];
     let mut fields = [lent::DIRTY16; FIELDS + lent::SPARE];
-    let mut arc_weights = [lent::DIRTY32; ARCS + lent::SPARE];
+    let mut arc_weights = [lent::DIRTY_WEIGHT; ARCS + lent::SPARE];
     let head = read_into(
         bytes,
         room,
@@ -91,9 +91,9 @@ fn same(bytes: &[u8], out: &[u8]) -> bool {
 // Reads a transducer and writes what was read.
 pub fn round_trip(bytes: &[u8]) {
     let mut states = [lent::DIRTY16; STATES + lent::SPARE];
-    let mut weights = [lent::DIRTY32; STATES + lent::SPARE];
+    let mut weights = [lent::DIRTY_WEIGHT; STATES + lent::SPARE];
     let mut fields = [lent::DIRTY16; FIELDS + lent::SPARE];
-    let mut arc_weights = [lent::DIRTY32; ARCS + lent::SPARE];
+    let mut arc_weights = [lent::DIRTY_WEIGHT; ARCS + lent::SPARE];
     let mut out = [lent::DIRTY8; BYTES + lent::SPARE];
     let head = codec::read(
         bytes,
@@ -125,9 +125,9 @@ fn write_from(
     case: &[u8],
     room: u8,
     states: &[u16],
-    weights: &[u32],
+    weights: &[i32],
     fields: &[u16],
-    arc_weights: &[u32],
+    arc_weights: &[i32],
     out: &mut [u8],
 ) -> Written {
     let a = load::least(load::u32_or_0(case, 16) as usize, states.len());
@@ -151,18 +151,18 @@ fn write_from(
 // Writes a transducer. The case has its four numbers, how many cells each of the four runs has, and the runs.
 pub fn write(case: &[u8], room: u8) {
     let mut states = [lent::DIRTY16; STATES + lent::SPARE];
-    let mut weights = [lent::DIRTY32; STATES + lent::SPARE];
+    let mut weights = [lent::DIRTY_WEIGHT; STATES + lent::SPARE];
     let mut fields = [lent::DIRTY16; FIELDS + lent::SPARE];
-    let mut arc_weights = [lent::DIRTY32; ARCS + lent::SPARE];
+    let mut arc_weights = [lent::DIRTY_WEIGHT; ARCS + lent::SPARE];
     let mut out = [lent::DIRTY8; BYTES + lent::SPARE];
     let first = 2 * (load::u32_or_0(case, 16) as usize);
     let second = 4 * (load::u32_or_0(case, 20) as usize);
     let third = 2 * (load::u32_or_0(case, 24) as usize);
     let fourth = 4 * (load::u32_or_0(case, 28) as usize);
     load::run16(load::part(case, 32, first), &mut states);
-    load::run32(load::part(case, 32 + first, second), &mut weights);
+    load::run_weights(load::part(case, 32 + first, second), &mut weights);
     load::run16(load::part(case, 32 + first + second, third), &mut fields);
-    load::run32(
+    load::run_weights(
         load::part(case, 32 + first + second + third, fourth),
         &mut arc_weights,
     );

@@ -17,7 +17,7 @@ pub fn count(table: &[u8]) {
 // Prints what was told of a path, and the two buffers.
 fn show_told(told: Told, arcs: &[u16], labels: &[u16]) {
     show::number(b" refusal ", told.refusal as u64);
-    show::number(b" cost ", told.cost);
+    show::cost(b" cost ", told.cost);
     show::number(b" arcs ", told.arcs as u64);
     show::number(b" labels ", told.labels as u64);
     show::number(b" sums ", show::sum16(arcs));

@@ -1,5 +1,5 @@
 -- A path walked to and told is its line, and the listing in each case. Assumes nothing.
-use mathlib.Core.Path.{_≡_, refl, sym, ap, _∙_}
+use mathlib.Core.Path.{_≡_, refl, sym, ap, _∙_, subst}
 use mathlib.Core.Bool.{true, false}
 use mathlib.Core.List.{List, _∷_, _++_}
 use Prim.Native.Nat.{ℕ, _+_, _*_, _-_, _≤_, _<_, min}
@@ -13,13 +13,15 @@ use Rattle.wire.proofs.Places.{length-filled}
 use Rattle.wire.proofs.Bool.{by-test}
 use Rattle.transducer.specs.Format.{Transducer, max-path}
 use Rattle.transducer.specs.Path.{written-by}
-use Rattle.transducer.specs.Entry.{unless, left-in}
+use Rattle.transducer.specs.Entry.{unless, cost-unless, left-in}
+use Rattle.transducer.specs.Weight.{Weight}
 use Rattle.paths.specs.declared.Told.{Told}
 use Rattle.paths.specs.Count.{endless, path-count, nth-path, most-counted}
 use Rattle.paths.specs.Entry.{Tells}
 use Rattle.paths.proofs.Ready.{Sized}
 use Rattle.paths.proofs.NthSays.{Found}
-use Rattle.listing.specs.Text.{decimal, newline, readings-word, endless-word, many-word, line, line-of, lines, counted-text, listing-text, least-room}
+use Rattle.listing.specs.Text.{decimal, newline, readings-word, endless-word, many-word, line, line-of, lines}
+use Rattle.listing.specs.Text.{counted-text, listing-text, least-room, Wrote}
 use Rattle.listing.proofs.Decimal.{two-digits}
 use Rattle.listing.proofs.Short.{Listable, listable, lines-short}
 
@@ -31,7 +33,7 @@ pub record Got (t : Transducer) (k : ℕ) (r : Told) (labels : List ℕ) : Type 
 
 pub got : (t : Transducer) → Sized t → {k len : ℕ} {r : Told} {a b b' : List ℕ} → endless t ≡ false → k < path-count t → max-path ≤ length b
     → Found t k len a → Tells t (take len a) r b b' → Got t k r b'
-unfolding unless left-in line-of filled
+unfolding unless cost-unless left-in line-of filled
 got t z {k} {len} {r} {a} {b} {b'} finite there room path told' =
     let told : Tells t (nth-path t k) r b b' = rw (path .taken) at told' in
     let known : Listable t k = listable t z finite k there in
@@ -42,6 +44,11 @@ got t z {k} {len} {r} {a} {b} {b'} finite there room path told' =
     let long : length b' ≡ length b = ap length put ∙ length-filled (length b) w (omega arith) in
     let taken : take (r .labels) b' ≡ w = ap (λ (x : List ℕ). take (r .labels) x) put ∙ take-at w (replicate (length b - length w) 0) (r .labels) (sym many) in
     record { inside = omega arith; is-line = rw (told .cost-is, taken) }
+
+-- The line of equal costs.
+pub same-line : {a b : List ℕ} {at end : ℕ} {c d : Weight} (k : ℕ) (labels : List ℕ) → c ≡ d → Wrote a b at end (line k c labels)
+    → Wrote a b at end (line k d labels)
+same-line {a} {b} {at} {end} k labels e w = subst (λ (x : Weight). Wrote a b at end (line k x labels)) e w
 
 -- The listing in each case.
 
@@ -72,6 +79,6 @@ listing-short t z =
     few : endless t ≡ false → path-count t < most-counted → length (readings-word ++ counted-text t) ≤ least-room
     few e h =
         let count : length (decimal (path-count t)) ≤ 2 = two-digits (path-count t) (omega arith) in
-        let all : length (lines t (path-count t)) + min (path-count t) 10 ≤ 6152 * path-count t =
+        let all : length (lines t (path-count t)) + min (path-count t) 10 ≤ 6153 * path-count t =
         lines-short t (path-count t) (omega arith) (λ k l. listable t z e k l) in
         rw (counted-few t (path-count t) refl h, length-append (decimal (path-count t)) (newline ∷ lines t (path-count t))) (omega arith)

@@ -1,5 +1,5 @@
 -- How long the parts of a listing are at most. Assumes nothing.
-use mathlib.Core.Path.{_≡_, refl, ap, _∙_}
+use mathlib.Core.Path.{_≡_, refl, ap, _∙_, subst}
 use mathlib.Core.Bool.{Bool, true, false, cond}
 use mathlib.Core.List.{List, [], _∷_, _++_, append-assoc, append-nil}
 use Prim.Native.Nat.{ℕ, zero, suc, _+_, _*_, _≤_, _<_, min}
@@ -9,15 +9,18 @@ use borrow.Author.Tests.{ltb-true, ltb-false}
 use lib.Dec.{eqb, ltb}
 use lib.ListN.{length, getD, take, length-append}
 use lib.Seq.{take-suc}
-use Rattle.transducer.specs.Format.{Transducer, max-weight, max-path, barred}
+use Rattle.wire.proofs.Bool.{by-test}
+use Rattle.transducer.specs.Format.{Transducer, max-path, barred}
+use Rattle.transducer.specs.Weight.{Weight, no-weight, at-most, magnitude}
 use Rattle.transducer.specs.Path.{arc, no-arc, non-empty, ends, final-weight, written-by, arcs-cost, path-cost}
-use Rattle.transducer.proofs.Good.{arc-weight-most, arc-labels-below, final-weight-most}
+use Rattle.transducer.proofs.Good.{arc-light, finals-light, arc-labels-below}
+use Rattle.transducer.proofs.Finals.{final-weight-good}
+use Rattle.transducer.proofs.Weights.{magnitude-plus, good-size}
 use Rattle.transducer.proofs.Runs.{Accepting, AcceptingBy, accepts-accepting, accepting-cons}
 use Rattle.paths.specs.Count.{endless, path-count, nth-path, most-counted}
 use Rattle.paths.proofs.Ready.{Sized}
-use Rattle.paths.proofs.Telling.{final-weight-low}
 use Rattle.paths.proofs.NthPath.{nth-path-accepts, nth-path-short, path-count-listed}
-use Rattle.listing.specs.Text.{Wrote, decimal, labels-text, line, line-of, lines, refused-word, refused-text}
+use Rattle.listing.specs.Text.{Wrote, decimal, minus, cost-text, labels-text, line, line-of, lines, refused-word, refused-text}
 use Rattle.listing.proofs.Wrote.{wrote-none, wrote-then}
 use Rattle.listing.proofs.Decimal.{length-decimal-small, two-digits, five-digits, ten-digits}
 
@@ -64,14 +67,32 @@ label-fits xs i n h l =
     rw (add-one, take-suc xs i 0 (omega arith)) (labels-text-snoc (take i xs) (getD xs i 0)) in
     omega (arith, labels-text-mono (i + 1) n xs (omega arith), ap length one ∙ length-append (labels-text (take i xs)) (32 ∷ decimal (getD xs i 0)))
 
-pub length-line : (k cost : ℕ) (labels : List ℕ)
-    → length (line k cost labels) ≡ length (decimal k) + (1 + (length (decimal cost) + (length (labels-text labels) + 1)))
+-- A cost: one byte more than its digits where it is below 0.
+pub cost-above : (c : Weight) → at-most no-weight c ≡ true → cost-text c ≡ decimal (magnitude c)
+unfolding cost-text
+cost-above c e = rw e
+
+pub cost-below : (c : Weight) → at-most no-weight c ≡ false → cost-text c ≡ minus ∷ decimal (magnitude c)
+unfolding cost-text
+cost-below c e = rw e
+
+-- The text of equal costs.
+pub same-cost : {a b : List ℕ} {at end : ℕ} {c d : Weight} → c ≡ d → Wrote a b at end (cost-text c) → Wrote a b at end (cost-text d)
+same-cost {a} {b} {at} {end} e w = subst (λ (x : Weight). Wrote a b at end (cost-text x)) e w
+
+cost-text-short : (c : Weight) → magnitude c < 10000000000 → length (cost-text c) ≤ 11
+cost-text-short c h =
+    by-test (at-most no-weight c) (λ e. rw (cost-above c e) (omega (arith, ten-digits (magnitude c) h)))
+    (λ e. rw (cost-below c e) (omega (arith, ten-digits (magnitude c) h)))
+
+pub length-line : (k : ℕ) (cost : Weight) (labels : List ℕ)
+    → length (line k cost labels) ≡ length (decimal k) + (1 + (length (cost-text cost) + (length (labels-text labels) + 1)))
 unfolding line
 length-line k cost labels = simp length-append (omega arith)
 
-line-short : (k cost : ℕ) (labels : List ℕ) → cost < 10000000000 → length labels ≤ max-path → ((i : ℕ) → getD labels i 0 < 65536)
-    → length (line k cost labels) ≤ length (decimal k) + 6150
-line-short k cost labels b few h = omega (arith, length-line k cost labels, ten-digits cost b, labels-text-short labels h)
+line-short : (k : ℕ) (cost : Weight) (labels : List ℕ) → magnitude cost < 10000000000 → length labels ≤ max-path → ((i : ℕ) → getD labels i 0 < 65536)
+    → length (line k cost labels) ≤ length (decimal k) + 6151
+line-short k cost labels b few h = omega (arith, length-line k cost labels, cost-text-short cost b, labels-text-short labels h)
 
 -- Paths
 
@@ -84,14 +105,15 @@ written-by-short t (i ∷ p) = on (eqb (arc t i .output) 0) (written-by-short t 
     on true h = omega arith
     on false h = omega arith
 
-arcs-cost-low : (t : Transducer) → Sized t → (s : ℕ) (p : List ℕ) → Accepting t s p → arcs-cost t p ≤ max-weight * length p
+arcs-cost-low : (t : Transducer) → Sized t → (s : ℕ) (p : List ℕ) → Accepting t s p → magnitude (arcs-cost t p) ≤ 1000000 * length p
 unfolding arcs-cost arc
 arcs-cost-low t z s [] a = omega arith
 arcs-cost-low t z s (i ∷ p) a =
     let by : AcceptingBy t s i p = accepting-cons t s i p a in
-    let here : getD (t .arcs) i no-arc .weight ≤ max-weight = arc-weight-most t (z .content) i no-arc (by .below) in
-    let rest : arcs-cost t p ≤ max-weight * length p = arcs-cost-low t z (arc t i .target) p (by .rest) in
-    omega arith
+    let w : Weight = getD (t .arcs) i no-arc .weight in
+    let here : magnitude w ≤ 1000000 = good-size w (arc-light t (z .content) i no-arc (by .below)) in
+    let rest : magnitude (arcs-cost t p) ≤ 1000000 * length p = arcs-cost-low t z (arc t i .target) p (by .rest) in
+    omega (arith, magnitude-plus w (arcs-cost t p))
 
 labels-low : (t : Transducer) → Sized t → (s : ℕ) (p : List ℕ) → Accepting t s p → (k : ℕ) → getD (written-by t p) k 0 < 65536
 unfolding written-by non-empty arc
@@ -107,10 +129,10 @@ labels-low t z s (i ∷ p) a k =
     on false here zero rest = omega arith
     on false here (suc k) rest = rest k
 
--- A path that is handed out has fewer arcs than there are states, so its cost has at most ten digits.
+-- A path that is handed out has fewer arcs than there are states, so its cost has at most ten digits, and a minus sign.
 pub record Listable (t : Transducer) (k : ℕ) : Type 0 where
   pub number : k < most-counted
-  pub cost : path-cost t (nth-path t k) < 10000000000
+  pub cost : magnitude (path-cost t (nth-path t k)) < 10000000000
   pub few : length (written-by t (nth-path t k)) ≤ max-path
   pub labels : (i : ℕ) → getD (written-by t (nth-path t k)) i 0 < 65536
 
@@ -121,19 +143,18 @@ listable t z finite k there =
     let listed = path-count-listed t k there in
     let a : Accepting t (t .start) p = accepts-accepting t p (nth-path-accepts t k (listed .0)) in
     let short : length p < t .states = nth-path-short t (z .within) finite k there in
-    let last : final-weight (t .finals) (ends t (t .start) p) ≤ max-weight =
-    final-weight-low (t .finals) (ends t (t .start) p) (record { state = 0; weight = 0 })
-    (λ i b. final-weight-most t (z .content) i (record { state = 0; weight = 0 }) b) in
+    let w : Weight = final-weight (t .finals) (ends t (t .start) p) in
+    let last : magnitude w ≤ 1000000 = good-size w (final-weight-good (t .finals) (ends t (t .start) p) (finals-light t (z .content))) in
     record {
       number = listed .1;
-      cost = omega (arith, arcs-cost-low t z (t .start) p a, short, last, z .states);
+      cost = omega (arith, magnitude-plus (arcs-cost t p) w, arcs-cost-low t z (t .start) p a, short, last, z .states);
       few = omega (arith, written-by-short t p, short, z .states);
       labels = labels-low t z (t .start) p a;
     }
 
 -- Lines
 
-line-of-short : (t : Transducer) (k : ℕ) → Listable t k → length (line-of t k) ≤ length (decimal k) + 6150
+line-of-short : (t : Transducer) (k : ℕ) → Listable t k → length (line-of t k) ≤ length (decimal k) + 6151
 unfolding line-of
 line-of-short t k l = line-short k (path-cost t (nth-path t k)) (written-by t (nth-path t k)) (l .cost) (l .few) (l .labels)
 
@@ -162,15 +183,15 @@ line-fits t k (suc n) h = on (ltb k n) refl (λ l. line-fits t k n l)
         rw last (omega (arith, length-lines t n))
 
 -- Ten numbers have one digit, the others two.
-pub lines-short : (t : Transducer) (n : ℕ) → n < most-counted → ((k : ℕ) → k < n → Listable t k) → length (lines t n) + min n 10 ≤ 6152 * n
+pub lines-short : (t : Transducer) (n : ℕ) → n < most-counted → ((k : ℕ) → k < n → Listable t k) → length (lines t n) + min n 10 ≤ 6153 * n
 unfolding lines
 lines-short t zero few h = omega arith
 lines-short t (suc n) few h =
-    let rest : length (lines t n) + min n 10 ≤ 6152 * n = lines-short t n (omega arith) (λ k l. h k (omega arith)) in
+    let rest : length (lines t n) + min n 10 ≤ 6153 * n = lines-short t n (omega arith) (λ k l. h k (omega arith)) in
     on (ltb n 10) refl rest (line-of-short t n (h n (omega arith)))
   where
-    on : (b : Bool) → ltb n 10 ≡ b → length (lines t n) + min n 10 ≤ 6152 * n → length (line-of t n) ≤ length (decimal n) + 6150
-        → length (lines t (suc n)) + min (suc n) 10 ≤ 6152 * suc n
+    on : (b : Bool) → ltb n 10 ≡ b → length (lines t n) + min n 10 ≤ 6153 * n → length (line-of t n) ≤ length (decimal n) + 6151
+        → length (lines t (suc n)) + min (suc n) 10 ≤ 6153 * suc n
     on true e rest here = omega (arith, length-lines t n, length-decimal-small n (ltb-true n 10 e))
     on false e rest here = omega (arith, length-lines t n, ltb-false n 10 e, two-digits n (omega arith))
 

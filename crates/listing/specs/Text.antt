@@ -9,6 +9,7 @@ use lib.Seq.{sets}
 use Rattle.wire.specs.Bytes.{filled}
 use Rattle.transducer.specs.Format.{Transducer}
 use Rattle.transducer.specs.Path.{written-by, path-cost}
+use Rattle.transducer.specs.Weight.{Weight, no-weight, at-most, magnitude}
 use Rattle.paths.specs.Count.{endless, path-count, nth-path, most-counted}
 use Rattle.listing.specs.declared.Listed.{Listed}
 
@@ -27,6 +28,13 @@ blank = 32
 
 abbrev pub newline : ℕ
 newline = 10
+
+abbrev pub minus : ℕ
+minus = 45
+
+-- A cost: its digits, behind a minus sign where it is below 0.
+unfoldable pub cost-text : Weight → List ℕ
+cost-text c = cond (at-most no-weight c) (decimal (magnitude c)) (minus ∷ decimal (magnitude c))
 
 -- The words of the listing, the first and the last with a blank behind.
 unfoldable pub readings-word : List ℕ
@@ -47,8 +55,8 @@ labels-text [] = []
 labels-text (x ∷ xs) = (blank ∷ decimal x) ++ labels-text xs
 
 -- The line of one path: its number, its cost, and the labels that it writes.
-unfoldable pub line : (k cost : ℕ) → (labels : List ℕ) → List ℕ
-line k cost labels = decimal k ++ (blank ∷ decimal cost) ++ labels-text labels ++ (newline ∷ [])
+unfoldable pub line : (k : ℕ) → (cost : Weight) → (labels : List ℕ) → List ℕ
+line k cost labels = decimal k ++ (blank ∷ cost-text cost) ++ labels-text labels ++ (newline ∷ [])
 
 unfoldable pub line-of : Transducer → (k : ℕ) → List ℕ
 line-of t k = line k (path-cost t (nth-path t k)) (written-by t (nth-path t k))
@@ -70,10 +78,10 @@ listing-text t = readings-word ++ cond (endless t) endless-word (counted-text t)
 unfoldable pub refused-text : (number : ℕ) → List ℕ
 refused-text number = refused-word ++ decimal number ++ (newline ∷ [])
 
--- The bytes of the longest text: `readings 98`, then 98 lines, 10 of them with a number of one digit, each with a cost of ten digits and 1,023 labels
--- of five.
+-- The bytes of the longest text: `readings 98`, then 98 lines, 10 of them with a number of one digit, each with a minus sign, a cost of ten digits and
+-- 1,023 labels of five.
 abbrev pub least-room : ℕ
-least-room = 602898
+least-room = 602996
 
 -- A text written at a place, and the place behind it.
 pub record Wrote (before after : List ℕ) (at end : ℕ) (text : List ℕ) : Type 0 where

@@ -10,7 +10,7 @@ use crate::code;
 use crate::lines;
 
 // The bytes that the longest text takes.
-pub const LEAST_ROOM: usize = 602898;
+pub const LEAST_ROOM: usize = 602996;
 
 // Applies a code to an accepted transducer and lists what comes of it.
 fn list_applied(table: &[u8], bytes: &[u8], out: &mut [u8]) -> Listed

@@ -8,16 +8,17 @@ use lib.Dec.{eqb}
 use lib.ListN.{length}
 use Rattle.wire.specs.Bytes.{filled}
 use Rattle.transducer.specs.Format.{Transducer}
-use Rattle.transducer.specs.Entry.{unless, left-in}
+use Rattle.transducer.specs.Entry.{unless, cost-unless, left-in}
+use Rattle.transducer.specs.Weight.{no-weight}
 use Rattle.paths.specs.declared.Told.{Told}
 use Rattle.paths.specs.Entry.{Path-told, Tells}
 
 abbrev pub refused-told : ℕ → Told
-refused-told n = record { refusal = n; cost = 0; arcs = 0; labels = 0 }
+refused-told n = record { refusal = n; cost = no-weight; arcs = 0; labels = 0 }
 
 pub told-refused : (t : Transducer) (p : List ℕ) (number n : ℕ) (r : Told) (a b : List ℕ) → number ≡ n → (n ≡ 0 → ⊥) → r ≡ refused-told n
     → Path-told t p number r a a b b
-unfolding unless left-in
+unfolding unless cost-unless left-in
 told-refused t p number n r a b e nonzero h =
     let test : eqb n 0 ≡ false = ne-eqb n 0 nonzero in
     rw (e, h) (record {
@@ -31,7 +32,7 @@ told-refused t p number n r a b e nonzero h =
 
 pub told-found : (t : Transducer) (p : List ℕ) (number : ℕ) (r : Told) (a a' b b' : List ℕ) → number ≡ 0 → a' ≡ filled (length a) p → Tells t p r b b'
     → Path-told t p number r a a' b b'
-unfolding unless left-in
+unfolding unless cost-unless left-in
 told-found t p number r a a' b b' e put told =
     rw e (record {
       refusal-is = told .refusal-is;

@@ -6,10 +6,10 @@ use Prim.Native.Nat.{ℕ, _+_, _≤_, _<_}
 use native.Mathlib.Omega.{arith}
 use lib.Dec.{eqb}
 use lib.ListN.{length, getD}
-use borrow.Author.Tests.{eq-eqb, ne-eqb}
 use Rattle.transducer.specs.Format.{Transducer}
-use Rattle.transducer.specs.Path.{arc, is-final, final-weight}
-use Rattle.transducer.specs.Leaf.{arcs-below, Indexed, final-code, Finals-by-state}
+use Rattle.transducer.specs.Path.{arc, is-final}
+use Rattle.transducer.specs.Leaf.{arcs-below, Indexed, Finals-by-state}
+use Rattle.transducer.proofs.Finals.{final-code-some}
 use Rattle.transducer.proofs.Good.{Content}
 use Rattle.transducer.proofs.Index.{arcs-below-length, arcs-below-mono, arcs-of-state, state-of-arcs, arcs-below-states}
 pub use Rattle.transducer.proofs.Headed.{Headed, headed, headed-opened}
@@ -64,12 +64,7 @@ module _ (t : Transducer) (good : Content t) (s from to : ℕ) (r : Range t s fr
 
 -- A final code is 0 where the state is not final.
 pub code-final : (t : Transducer) (codes : List ℕ) (s code : ℕ) → Finals-by-state t codes → s < 1024 → code ≡ getD codes s 0 → eqb code 0 ≡ not (is-final (t .finals) s)
-unfolding final-code
-code-final t codes s code f h e = on (is-final (t .finals) s) (e ∙ f .at-state s h)
-  where
-    on : (b : Bool) → code ≡ cond b (final-weight (t .finals) s + 1) 0 → eqb code 0 ≡ not b
-    on true q = ne-eqb code 0 (λ z. omega arith)
-    on false q = eq-eqb code 0 q
+code-final t codes s code f h e = rw (e, f .at-state s h) (final-code-some (t .finals) s)
 
 -- The count of the empty path by a final code.
 pub own-code : (t : Transducer) (codes : List ℕ) (s code : ℕ) → Finals-by-state t codes → s < 1024 → code ≡ getD codes s 0 → cond (eqb code 0) 0 1 ≡ own t s

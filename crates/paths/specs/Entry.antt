@@ -7,7 +7,7 @@ use lib.Dec.{ltb, leb}
 use lib.ListN.{length}
 use Rattle.transducer.specs.Format.{max-path, Transducer, refusal, decode}
 use Rattle.transducer.specs.Path.{written-by, path-cost}
-use Rattle.transducer.specs.Entry.{or-else, unless, left-in}
+use Rattle.transducer.specs.Entry.{or-else, unless, cost-unless, left-in}
 use Rattle.wire.specs.Bytes.{filled}
 use Rattle.paths.specs.declared.Counted.{Counted}
 use Rattle.paths.specs.declared.Told.{Told}
@@ -32,7 +32,7 @@ nth-refusal bs k a b =
 -- A path told, or a refusal: its cost, how many arcs and labels it has, and both in lent buffers.
 pub record Path-told (t : Transducer) (p : List ℕ) (number : ℕ) (r : Told) (a a' b b' : List ℕ) : Type 0 where
   pub refusal-is : r .refusal ≡ number
-  pub cost-is : r .cost ≡ unless number (path-cost t p)
+  pub cost-is : r .cost ≡ cost-unless number (path-cost t p)
   pub arcs-is : r .arcs ≡ unless number (length p)
   pub labels-is : r .labels ≡ unless number (length (written-by t p))
   pub arcs : a' ≡ left-in number a p

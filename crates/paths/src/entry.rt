@@ -4,6 +4,7 @@ ghost use Prim.Native.Nat.{_+_, _*_, _<_};
 ghost use lib.ListN.{length};
 ghost use Rattle.transducer.specs.Format.{decode};
 ghost use Rattle.transducer.specs.Leaf.{Finals-by-state};
+ghost use Rattle.transducer.specs.Weight.{no-weight};
 ghost use Rattle.paths.specs.Sweep.{Ready, Totals-say};
 ghost use Rattle.paths.specs.Entry.{Count-says, count-refusal, Nth-says, nth-refusal};
 use crate::Count;
@@ -87,7 +88,7 @@ pub fn count(table: &[u8]) -> Counted
 
 // What is answered where no path is told: the refusal, and zeros.
 pub fn refused(number: u32) -> Told
-    ensures { λ r. ⌜ r ≡ record { refusal = number; cost = 0; arcs = 0; labels = 0 } ⌝ }
+    ensures { λ r. ⌜ r ≡ record { refusal = number; cost = no-weight; arcs = 0; labels = 0 } ⌝ }
 {
     Told {
         refusal: number,

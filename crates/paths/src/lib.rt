@@ -39,7 +39,7 @@ pub struct Totals {
 // What a path's telling answers: the refusal or 0, then the cost and how many arcs and labels it has, 0 on refusal.
 pub struct Told {
     pub refusal: u32,
-    pub cost: u64,
+    pub cost: i64,
     pub arcs: u32,
     pub labels: u32,
 }

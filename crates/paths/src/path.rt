@@ -78,14 +78,14 @@ pub fn tell(
     ensures { λ r. ⌜ Tells (decode (now (table .entry))) (take len (now (arcs .entry))) r (now (labels .entry)) (now (labels .exit)) ⌝ }
 {
     let mut s = start;
-    let mut cost: u64 = 0;
+    let mut cost: i64 = 0;
     let mut m: usize = 0;
     let mut i: usize = 0;
     while i < len {
         let j = arcs[i] as usize;
         let a = transducer::arc_of(table, first, j);
         i += 1;
-        cost += a.weight as u64;
+        cost = transducer::plus(cost, a.weight);
         s = a.target as usize;
         if a.output == 0 {
             continue;
@@ -97,7 +97,7 @@ pub fn tell(
     let code = codes[s];
     Told {
         refusal: 0,
-        cost: cost + (code - 1) as u64,
+        cost: transducer::plus(cost, transducer::weight_of(code)),
         arcs: len as u32,
         labels: m as u32,
     }

@@ -1,4 +1,4 @@
--- A transducer whose listing is as long as any: 98 like arcs and then a line of 1,022, each of the greatest weight and writing a label of five digits.
+-- A transducer whose listing is as long as any: 98 like arcs and then a line of 1,022, each of the least weight and writing a label of five digits.
 -- It has 98 accepting paths, all of 1,023 arcs. Assumes nothing.
 use mathlib.Core.Path.{_≡_, refl, sym, ap, subst, _∙_}
 use mathlib.Core.Bool.{Bool, true, false, _||_}
@@ -13,7 +13,7 @@ use Rattle.wire.specs.Bytes.{Bytes, places, every}
 use Rattle.wire.proofs.Places.{length-places, getD-places}
 use Rattle.transducer.specs.declared.Arc.{Arc}
 use Rattle.transducer.specs.declared.Final.{Final}
-use Rattle.transducer.specs.Format.{Transducer, Good, refusal, decode, head-good, content-refusal, first-of, states-good}
+use Rattle.transducer.specs.Format.{Transducer, Good, min-weight, refusal, decode, head-good, content-refusal, first-of, states-good}
 use Rattle.transducer.specs.Format.{order-good, finals-rise, sources-stay, all-labels-good, labels-good, weights-good, weight-good}
 use Rattle.transducer.specs.Encode.{encode}
 use Rattle.transducer.specs.Path.{arc, no-arc, is-final, final-weight, ends, accepts, written-by, non-empty, arcs-cost, path-cost}
@@ -21,13 +21,15 @@ use Rattle.transducer.proofs.Members.{Distinct, getD-in}
 use Rattle.transducer.proofs.Runs.{Accepting, AcceptingBy, Within, accepts-accepting, accepting-accepts}
 use Rattle.transducer.proofs.Runs.{accepting-nil, nil-accepting, accepting-cons, cons-accepting}
 use Rattle.transducer.proofs.RoundTrip.{bytes-encode, decode-encode, refusal-encode}
+use Rattle.transducer.specs.Weight.{rebate, plus}
+use Rattle.transducer.proofs.Weights.{rebate-plus}
 use Rattle.paths.specs.Count.{paths, endless, path-count, nth-path}
 use Rattle.paths.proofs.Endless.{mem-paths, paths-distinct, short-finite, not-endless-listed}
 use Rattle.paths.proofs.NthPath.{nth-path-accepts}
 use Rattle.claim.proofs.Pigeonhole.{place-of, places-distinct, no-longer}
-use Rattle.listing.specs.Text.{decimal, readings-word, labels-text, line-of, lines, counted-text, listing-text, least-room}
+use Rattle.listing.specs.Text.{decimal, cost-text, readings-word, labels-text, line-of, lines, counted-text, listing-text, least-room}
 use Rattle.listing.proofs.Decimal.{length-decimal-small, length-decimal-large}
-use Rattle.listing.proofs.Short.{length-line}
+use Rattle.listing.proofs.Short.{cost-below, length-line}
 use Rattle.listing.proofs.NthLine.{listing-finite, counted-few}
 
 -- Lengths of numbers and of like labels.
@@ -55,6 +57,15 @@ ten-long =
     let j : length (decimal 1) ≡ 1 = length-decimal-small 1 (omega arith) in
     omega arith
 
+cost-long : length (cost-text (rebate 1024000000)) ≡ 11
+cost-long = rw (cost-below (rebate 1024000000) refl) (ap suc ten-long)
+
+-- A weight more.
+one-more : (n : ℕ) → plus min-weight (rebate (1000000 * n)) ≡ rebate (1000000 * suc n)
+one-more n =
+    let all : 1000000 + 1000000 * n ≡ 1000000 * suc n = omega arith in
+    rebate-plus 1000000 (1000000 * n) ∙ ap rebate all
+
 two-long : (n : ℕ) → 10 ≤ n → n < 100 → length (decimal n) ≡ 2
 two-long n a b = omega (arith, length-decimal-large n a, length-decimal-small (n / 10) (omega arith))
 
@@ -66,10 +77,10 @@ labels-long (suc n) =
 
 -- Its arcs by number: the first 98 leave state 0, the others a state each.
 abbrev arc-at : ℕ → Arc
-arc-at i = record { source = i - 97; input = 0; output = 65534; target = i - 97 + 1; weight = 1000000 }
+arc-at i = record { source = i - 97; input = 0; output = 65534; target = i - 97 + 1; weight = min-weight }
 
 abbrev last-state : Final
-last-state = record { state = 1023; weight = 1000000 }
+last-state = record { state = 1023; weight = min-weight }
 
 record Line (t : Transducer) : Type 0 where
   states-are : t .states ≡ 1024
@@ -104,7 +115,7 @@ module _ (t : Transducer) (shape : Line t) where
   unfolding is-final
   at-final s e = rw (shape .finals-are, e)
 
-  weight-at : (s : ℕ) → s ≡ 1023 → final-weight (t .finals) s ≡ 1000000
+  weight-at : (s : ℕ) → s ≡ 1023 → final-weight (t .finals) s ≡ min-weight
   unfolding final-weight
   weight-at s e = rw (shape .finals-are, e)
 
@@ -126,13 +137,13 @@ module _ (t : Transducer) (shape : Line t) where
   level s [] h = omega (arith, final-at s (accepting-nil t s h))
   level s (i ∷ p) h = omega (arith, level (s + 1) p (by s i p h .rest))
 
-  costs : (s : ℕ) (p : List ℕ) → Accepting t s p → arcs-cost t p ≡ 1000000 * length p
+  costs : (s : ℕ) (p : List ℕ) → Accepting t s p → arcs-cost t p ≡ rebate (1000000 * length p)
   unfolding arcs-cost
   costs s [] h = refl
   costs s (i ∷ p) h =
       let b : By s i p = by s i p h in
-      let here : arc t i .weight ≡ 1000000 = ap (λ (a : Arc). a .weight) (shape .arc-is i (b .below)) in
-      omega (arith, here, costs (s + 1) p (b .rest))
+      let here : arc t i .weight ≡ min-weight = ap (λ (a : Arc). a .weight) (shape .arc-is i (b .below)) in
+      rw (here, costs (s + 1) p (b .rest)) (one-more (length p))
 
   writes : (s : ℕ) (p : List ℕ) → Accepting t s p → written-by t p ≡ replicate (length p) 65534
   unfolding written-by non-empty
@@ -251,34 +262,34 @@ module _ (t : Transducer) (shape : Line t) where
   path-long : (k : ℕ) → k < 98 → length (nth-path t k) ≡ 1023
   path-long k h = omega (arith, level (t .start) (nth-path t k) (path-is k h), shape .start-is)
 
-  cost-is : (k : ℕ) → k < 98 → path-cost t (nth-path t k) ≡ 1024000000
+  cost-is : (k : ℕ) → k < 98 → path-cost t (nth-path t k) ≡ rebate 1024000000
   unfolding path-cost
   cost-is k h =
       let a : Accepting t (t .start) (nth-path t k) = path-is k h in
       let last : ends t (t .start) (nth-path t k) ≡ 1023 = final-at (ends t (t .start) (nth-path t k)) (a .final) in
-      let w : final-weight (t .finals) (ends t (t .start) (nth-path t k)) ≡ 1000000 =
+      let w : final-weight (t .finals) (ends t (t .start) (nth-path t k)) ≡ min-weight =
       weight-at (ends t (t .start) (nth-path t k)) last in
-      omega (arith, costs (t .start) (nth-path t k) a, path-long k h, w)
+      rw (costs (t .start) (nth-path t k) a, path-long k h, w)
 
-  line-long : (k : ℕ) → k < 98 → length (line-of t k) ≡ length (decimal k) + 6150
+  line-long : (k : ℕ) → k < 98 → length (line-of t k) ≡ length (decimal k) + 6151
   unfolding line-of
   line-long k h =
       let labels : written-by t (nth-path t k) ≡ replicate 1023 65534 =
       writes (t .start) (nth-path t k) (path-is k h) ∙ ap (λ (n : ℕ). replicate n 65534) (path-long k h) in
-      rw (cost-is k h, labels) (omega (arith, length-line k 1024000000 (replicate 1023 65534), ten-long, labels-long 1023))
+      rw (cost-is k h, labels) (omega (arith, length-line k (rebate 1024000000) (replicate 1023 65534), cost-long, labels-long 1023))
 
-  lines-long : (n : ℕ) → n ≤ 98 → length (lines t n) + min n 10 ≡ 6152 * n
+  lines-long : (n : ℕ) → n ≤ 98 → length (lines t n) + min n 10 ≡ 6153 * n
   unfolding lines
   lines-long zero h = refl
   lines-long (suc n) h =
       on (ltb n 10) refl (lines-long n (omega arith)) (line-long n (omega arith)) (length-append (lines t n) (line-of t n))
     where
-      on : (b : Bool) → ltb n 10 ≡ b → length (lines t n) + min n 10 ≡ 6152 * n → length (line-of t n) ≡ length (decimal n) + 6150
-          → length (lines t n ++ line-of t n) ≡ length (lines t n) + length (line-of t n) → length (lines t n ++ line-of t n) + min (suc n) 10 ≡ 6152 * suc n
+      on : (b : Bool) → ltb n 10 ≡ b → length (lines t n) + min n 10 ≡ 6153 * n → length (line-of t n) ≡ length (decimal n) + 6151
+          → length (lines t n ++ line-of t n) ≡ length (lines t n) + length (line-of t n) → length (lines t n ++ line-of t n) + min (suc n) 10 ≡ 6153 * suc n
       on true e rest here both = omega (arith, ltb-true n 10 e, length-decimal-small n (ltb-true n 10 e))
       on false e rest here both = omega (arith, ltb-false n 10 e, two-long n (ltb-false n 10 e) (omega arith))
 
-  text-long : length (listing-text t) ≡ 602898
+  text-long : length (listing-text t) ≡ 602996
   unfolding path-count readings-word
   text-long =
       let count : path-count t ≡ 98 = omega (arith, many-paths) in

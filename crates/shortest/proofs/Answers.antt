@@ -1,7 +1,7 @@
--- What `shortest_path` answers, case by case: a refusal of 1 to 8, a buffer that is too short, 16, and success. Assumes nothing.
+-- What `shortest_path` answers, case by case: a refusal of 1 to 8, a buffer that is too short, 16, 19, and success. Assumes nothing.
 use mathlib.Core.Path.{_≡_, refl, sym, ap, _∙_}
-use mathlib.Core.Bool.{true, false, _||_, cond}
-use mathlib.Core.List.{List}
+use mathlib.Core.Bool.{Bool, true, false, _||_, not, cond}
+use mathlib.Core.List.{List, _++_}
 use Prim.Native.Nat.{ℕ, _-_, _≤_, _<_}
 use native.Mathlib.Omega.{arith}
 use borrow.Author.Tests.{ne-eqb, lt-ltb, le-ltb}
@@ -13,42 +13,48 @@ use Rattle.wire.proofs.Places.{length-filled}
 use Rattle.transducer.specs.Format.{Transducer, max-states, max-path, decode, refusal}
 use Rattle.transducer.specs.Path.{accepts, runs}
 use Rattle.transducer.specs.Entry.{or-else}
+use Rattle.transducer.specs.Weight.{Weight, At-most, Below}
 use Rattle.transducer.proofs.Runs.{accepting-accepts}
 use Rattle.paths.specs.declared.Told.{Told}
 use Rattle.reach.specs.Reach.{coaccessible}
+use Rattle.reach.proofs.Reach.{path-coaccessible}
+use Rattle.least.specs.Cycles.{Falling, falling}
+use Rattle.least.proofs.Cycles.{falling-accepting}
+use Rattle.least.proofs.Falls.{falling-true}
 use Rattle.paths.specs.Entry.{Tells}
 use Rattle.paths.proofs.PathTold.{refused-told, told-refused, told-found}
 use Rattle.paths.proofs.Ready.{Sized}
-use Rattle.shortest.specs.Shortest.{shortest, no-path}
-use Rattle.shortest.specs.Nearest.{by-state, All-relaxed, Distances-settled, first-tight, follow}
+use Rattle.shortest.specs.Shortest.{shortest}
+use Rattle.shortest.specs.Nearest.{unreached, cost-at, by-state, Settled, Distances-say, first-tight, follow}
 use Rattle.shortest.specs.Entry.{shortest-refusal, Shortest-says}
-use Rattle.shortest.proofs.Distances.{Followed, followed, follow-shortest, few-arcs, reached-accepting, no-path-none}
+use Rattle.shortest.proofs.Distances.{Followed, followed, follow-shortest, few-arcs, settled-rises, reached-accepting, no-path-none}
 
 -- The shortest path along an arc for each state.
 pub record Found (t : Transducer) (v : ℕ → ℕ) (start len : ℕ) : Type 0 where
   pub some : coaccessible (t .states) t (t .start) ≡ true
+  pub rises : falling t ≡ false
   pub goes : runs t start (follow len t v start) ≡ true
   pub few : len ≤ max-path
   pub many : length (follow len t v start) ≡ len
   pub is : follow len t v start ≡ shortest t
   pub accepted : accepts t (follow len t v start) ≡ true
 
-pub found : (t : Transducer) → Sized t → (cs ls : List ℕ) (start len : ℕ) → Distances-settled t cs ls → start ≡ t .start → (by-state cs start ≡ no-path → ⊥)
-    → len ≡ by-state ls start → Found t (first-tight t (by-state cs) (by-state ls)) start len
-found t z cs ls start len says e there l =
-    let c : ℕ → ℕ = by-state cs in
+pub found : (t : Transducer) → Sized t → (cs : List Weight) (ls : List ℕ) (start len : ℕ) {r : Bool} → Distances-say t cs ls r → r ≡ true → start ≡ t .start
+    → Below (cost-at cs start) unreached → len ≡ by-state ls start → Found t (first-tight t (cost-at cs) (by-state ls)) start len
+found t z cs ls start len says on e there l =
+    let c : ℕ → Weight = cost-at cs in
     let m : ℕ → ℕ = by-state ls in
     let v : ℕ → ℕ = first-tight t c m in
-    let k : All-relaxed t c m = says .settled in
+    let k : Settled t c m = says .settled on in
     let s : ℕ = t .start in
     let below : s < t .states = z .within .starts in
-    let apart : by-state cs s ≡ no-path → ⊥ = rw e at there in
-    let some : c s < no-path = omega (arith, apart, k .nearing .high s below) in
+    let some : Below (c s) unreached = rw e at there in
     let few : m s < t .states = few-arcs t z c m k s below some in
-    let f : Followed t z c m k s (m s) = followed t z c m k (m s) s below some refl in
+    let f : Followed t z c m k s (m s) = followed t z c m k (m s) s below (k .start) some refl in
     let most : t .states ≤ max-states = z .states in
     rw (l, e) (record {
       some = reached-accepting t z c m k s below some;
+      rises = settled-rises t z c m k;
       goes = f .accepting .goes;
       few = omega arith;
       many = f .arcs;
@@ -78,7 +84,10 @@ module _ (bs : List ℕ) {a b : List ℕ} {n : ℕ} {r : Told} where
   pub shortest-bad : n ≡ refusal bs → (n ≡ 0 → ⊥) → r ≡ refused-told n → Shortest-says bs (shortest-refusal bs (length a) (length b)) r a a b b
   unfolding shortest-refusal or-else
   shortest-bad e nonzero h =
-      let rest : ℕ = cond (ltb (length a) max-path || ltb (length b) max-path) 10 (cond (coaccessible (decode bs .states) (decode bs) (decode bs .start)) 0 16) in
+      let t : Transducer = decode bs in
+      let rest : ℕ =
+      cond (ltb (length a) max-path || ltb (length b) max-path) 10
+      (cond (not (coaccessible (t .states) t (t .start))) 16 (cond (falling t) 19 0)) in
       let number : cond (eqb (refusal bs) 0) rest (refusal bs) ≡ n = rw (← e, ne-eqb n 0 nonzero) in
       told-refused (decode bs) (shortest (decode bs)) (shortest-refusal bs (length a) (length b)) n r a b number nonzero h
 
@@ -101,16 +110,31 @@ module _ (bs : List ℕ) {a b : List ℕ} {n : ℕ} {r : Told} where
 
   module _ (e : n ≡ refusal bs) (z : n ≡ 0) (la : max-path ≤ length a) (lb : max-path ≤ length b) where
     -- 16
-    pub shortest-none : {cs ls : List ℕ} {start : ℕ} → Sized (decode bs) → Distances-settled (decode bs) cs ls → start ≡ decode bs .start
-        → by-state cs start ≡ no-path
+    pub shortest-none : {cs : List Weight} {ls : List ℕ} {start : ℕ} {d : Bool} → Sized (decode bs) → Distances-say (decode bs) cs ls d → d ≡ true
+        → start ≡ decode bs .start → At-most unreached (cost-at cs start)
         → r ≡ refused-told 16 → Shortest-says bs (shortest-refusal bs (length a) (length b)) r a a b b
     unfolding shortest-refusal or-else
-    shortest-none {cs} {ls} size says s q h =
+    shortest-none {cs} {ls} {start} size says on s q h =
         let ok : refusal bs ≡ 0 = sym e ∙ z in
-        let none : coaccessible (decode bs .states) (decode bs) (decode bs .start) ≡ false =
-        no-path-none (decode bs) size (by-state cs) (by-state ls) (says .settled) (decode bs .start) (size .within .starts) (rw s at q) in
+        let t : Transducer = decode bs in
+        let k : Settled t (cost-at cs) (by-state ls) = says .settled on in
+        let none : coaccessible (t .states) t (t .start) ≡ false =
+        no-path-none t size (cost-at cs) (by-state ls) k (t .start) (size .within .starts) (k .start) (rw s at q) in
         told-refused (decode bs) (shortest (decode bs)) (shortest-refusal bs (length a) (length b)) 16 r a b
         (rw (ok, le-ltb (length a) max-path la, le-ltb (length b) max-path lb, none)) (λ q'. omega arith) h
+
+    -- 19: some path accepts, and a cycle below zero lies on it.
+    pub shortest-falls : {cs : List Weight} {ls : List ℕ} {d : Bool} → Sized (decode bs) → Distances-say (decode bs) cs ls d → d ≡ false
+        → r ≡ refused-told 19 → Shortest-says bs (shortest-refusal bs (length a) (length b)) r a a b b
+    unfolding shortest-refusal or-else
+    shortest-falls {cs} {ls} size says off h =
+        let ok : refusal bs ≡ 0 = sym e ∙ z in
+        let t : Transducer = decode bs in
+        let f : Falling t (t .start) = says .falling off in
+        let some : coaccessible (t .states) t (t .start) ≡ true =
+        path-coaccessible t (size .within) (t .start) (f .lead ++ (f .cycle ++ f .rest)) (falling-accepting t (t .start) f) in
+        told-refused (decode bs) (shortest (decode bs)) (shortest-refusal bs (length a) (length b)) 19 r a b
+        (rw (ok, le-ltb (length a) max-path la, le-ltb (length b) max-path lb, some, falling-true t (size .within) f)) (λ q'. omega arith) h
 
     pub shortest-told : {v : ℕ → ℕ} {start len : ℕ} {a' b' : List ℕ} → Found (decode bs) v start len → a' ≡ filled (length a) (follow len (decode bs) v start)
         → Tells (decode bs) (take len a') r b b' → Shortest-says bs (shortest-refusal bs (length a) (length b)) r a a' b b'
@@ -120,4 +144,4 @@ module _ (bs : List ℕ) {a b : List ℕ} {n : ℕ} {r : Told} where
         let told : Tells (decode bs) (shortest (decode bs)) r b b' = rw (st .taken) at told' in
         let ok : refusal bs ≡ 0 = sym e ∙ z in
         told-found (decode bs) (shortest (decode bs)) (shortest-refusal bs (length a) (length b)) r a a' b b'
-        (rw (ok, le-ltb (length a) max-path la, le-ltb (length b) max-path lb, f .some)) (put ∙ ap (filled (length a)) (f .is)) told
+        (rw (ok, le-ltb (length a) max-path la, le-ltb (length b) max-path lb, f .some, f .rises)) (put ∙ ap (filled (length a)) (f .is)) told

@@ -1,119 +1,154 @@
 -- `better` is a strict order in which any two different paths compare; the best of a list stands in it, and none of the list is better. Assumes nothing.
 use mathlib.Core.Path.{_≡_, refl, sym, _∙_}
-use mathlib.Core.Bool.{Bool, true, false, _&&_, _||_, cond}
+use mathlib.Core.Bool.{Bool, true, false, _&&_, _||_, not, cond}
 use mathlib.Core.Logic.{_⊎_, inl, inr}
 use mathlib.Core.List.{List, [], _∷_}
 use mathlib.Core.List.{List·Memᴰ as Mem, List·Memᴰ·head as first, List·Memᴰ·tail as later, List·Memᴰ·not-nil as none-in}
 use mathlib.Core.List.{List·Memᴰ·cases-cons as first-or-later, List·Memᴰ·eq-of-singleton as only}
 use Prim.Native.Nat.{ℕ, _≤_, _<_}
 use native.Mathlib.Omega.{arith}
-use lib.Dec.{ltb, eqb}
+use lib.Dec.{ltb}
 use lib.ListN.{length}
-use borrow.Author.Tests.{eqb-true, eq-eqb, ltb-true, ltb-false, lt-ltb}
-use Rattle.wire.proofs.Bool.{clash, and-true, true-and, or-true, or-left, or-right}
+use borrow.Author.Tests.{ltb-true, ltb-false, lt-ltb, not-true, not-false}
+use Rattle.wire.proofs.Bool.{clash, is-false, and-true, true-and, or-true, or-left, or-right}
 use Rattle.transducer.specs.Format.{Transducer}
 use Rattle.transducer.specs.Path.{path-cost}
+use Rattle.transducer.specs.Weight.{Weight, At-most, Below, at-most, below}
+use Rattle.transducer.proofs.Weights.{sums}
 use Rattle.paths.specs.Count.{before}
 use Rattle.paths.proofs.Order.{Compared, earlier, same, after, before-total, before-irreflexive, before-transitive}
-use Rattle.shortest.specs.Shortest.{nearer, better, best-of, best}
+use Rattle.shortest.specs.Shortest.{nearer, nearer-path, better, best-of, best}
 use Rattle.shortest.specs.Nearest.{No-worse, Nearer}
 
 -- A cost and a number of arcs before another.
 
-pub nearer-true : (x l y k : ℕ) → nearer x l y k ≡ true → Nearer x l y k
+pub nearer-true : (x : Weight) (l : ℕ) (y : Weight) (k : ℕ) → nearer x l y k ≡ true → Nearer x l y k
 unfolding nearer
-nearer-true x l y k h = on (or-true (ltb x y) (eqb x y && ltb l k) h)
+nearer-true x l y k h = on (or-true (below x y) (at-most x y && ltb l k) h)
   where
-    on : (ltb x y ≡ true) ⊎ (eqb x y && ltb l k ≡ true) → Nearer x l y k
-    on (inl e) =
-        let less : x < y = ltb-true x y e in
-        record { cost = omega arith; arcs = λ u. absurd (omega arith) }
+    on : (below x y ≡ true) ⊎ (at-most x y && ltb l k ≡ true) → Nearer x l y k
+    on (inl e) = record { cost = omega (arith, sums); arcs = λ u. absurd (omega (arith, sums)) }
     on (inr e) =
-        let both = and-true (eqb x y) (ltb l k) e in
-        let level : x ≡ y = eqb-true x y (both .0) in
-        let less : l < k = ltb-true l k (both .1) in
-        record { cost = omega arith; arcs = λ u. less }
+        let both = and-true (at-most x y) (ltb l k) e in
+        record { cost = omega (arith, sums, both .0); arcs = λ u. ltb-true l k (both .1) }
 
-pub cheaper-nearer : (x l y k : ℕ) → x < y → nearer x l y k ≡ true
+pub true-nearer : (x : Weight) (l : ℕ) (y : Weight) (k : ℕ) → Nearer x l y k → nearer x l y k ≡ true
 unfolding nearer
-cheaper-nearer x l y k h = or-left (ltb x y) (eqb x y && ltb l k) (lt-ltb x y h)
-
-pub fewer-nearer : (x l y k : ℕ) → x ≡ y → l < k → nearer x l y k ≡ true
-unfolding nearer
-fewer-nearer x l y k e h = or-right (ltb x y) (eqb x y && ltb l k) (true-and (eqb x y) (ltb l k) (eq-eqb x y e) (lt-ltb l k h))
-
-pub nearer-false : (x l y k : ℕ) → nearer x l y k ≡ false → No-worse y k x l
-nearer-false x l y k h = record { cost = cost (ltb x y) refl; arcs = λ e. arcs e (cost (ltb x y) refl) (ltb l k) refl }
+true-nearer x l y k h = on (below x y) refl
   where
-    cost : (b : Bool) → ltb x y ≡ b → y ≤ x
-    cost true e = clash (cheaper-nearer x l y k (ltb-true x y e)) h
-    cost false e = ltb-false x y e
+    on : (b : Bool) → below x y ≡ b → b || (at-most x y && ltb l k) ≡ true
+    on true e = refl
+    on false e =
+        let a : at-most x y ≡ true = omega (arith, sums, h .cost) in
+        true-and (at-most x y) (ltb l k) a (lt-ltb l k (h .arcs (omega (arith, sums))))
 
-    arcs : x ≤ y → y ≤ x → (b : Bool) → ltb l k ≡ b → k ≤ l
-    arcs u v true e = clash (fewer-nearer x l y k (omega arith) (ltb-true l k e)) h
-    arcs u v false e = ltb-false l k e
+pub nearer-false : (x : Weight) (l : ℕ) (y : Weight) (k : ℕ) → nearer x l y k ≡ false → No-worse y k x l
+unfolding nearer
+nearer-false x l y k h = record { cost = cost (below x y) refl; arcs = λ u. arcs u (ltb l k) refl }
+  where
+    cost : (b : Bool) → below x y ≡ b → At-most y x
+    cost true e = clash (or-left (below x y) (at-most x y && ltb l k) e) h
+    cost false e = omega (arith, sums)
 
--- The three ways for a path to be better.
+    arcs : At-most x y → (b : Bool) → ltb l k ≡ b → k ≤ l
+    arcs u true e =
+        let a : at-most x y ≡ true = omega (arith, sums) in
+        clash (or-right (below x y) (at-most x y && ltb l k) (true-and (at-most x y) (ltb l k) a e)) h
+    arcs u false e = ltb-false l k e
+
+-- Of two, one is no worse; what is nearer is not worse, and the other way round not at all.
+
+module _ {x : Weight} {l : ℕ} {y : Weight} {k : ℕ} where
+  pub nearer-no-worse : Nearer x l y k → No-worse x l y k
+  nearer-no-worse h = record { cost = h .cost; arcs = λ u. omega (arith, h .arcs u) }
+
+  pub nearer-not : Nearer x l y k → No-worse y k x l → ⊥
+  nearer-not h n = omega (arith, h .arcs (n .cost), n .arcs (h .cost))
+
+  pub false-nearer : No-worse y k x l → nearer x l y k ≡ false
+  false-nearer n = is-false (nearer x l y k) (λ e. nearer-not (nearer-true x l y k e) n)
+
+  pub nearer-through : {z : Weight} {m : ℕ} → Nearer x l y k → No-worse y k z m → Nearer x l z m
+  nearer-through {z} {m} h n =
+      record {
+        cost = omega (arith, sums, h .cost, n .cost);
+        arcs = λ u.
+            let a : At-most y x = omega (arith, sums, h .cost, n .cost) in
+            let b : At-most z y = omega (arith, sums, h .cost, n .cost) in
+            omega (arith, h .arcs a, n .arcs b);
+      }
+
+  pub through-nearer : {z : Weight} {m : ℕ} → No-worse x l y k → Nearer y k z m → Nearer x l z m
+  through-nearer {z} {m} h n =
+      record {
+        cost = omega (arith, sums, h .cost, n .cost);
+        arcs = λ u.
+            let a : At-most y x = omega (arith, sums, h .cost, n .cost) in
+            let b : At-most z y = omega (arith, sums, h .cost, n .cost) in
+            omega (arith, h .arcs a, n .arcs b);
+      }
+
+  pub no-worse-through : {z : Weight} {m : ℕ} → No-worse x l y k → No-worse y k z m → No-worse x l z m
+  no-worse-through {z} {m} h n =
+      record {
+        cost = omega (arith, sums, h .cost, n .cost);
+        arcs = λ u.
+            let a : At-most y x = omega (arith, sums, h .cost, n .cost) in
+            let b : At-most z y = omega (arith, sums, h .cost, n .cost) in
+            omega (arith, h .arcs a, n .arcs b);
+      }
+
+  pub no-worse-both : No-worse x l y k → No-worse y k x l → (x ≡ y) × (l ≡ k)
+  no-worse-both h n = (omega (arith, sums, h .cost, n .cost), omega (arith, h .arcs (n .cost), n .arcs (h .cost)))
+
+pub no-worse-same : (x : Weight) (l : ℕ) → No-worse x l x l
+no-worse-same x l = record { cost = omega (arith, sums); arcs = λ u. omega arith }
+
+-- A path against another, by cost and number of arcs.
+
+abbrev pub Near : Transducer → (p q : List ℕ) → Type 0
+Near t p q = No-worse (path-cost t p) (length p) (path-cost t q) (length q)
+
+pub path-nearer : (t : Transducer) (p q : List ℕ) → nearer-path t p q ≡ true → Nearer (path-cost t p) (length p) (path-cost t q) (length q)
+unfolding nearer-path
+path-nearer t p q h = nearer-true (path-cost t p) (length p) (path-cost t q) (length q) h
+
+pub path-not-nearer : (t : Transducer) (p q : List ℕ) → nearer-path t p q ≡ false → Near t q p
+unfolding nearer-path
+path-not-nearer t p q h = nearer-false (path-cost t p) (length p) (path-cost t q) (length q) h
+
+pub near-false : (t : Transducer) (p q : List ℕ) → Near t q p → nearer-path t p q ≡ false
+unfolding nearer-path
+near-false t p q n = false-nearer n
+
+pub nearer-path-true : (t : Transducer) (p q : List ℕ) → Nearer (path-cost t p) (length p) (path-cost t q) (length q) → nearer-path t p q ≡ true
+unfolding nearer-path
+nearer-path-true t p q h = true-nearer (path-cost t p) (length p) (path-cost t q) (length q) h
+
+-- The two ways for a path to be better.
 pub data Wins (t : Transducer) (p q : List ℕ) : Type 0 where
-  cheaper : path-cost t p < path-cost t q → Wins t p q
-  fewer : path-cost t p ≡ path-cost t q → length p < length q → Wins t p q
-  sooner : path-cost t p ≡ path-cost t q → length p ≡ length q → before p q ≡ true → Wins t p q
+  nearer-wins : Nearer (path-cost t p) (length p) (path-cost t q) (length q) → Wins t p q
+  sooner : Near t p q → before p q ≡ true → Wins t p q
 
 pub better-wins : (t : Transducer) (p q : List ℕ) → better t p q ≡ true → Wins t p q
-unfolding better nearer
-better-wins t p q h = on (or-true (nearer x l y k) tie h)
+unfolding better
+better-wins t p q h = on (or-true (nearer-path t p q) (not (nearer-path t q p) && before p q) h)
   where
-    x : ℕ
-    x = path-cost t p
-
-    y : ℕ
-    y = path-cost t q
-
-    l : ℕ
-    l = length p
-
-    k : ℕ
-    k = length q
-
-    tie : Bool
-    tie = eqb x y && (eqb l k && before p q)
-
-    near : (ltb x y ≡ true) ⊎ (eqb x y && ltb l k ≡ true) → Wins t p q
-    near (inl e) = cheaper (ltb-true x y e)
-    near (inr e) = let both = and-true (eqb x y) (ltb l k) e in fewer (eqb-true x y (both .0)) (ltb-true l k (both .1))
-
-    on : (nearer x l y k ≡ true) ⊎ (tie ≡ true) → Wins t p q
-    on (inl e) = near (or-true (ltb x y) (eqb x y && ltb l k) e)
+    on : (nearer-path t p q ≡ true) ⊎ (not (nearer-path t q p) && before p q ≡ true) → Wins t p q
+    on (inl e) = nearer-wins (path-nearer t p q e)
     on (inr e) =
-        let both = and-true (eqb x y) (eqb l k && before p q) e in
-        let rest = and-true (eqb l k) (before p q) (both .1) in
-        sooner (eqb-true x y (both .0)) (eqb-true l k (rest .0)) (rest .1)
+        let both = and-true (not (nearer-path t q p)) (before p q) e in
+        sooner (path-not-nearer t q p (not-true (nearer-path t q p) (both .0))) (both .1)
 
 pub wins-better : (t : Transducer) (p q : List ℕ) → Wins t p q → better t p q ≡ true
 unfolding better
 wins-better t p q w = on w
   where
-    x : ℕ
-    x = path-cost t p
-
-    y : ℕ
-    y = path-cost t q
-
-    l : ℕ
-    l = length p
-
-    k : ℕ
-    k = length q
-
-    tie : Bool
-    tie = eqb x y && (eqb l k && before p q)
-
-    on : Wins t p q → nearer x l y k || tie ≡ true
-    on (cheaper h) = or-left (nearer x l y k) tie (cheaper-nearer x l y k h)
-    on (fewer e h) = or-left (nearer x l y k) tie (fewer-nearer x l y k e h)
-    on (sooner e f h) =
-        or-right (nearer x l y k) tie
-        (true-and (eqb x y) (eqb l k && before p q) (eq-eqb x y e) (true-and (eqb l k) (before p q) (eq-eqb l k f) h))
+    on : Wins t p q → nearer-path t p q || (not (nearer-path t q p) && before p q) ≡ true
+    on (nearer-wins h) = or-left (nearer-path t p q) (not (nearer-path t q p) && before p q) (nearer-path-true t p q h)
+    on (sooner n h) =
+        let level : not (nearer-path t q p) ≡ true = rw (near-false t q p n) refl in
+        or-right (nearer-path t p q) (not (nearer-path t q p) && before p q) (true-and (not (nearer-path t q p)) (before p q) level h)
 
 -- A strict order.
 
@@ -121,98 +156,55 @@ pub better-irreflexive : (t : Transducer) (p : List ℕ) → better t p p ≡ tr
 better-irreflexive t p h = on (better-wins t p p h)
   where
     on : Wins t p p → ⊥
-    on (cheaper l) = omega arith
-    on (fewer e l) = omega arith
-    on (sooner e f b) = before-irreflexive p b
+    on (nearer-wins n) = nearer-not n (no-worse-same (path-cost t p) (length p))
+    on (sooner n b) = before-irreflexive p b
 
 pub not-better-same : (t : Transducer) (p : List ℕ) → better t p p ≡ false
-not-better-same t p = on (better t p p) refl
-  where
-    on : (b : Bool) → better t p p ≡ b → better t p p ≡ false
-    on true e = absurd (better-irreflexive t p e)
-    on false e = e
+not-better-same t p = is-false (better t p p) (better-irreflexive t p)
 
 pub better-transitive : (t : Transducer) (p q r : List ℕ) → better t p q ≡ true → better t q r ≡ true → better t p r ≡ true
 better-transitive t p q r a b = wins-better t p r (on (better-wins t p q a) (better-wins t q r b))
   where
     on : Wins t p q → Wins t q r → Wins t p r
-    on (cheaper h) (cheaper k) = cheaper (omega arith)
-    on (cheaper h) (fewer e k) = cheaper (omega arith)
-    on (cheaper h) (sooner e f k) = cheaper (omega arith)
-    on (fewer e h) (cheaper k) = cheaper (omega arith)
-    on (fewer e h) (fewer f k) = fewer (e ∙ f) (omega arith)
-    on (fewer e h) (sooner f g k) = fewer (e ∙ f) (omega arith)
-    on (sooner e f h) (cheaper k) = cheaper (omega arith)
-    on (sooner e f h) (fewer g k) = fewer (e ∙ g) (omega arith)
-    on (sooner e f h) (sooner g i k) = sooner (e ∙ g) (f ∙ i) (before-transitive p q r h k)
+    on (nearer-wins h) (nearer-wins k) = nearer-wins (nearer-through h (nearer-no-worse k))
+    on (nearer-wins h) (sooner k e) = nearer-wins (nearer-through h k)
+    on (sooner h e) (nearer-wins k) = nearer-wins (through-nearer h k)
+    on (sooner h e) (sooner k f) = sooner (no-worse-through h k) (before-transitive p q r e f)
 
 -- What it says of two paths that the first is not better.
 pub record Not-better (t : Transducer) (p q : List ℕ) : Type 0 where
-  pub near : No-worse (path-cost t q) (length q) (path-cost t p) (length p)
-  pub order : path-cost t p ≡ path-cost t q → length p ≡ length q → before p q ≡ false
+  pub near : Near t q p
+  pub order : Near t p q → before p q ≡ false
 
 pub better-false : (t : Transducer) (p q : List ℕ) → better t p q ≡ false → Not-better t p q
-better-false t p q h =
-    record {
-      near = record { cost = cost (ltb x y) refl; arcs = λ e. arcs e (cost (ltb x y) refl) (ltb (length p) (length q)) refl };
-      order = λ e f. order e f (before p q) refl;
-    }
+better-false t p q h = record { near = near (nearer-path t p q) refl; order = λ n. is-false (before p q) (λ b. clash (wins-better t p q (sooner n b)) h) }
   where
-    x : ℕ
-    x = path-cost t p
-
-    y : ℕ
-    y = path-cost t q
-
-    cost : (b : Bool) → ltb x y ≡ b → y ≤ x
-    cost true e = clash (wins-better t p q (cheaper (ltb-true x y e))) h
-    cost false e = ltb-false x y e
-
-    arcs : x ≤ y → y ≤ x → (b : Bool) → ltb (length p) (length q) ≡ b → length q ≤ length p
-    arcs u v true e = clash (wins-better t p q (fewer (omega arith) (ltb-true (length p) (length q) e))) h
-    arcs u v false e = ltb-false (length p) (length q) e
-
-    order : x ≡ y → length p ≡ length q → (b : Bool) → before p q ≡ b → before p q ≡ false
-    order e f true g = clash (wins-better t p q (sooner e f g)) h
-    order e f false g = g
+    near : (b : Bool) → nearer-path t p q ≡ b → Near t q p
+    near true e = clash (wins-better t p q (nearer-wins (path-nearer t p q e))) h
+    near false e = path-not-nearer t p q e
 
 pub not-better : (t : Transducer) (p q : List ℕ) → Not-better t p q → better t p q ≡ false
-not-better t p q n = on (better t p q) refl
+not-better t p q n = is-false (better t p q) (λ h. lost (better-wins t p q h))
   where
-    lost : Wins t p q → better t p q ≡ false
-    lost (cheaper h) = absurd (omega (arith, n .near .cost))
-    lost (fewer e h) = absurd (omega (arith, n .near .arcs (omega arith)))
-    lost (sooner e f h) = clash h (n .order e f)
-
-    on : (b : Bool) → better t p q ≡ b → better t p q ≡ false
-    on true e = lost (better-wins t p q e)
-    on false e = e
+    lost : Wins t p q → ⊥
+    lost (nearer-wins h) = nearer-not h (n .near)
+    lost (sooner h b) = clash b (n .order h)
 
 -- Of two different paths one is better.
 pub better-total : (t : Transducer) (p q : List ℕ) → better t p q ≡ false → (p ≡ q) ⊎ (better t q p ≡ true)
-better-total t p q h = on (ltb y x) refl
+better-total t p q h = on (nearer-path t q p) refl
   where
-    x : ℕ
-    x = path-cost t p
-
-    y : ℕ
-    y = path-cost t q
-
     n : Not-better t p q
     n = better-false t p q h
 
-    level : x ≡ y → length p ≡ length q → Compared p q → (p ≡ q) ⊎ (better t q p ≡ true)
-    level e f (earlier b) = clash b (n .order e f)
-    level e f (same s) = inl s
-    level e f (after b) = inr (wins-better t q p (sooner (sym e) (sym f) b))
+    level : Near t p q → Compared p q → (p ≡ q) ⊎ (better t q p ≡ true)
+    level e (earlier b) = clash b (n .order e)
+    level e (same s) = inl s
+    level e (after b) = inr (wins-better t q p (sooner (n .near) b))
 
-    arcs : x ≡ y → (b : Bool) → ltb (length q) (length p) ≡ b → (p ≡ q) ⊎ (better t q p ≡ true)
-    arcs e true f = inr (wins-better t q p (fewer (sym e) (ltb-true (length q) (length p) f)))
-    arcs e false f = level e (omega (arith, ltb-false (length q) (length p) f, n .near .arcs (omega arith))) (before-total p q)
-
-    on : (b : Bool) → ltb y x ≡ b → (p ≡ q) ⊎ (better t q p ≡ true)
-    on true e = inr (wins-better t q p (cheaper (ltb-true y x e)))
-    on false e = arcs (omega (arith, ltb-false y x e, n .near .cost)) (ltb (length q) (length p)) refl
+    on : (b : Bool) → nearer-path t q p ≡ b → (p ≡ q) ⊎ (better t q p ≡ true)
+    on true e = inr (wins-better t q p (nearer-wins (path-nearer t q p e)))
+    on false e = level (path-not-nearer t q p e) (before-total p q)
 
 -- Two paths of which neither is better are the same.
 pub neither-better-same : (t : Transducer) (p q : List ℕ) → better t p q ≡ false → better t q p ≡ false → p ≡ q
@@ -242,11 +234,11 @@ unfolding best-of
 best-of-least t p [] q m = rw (only m) (not-better-same t p)
 best-of-least t p (r ∷ l) q m = on (better t r p) refl (λ x y h. best-of-least t x l y h) (first-or-later m)
   where
-    Below : Type 0
-    Below = (x y : List ℕ) → Mem y (x ∷ l) → better t y (best-of t x l) ≡ false
+    Less : Type 0
+    Less = (x y : List ℕ) → Mem y (x ∷ l) → better t y (best-of t x l) ≡ false
 
     -- What is not better than p is not better than the best of p and others.
-    behind : Below → (y : List ℕ) → better t y p ≡ false → (b : Bool) → better t y (best-of t p l) ≡ b → better t y (best-of t p l) ≡ false
+    behind : Less → (y : List ℕ) → better t y p ≡ false → (b : Bool) → better t y (best-of t p l) ≡ b → better t y (best-of t p l) ≡ false
     behind below y h false e = e
     behind below y h true e = next (better-total t p (best-of t p l) (below p p (first refl)))
       where
@@ -255,24 +247,24 @@ best-of-least t p (r ∷ l) q m = on (better t r p) refl (λ x y h. best-of-leas
         next (inr b) = clash (better-transitive t y (best-of t p l) p e b) h
 
     -- What is worse than r is not better than the best of r and others.
-    worse : Below → (y : List ℕ) → better t r y ≡ true → (b : Bool) → better t y (best-of t r l) ≡ b → better t y (best-of t r l) ≡ false
+    worse : Less → (y : List ℕ) → better t r y ≡ true → (b : Bool) → better t y (best-of t r l) ≡ b → better t y (best-of t r l) ≡ false
     worse below y h false e = e
     worse below y h true e =
         clash (better-transitive t r y (best-of t r l) h e) (below r r (first refl))
 
-    won : Below → better t r p ≡ true → (q ≡ p) ⊎ Mem q (r ∷ l) → better t q (best-of t r l) ≡ false
+    won : Less → better t r p ≡ true → (q ≡ p) ⊎ Mem q (r ∷ l) → better t q (best-of t r l) ≡ false
     won below h (inl e) = rw e (worse below p h (better t p (best-of t r l)) refl)
     won below h (inr m') = below r q m'
 
-    lost : Below → better t r p ≡ false → (q ≡ r) ⊎ Mem q l → better t q (best-of t p l) ≡ false
+    lost : Less → better t r p ≡ false → (q ≡ r) ⊎ Mem q l → better t q (best-of t p l) ≡ false
     lost below h (inl e) = rw e (behind below r h (better t r (best-of t p l)) refl)
     lost below h (inr m') = below p q (later m')
 
-    kept : Below → better t r p ≡ false → (q ≡ p) ⊎ Mem q (r ∷ l) → better t q (best-of t p l) ≡ false
+    kept : Less → better t r p ≡ false → (q ≡ p) ⊎ Mem q (r ∷ l) → better t q (best-of t p l) ≡ false
     kept below h (inl e) = below p q (first e)
     kept below h (inr m') = lost below h (first-or-later m')
 
-    on : (b : Bool) → better t r p ≡ b → Below → (q ≡ p) ⊎ Mem q (r ∷ l) → better t q (best-of t (cond b r p) l) ≡ false
+    on : (b : Bool) → better t r p ≡ b → Less → (q ≡ p) ⊎ Mem q (r ∷ l) → better t q (best-of t (cond b r p) l) ≡ false
     on true e below o = won below e o
     on false e below o = kept below e o
 

@@ -1,4 +1,5 @@
--- The shortest path: it accepts where anything does, no accepting path is better, however long, and it has fewer arcs than there are states. Assumes nothing.
+-- The shortest path where no cycle below zero lies on an accepting path: it accepts where anything does, no accepting path is better, however long, and it
+-- has fewer arcs than there are states. Assumes nothing.
 use mathlib.Core.Path.{_≡_, refl}
 use mathlib.Core.Bool.{Bool, true, false}
 use mathlib.Core.Logic.{_↔_}
@@ -12,25 +13,32 @@ use borrow.Author.Tests.{leb-true, leb-false}
 use Rattle.wire.proofs.Bool.{clash}
 use Rattle.transducer.specs.Format.{Transducer}
 use Rattle.transducer.specs.Path.{accepts, path-cost}
+use Rattle.transducer.specs.Weight.{At-most}
 use Rattle.transducer.proofs.Runs.{accepts-accepting, accepting-accepts, Within}
+use Rattle.transducer.proofs.Weights.{sums}
 use Rattle.reach.specs.Reach.{coaccessible}
 use Rattle.reach.proofs.Reach.{coaccessible-path, path-coaccessible}
 use Rattle.paths.specs.Count.{paths-from}
 use Rattle.paths.proofs.Listed.{in-paths-from, paths-from-has}
 use Rattle.shortest.specs.Shortest.{better, shortest}
-use Rattle.shortest.proofs.Best.{Not-better, better-false, not-better, neither-better-same, best-in, best-least}
-use Rattle.shortest.proofs.Cheaper.{cost-start, Shorter, cheap-and-short}
+use Rattle.least.specs.Cycles.{Falling, falling}
+use Rattle.least.proofs.Costs.{cost-start}
+use Rattle.least.proofs.Cycles.{Shorter, shorter}
+use Rattle.least.proofs.Falls.{falling-true}
+use Rattle.shortest.proofs.Best.{Near, no-worse-through, Not-better, better-false, not-better, neither-better-same, best-in, best-least}
 
-module _ (t : Transducer) (w : Within t) (p : List ℕ) (a : accepts t p ≡ true) where
+module _ (t : Transducer) (w : Within t) (rises : falling t ≡ false) (p : List ℕ) (a : accepts t p ≡ true) where
   -- An accepting path that is listed, no dearer and no longer.
   listed : Shorter t (t .start) p
-  listed = cheap-and-short t w (t .start) p (w .starts) (accepts-accepting t p a)
+  listed = shorter t w (t .start) p (w .starts) (λ f. clash (falling-true t w f) rises) (accepts-accepting t p a)
 
   listed-in : Mem (listed .path) (paths-from (t .states) t (t .start))
   listed-in = paths-from-has (t .states) t (t .start) (listed .path) (listed .accepting) (omega (arith, listed .few))
 
-  listed-costs : path-cost t (listed .path) ≤ path-cost t p
-  listed-costs = omega (arith, listed .costs, cost-start t (listed .path), cost-start t p)
+  listed-near : Near t (listed .path) p
+  listed-near =
+      let costs : At-most (path-cost t (listed .path)) (path-cost t p) = rw (cost-start t (listed .path), cost-start t p) at (listed .costs) in
+      record { cost = costs; arcs = λ _. listed .arcs }
 
   shortest-in : Mem (shortest t) (paths-from (t .states) t (t .start))
   unfolding shortest
@@ -43,38 +51,44 @@ module _ (t : Transducer) (w : Within t) (p : List ℕ) (a : accepts t p ≡ tru
   unfolding shortest
   least-listed q m = best-least t (paths-from (t .states) t (t .start)) q m
 
+  shortest-near : Near t (shortest t) (listed .path)
+  shortest-near = better-false t (listed .path) (shortest t) (least-listed (listed .path) listed-in) .near
+
   pub nothing-better : better t p (shortest t) ≡ false
   nothing-better = on (leb (length p) (t .states)) refl
     where
-      n : Not-better t (listed .path) (shortest t)
-      n = better-false t (listed .path) (shortest t) (least-listed (listed .path) listed-in)
-
       on : (b : Bool) → leb (length p) (t .states) ≡ b → better t p (shortest t) ≡ false
       on true e =
           least-listed p (paths-from-has (t .states) t (t .start) p (accepts-accepting t p a) (leb-true (length p) (t .states) e))
       on false e =
           let long : t .states < length p = leb-false (length p) (t .states) e in
-          let arcs : path-cost t p ≤ path-cost t (shortest t) → length (shortest t) ≤ length (listed .path) =
-          λ u. n .near .arcs (omega (arith, listed-costs)) in
           not-better t p (shortest t) (record {
-            near = record { cost = omega (arith, n .near .cost, listed-costs); arcs = λ u. omega (arith, arcs u, listed .arcs) };
-            order = λ u f. absurd (omega (arith, arcs (omega arith), listed .few));
+            near = no-worse-through shortest-near listed-near;
+            order = λ n.
+                let low : At-most (path-cost t (listed .path)) (path-cost t (shortest t)) = omega (arith, sums, n .cost, listed-near .cost) in
+                let high : At-most (path-cost t (shortest t)) (path-cost t p) = omega (arith, sums, shortest-near .cost, listed-near .cost) in
+                absurd (omega (arith, n .arcs high, shortest-near .arcs low, listed .few));
           })
 
+  -- Its cost is the least, however many arcs others have.
+  pub shortest-least : At-most (path-cost t (shortest t)) (path-cost t p)
+  shortest-least = better-false t p (shortest t) nothing-better .near .cost
+
 -- The shortest path again, of which no more is asked than that something accepts.
-pub shortest-short : (t : Transducer) → Within t → (p : List ℕ) → accepts t p ≡ true → length (shortest t) < t .states
-shortest-short t w p a =
+pub shortest-short : (t : Transducer) → Within t → falling t ≡ false → (p : List ℕ) → accepts t p ≡ true → length (shortest t) < t .states
+shortest-short t w f p a =
     let m : List ℕ = shortest t in
-    let b : accepts t m ≡ true = shortest-accepts t w p a in
-    let q : Shorter t (t .start) m = listed t w m b in
-    let n : Not-better t (q .path) m = better-false t (q .path) m (nothing-better t w (q .path) (accepting-accepts t (q .path) (q .accepting))) in
-    let less : length m ≤ length (q .path) = n .near .arcs (listed-costs t w m b) in
+    let b : accepts t m ≡ true = shortest-accepts t w f p a in
+    let q : Shorter t (t .start) m = listed t w f m b in
+    let n : Not-better t (q .path) m = better-false t (q .path) m (nothing-better t w f (q .path) (accepting-accepts t (q .path) (q .accepting))) in
+    let less : length m ≤ length (q .path) = n .near .arcs (listed-near t w f m b .cost) in
     omega (arith, q .few)
 
 -- An accepting path that none is better than is the shortest one.
-pub shortest-is : (t : Transducer) → Within t → (p : List ℕ) → accepts t p ≡ true → ((q : List ℕ) → accepts t q ≡ true → better t q p ≡ false) → p ≡ shortest t
-shortest-is t w p a h =
-    neither-better-same t p (shortest t) (nothing-better t w p a) (h (shortest t) (shortest-accepts t w p a))
+pub shortest-is : (t : Transducer) → Within t → falling t ≡ false → (p : List ℕ) → accepts t p ≡ true
+    → ((q : List ℕ) → accepts t q ≡ true → better t q p ≡ false) → p ≡ shortest t
+shortest-is t w f p a h =
+    neither-better-same t p (shortest t) (nothing-better t w f p a) (h (shortest t) (shortest-accepts t w f p a))
 
 -- Refusal 16: no path accepts.
 pub nothing-accepts : (t : Transducer) → Within t → (coaccessible (t .states) t (t .start) ≡ false) ↔ ((p : List ℕ) → accepts t p ≡ false)

@@ -1,22 +1,24 @@
 -- A state's first tight arc: where some arc is tight, the first that gives its source's cost and number of arcs is tight and leaves the same state.
 -- Assumes nothing.
-use mathlib.Core.Path.{_≡_, refl, ap, _∙_}
-use mathlib.Core.Bool.{Bool, true, false, _&&_, cond}
+use mathlib.Core.Path.{_≡_, refl, sym, ap, _∙_}
+use mathlib.Core.Bool.{Bool, true, false, not, cond}
 use Prim.Native.Nat.{ℕ, zero, suc, _+_, _-_, _≤_, _<_}
 use native.Mathlib.Omega.{arith}
 use native.Mathlib.Decide.{ℕ-discrete}
-use lib.Dec.{eqb}
 use lib.ListN.{length}
-use borrow.Author.Tests.{eqb-true, eq-eqb}
-use Rattle.wire.proofs.Bool.{clash, and-true, true-and}
+use borrow.Author.Tests.{not-true}
+use Rattle.wire.proofs.Bool.{clash}
 use Rattle.transducer.specs.Format.{Transducer}
 use Rattle.transducer.specs.Path.{arc}
+use Rattle.transducer.specs.Weight.{Weight}
 use Rattle.transducer.specs.Leaf.{arcs-below}
 use Rattle.transducer.proofs.Good.{Content}
 use Rattle.transducer.proofs.Index.{arcs-of-state, state-of-arcs}
-use Rattle.shortest.specs.Nearest.{cost-by, arcs-by, Tight, First, gives, first-giving, first-tight}
+use Rattle.shortest.specs.Shortest.{nearer}
+use Rattle.shortest.specs.Nearest.{No-worse, cost-by, arcs-by, Tight, First, gives, first-giving, first-tight}
+use Rattle.shortest.proofs.Best.{no-worse-same, no-worse-both, nearer-false, false-nearer}
 
-module _ (t : Transducer) (c l : ℕ → ℕ) (s : ℕ) where
+module _ (t : Transducer) (c : ℕ → Weight) (l : ℕ → ℕ) (s : ℕ) where
   -- The first arc that gives them, no later than any other.
   pub record Found-first (i j v : ℕ) : Type 0 where
     pub gives-them : gives t c l s v ≡ true
@@ -55,21 +57,21 @@ module _ (t : Transducer) (c l : ℕ → ℕ) (s : ℕ) where
       let all : i ≡ first-giving (to - from) t c l s from = rw none at (k .whole) in
       omega (arith, k .high, all)
 
-  module _ (from to i x m : ℕ) (k : Seeking from to i) (h : i < to) (ex : x ≡ cost-by t c i) (em : m ≡ arcs-by t l i) where
+  module _ (from to i : ℕ) (x : Weight) (m : ℕ) (k : Seeking from to i) (h : i < to) (ex : x ≡ cost-by t c i) (em : m ≡ arcs-by t l i) where
     more : to - i ≡ suc (to - (i + 1))
     more = omega arith
 
-    test : (b : Bool) → eqb x (c s) && eqb m (l s) ≡ b → gives t c l s i ≡ b
+    test : (b : Bool) → not (nearer (c s) (l s) x m) ≡ b → gives t c l s i ≡ b
     unfolding gives
     test b e = rw (ex, em) at e
 
-    pub seeking-here : eqb x (c s) && eqb m (l s) ≡ true → i ≡ first-giving (to - from) t c l s from
+    pub seeking-here : not (nearer (c s) (l s) x m) ≡ true → i ≡ first-giving (to - from) t c l s from
     unfolding first-giving
     seeking-here e =
         let all : cond (gives t c l s i) i (first-giving (to - (i + 1)) t c l s (suc i)) ≡ first-giving (to - from) t c l s from = rw more at (k .whole) in
         rw (test true e) at all
 
-    pub seeking-next : eqb x (c s) && eqb m (l s) ≡ false → Seeking from to (i + 1)
+    pub seeking-next : not (nearer (c s) (l s) x m) ≡ false → Seeking from to (i + 1)
     unfolding first-giving
     seeking-next e =
         let all : cond (gives t c l s i) i (first-giving (to - (i + 1)) t c l s (suc i)) ≡ first-giving (to - from) t c l s from = rw more at (k .whole) in
@@ -85,23 +87,35 @@ module _ (t : Transducer) (c l : ℕ → ℕ) (s : ℕ) where
   unfolding first-tight
   giving-tight from to r e f q = rw (e, f) at q
 
-pub tight-first : (t : Transducer) → Content t → (c l : ℕ → ℕ) (i : ℕ) → Tight t c l i → First t c l (first-tight t c l (arc t i .source)) i
-unfolding first-tight gives
-tight-first t good c l i d =
+-- Where no arc of the state makes it better, one that gives its cost and number of arcs is tight.
+giving-same : (t : Transducer) (c : ℕ → Weight) (l : ℕ → ℕ) (s v : ℕ) → gives t c l s v ≡ true → No-worse (c s) (l s) (cost-by t c v) (arcs-by t l v)
+    → (cost-by t c v ≡ c s) × (arcs-by t l v ≡ l s)
+unfolding gives
+giving-same t c l s v h n =
+    let back : No-worse (cost-by t c v) (arcs-by t l v) (c s) (l s) =
+    nearer-false (c s) (l s) (cost-by t c v) (arcs-by t l v) (not-true (nearer (c s) (l s) (cost-by t c v) (arcs-by t l v)) h) in
+    no-worse-both back n
+
+same-gives : (t : Transducer) (c : ℕ → Weight) (l : ℕ → ℕ) (s v : ℕ) → cost-by t c v ≡ c s → arcs-by t l v ≡ l s → gives t c l s v ≡ true
+unfolding gives
+same-gives t c l s v e f =
+    let n : nearer (c s) (l s) (cost-by t c v) (arcs-by t l v) ≡ false = false-nearer (rw (e, f) (no-worse-same (c s) (l s))) in
+    rw n refl
+
+pub tight-first : (t : Transducer) → Content t → (c : ℕ → Weight) (l : ℕ → ℕ) (i : ℕ) → Tight t c l i
+    → ((v : ℕ) → v < length (t .arcs) → arc t v .source ≡ arc t i .source
+    → No-worse (c (arc t i .source)) (l (arc t i .source)) (cost-by t c v) (arcs-by t l v))
+    → First t c l (first-tight t c l (arc t i .source)) i
+unfolding first-tight
+tight-first t good c l i d none =
     let s : ℕ = arc t i .source in
     let from : ℕ = arcs-below s (t .arcs) in
     let to : ℕ = arcs-below (s + 1) (t .arcs) in
     let mine = arcs-of-state t i s good (d .below) refl in
     let f : Found-first t c l s from i (first-giving (to - from) t c l s from) =
-    first-found t c l s (to - from) from i (mine .0) (omega (arith, mine .0, mine .1))
-    (true-and (eqb (cost-by t c i) (c s)) (eqb (arcs-by t l i) (l s)) (eq-eqb (cost-by t c i) (c s) (d .costs)) (eq-eqb (arcs-by t l i) (l s) (d .arcs))) in
+    first-found t c l s (to - from) from i (mine .0) (omega (arith, mine .0, mine .1)) (same-gives t c l s i (d .costs) (d .arcs)) in
     let v : ℕ = first-giving (to - from) t c l s from in
-    let both = and-true (eqb (cost-by t c v) (c s)) (eqb (arcs-by t l v) (l s)) (f .gives-them) in
     let below : v < length (t .arcs) = omega (arith, f .high, d .below) in
     let leaves : arc t v .source ≡ s = state-of-arcs t v s good below (f .low) (omega (arith, f .high, mine .1)) in
-    record {
-      leaves = leaves;
-      tight =
-          record { below = below; costs = rw leaves (eqb-true (cost-by t c v) (c s) (both .0)); arcs = rw leaves (eqb-true (arcs-by t l v) (l s) (both .1)) };
-      first = f .high;
-    }
+    let both = giving-same t c l s v (f .gives-them) (none v below leaves) in
+    record { leaves = leaves; tight = record { below = below; costs = rw leaves (both .0); arcs = rw leaves (both .1) }; first = f .high }

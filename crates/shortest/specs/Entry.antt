@@ -1,5 +1,5 @@
 -- What the shortest path answers and leaves behind. Assumes nothing: these are definitions.
-use mathlib.Core.Bool.{_||_, cond}
+use mathlib.Core.Bool.{_||_, not, cond}
 use mathlib.Core.List.{List}
 use Prim.Native.Nat.{ℕ}
 use lib.Dec.{ltb}
@@ -8,14 +8,16 @@ use Rattle.transducer.specs.Entry.{or-else}
 use Rattle.paths.specs.declared.Told.{Told}
 use Rattle.reach.specs.Reach.{coaccessible}
 use Rattle.paths.specs.Entry.{Path-told}
+use Rattle.least.specs.Cycles.{falling}
 use Rattle.shortest.specs.Shortest.{shortest}
 
--- The shortest path: 1 to 8, 10 for a buffer that is too short, then 16 where nothing accepts.
+-- The shortest path: 1 to 8, 10 for a buffer that is too short, 16 where nothing accepts, then 19 where a cycle below zero lies on an accepting path.
 unfoldable pub shortest-refusal : List ℕ → (arcs labels : ℕ) → ℕ
 shortest-refusal bs a b =
     or-else (refusal bs)
     (cond (ltb a max-path || ltb b max-path) 10
-    (cond (coaccessible (decode bs .states) (decode bs) (decode bs .start)) 0 16))
+    (cond (not (coaccessible (decode bs .states) (decode bs) (decode bs .start))) 16
+    (cond (falling (decode bs)) 19 0)))
 
 abbrev pub Shortest-says : (bs : List ℕ) → (number : ℕ) → Told → (a a' b b' : List ℕ) → Type 0
 Shortest-says bs number r a a' b b' = Path-told (decode bs) (shortest (decode bs)) number r a a' b b'

@@ -2,3 +2,4 @@ pub mod Shortest
 pub mod Nearest
 pub mod Queue
 pub mod Entry
+pub mod Claim

@@ -11,7 +11,8 @@ pub fn shortest_path(table: &[u8], arcs: &mut [u16], labels: &mut [u16]) -> Told
         (shortest-refusal (now (table .entry)) (length (now (arcs .entry))) (length (now (labels .entry))))
         r (now (arcs .entry)) (now (arcs .exit)) (now (labels .entry)) (now (labels .exit)) ⌝ }
 {
-    let number = transducer::refusal(table);
+    let seen = transducer::look(table);
+    let number = seen.refusal;
     if number != 0 {
         return paths::refused(number);
     }
@@ -25,19 +26,28 @@ pub fn shortest_path(table: &[u8], arcs: &mut [u16], labels: &mut [u16]) -> Told
     let mut codes = [0u32; transducer::MAX_STATES];
     let shape = transducer::prepare(table, &mut index, &mut codes);
     let start = shape.start;
-    let mut costs = [near::NO_PATH; transducer::MAX_STATES];
+    let mut costs = [0i32; transducer::MAX_STATES];
     near::own_costs(shape.states, &codes, &mut costs);
+    let plain = near::is_plain(shape.states, shape.arcs, seen.least, &costs);
+    let forward = near::by_states(shape.states, shape.arcs, seen.least, seen.up);
     let mut lens = [0u16; transducer::MAX_STATES];
-    near::distances(
+    let settled = near::distances(
         table,
         shape.first,
         shape.states,
         shape.arcs,
+        start,
         &index,
+        plain,
+        forward,
+        seen.least,
         &mut costs,
         &mut lens,
     );
-    if costs[start] == near::NO_PATH {
+    if !settled {
+        return paths::refused(19);
+    }
+    if near::UNREACHED <= costs[start] {
         return paths::refused(16);
     }
     let len = lens[start] as usize;

@@ -4,54 +4,62 @@ ghost use Prim.Native.Nat.{ℕ, _+_, _-_, _≤_, _<_, min};
 ghost use mathlib.Core.Bool.{true, false};
 ghost use lib.ListN.{length, getD, replicate};
 ghost use Rattle.wire.specs.Bytes.{filled};
-ghost use Rattle.transducer.specs.Format.{max-states, decode};
-ghost use Rattle.transducer.specs.Leaf.{Opened, Indexed};
+ghost use Rattle.transducer.specs.Format.{max-states, decode, weight-good};
+ghost use Rattle.transducer.specs.Leaf.{Opened, Indexed, max-code};
 ghost use Rattle.transducer.specs.Path.{runs};
-ghost use Rattle.transducer.specs.Weight.{plus};
-ghost use Rattle.shortest.specs.Shortest.{no-path, nearer};
+ghost use Rattle.transducer.specs.Weight.{Weight, At-most, no-weight};
+ghost use Rattle.shortest.specs.Shortest.{nearer};
 ghost use Rattle.reach.specs.Index.{leads-to, By-target};
-ghost use Rattle.shortest.specs.Nearest.{by-state, most-arcs, cost-by, arcs-by, is-nearest, code-cost, Nearing, All-relaxed, Long};
-ghost use Rattle.shortest.specs.Nearest.{Relaxed, Swept-says, Distances-settled, first-giving, first-tight, follow};
-ghost use Rattle.shortest.specs.Queue.{Queue, Joined, Draining, none, to-do};
+ghost use Rattle.shortest.specs.Nearest.{unreached, cost-at, by-state, onward, cost-by, arcs-by, Rising, is-nearest, code-cost, least-cost};
+ghost use Rattle.shortest.specs.Nearest.{Nearing, Cells, Forward, Leads-up, Leave, Barred, Swept-from, State-swept};
+ghost use Rattle.shortest.specs.Nearest.{Plain-costs, Relaxed, Swept-says, Distances-say, first-giving, first-tight, follow};
+ghost use Rattle.shortest.specs.Queue.{mark, Queue, Joins, Draining, Drains, Drained, none, to-do};
 use crate::queue;
 use transducer::INDEX_LEN;
 use transducer::MAX_ARCS;
 use transducer::MAX_STATES;
 
-pub const NO_PATH: u32 = 4294967295;
-
-const MOST_ARCS: u16 = 65535;
+// The cost of a state from which no path is known. A path costs at most 1,024,000,000, of either sign, so that sums with a weight are exact in 32 bits.
+pub const UNREACHED: i32 = 2000000000;
 
 // No state has a higher number.
 const LAST: u16 = 65535;
 
-// A weight and the cost to come behind it.
-fn sum(weight: u32, cost: u32) -> u32
-    ensures { λ r. ⌜ r ≡ min no-path (plus weight cost) ⌝ }
-{
-    if weight >= NO_PATH - cost {
-        return NO_PATH;
-    }
-    weight + cost
-}
+// What relaxing an arc comes to: its source is kept as it is, gets better, or would by a path of too many arcs and is kept.
+const KEPT: u8 = 0;
 
-fn one_more(arcs: u16) -> u16
-    ensures { λ r. ⌜ r ≡ min most-arcs (arcs + 1) ⌝ }
+const BETTER: u8 = 1;
+
+const TOO_LONG: u8 = 2;
+
+// So many arcs to a state make it worth a look whether they can be passed over.
+const MANY: usize = 16;
+
+// In place of a number of states that wait: a path had too many arcs.
+const STUCK: usize = 65535;
+
+// A weight and the cost to come behind it.
+fn sum(weight: i32, cost: i32) -> i32
+    requires { ⌜ (weight-good weight ≡ true) × At-most least-cost cost ⌝ }
+    ensures { λ r. ⌜ r ≡ onward weight cost ⌝ }
 {
-    if arcs == MOST_ARCS {
-        return MOST_ARCS;
+    if cost < UNREACHED {
+        return weight + cost;
     }
-    arcs + 1
+    UNREACHED
 }
 
 // Whether a cost and a number of arcs come before another.
-fn comes_first(cost: u32, arcs: u16, other: u32, most: u16) -> bool
+fn comes_first(cost: i32, arcs: u16, other: i32, most: u16) -> bool
     ensures { λ r. ⌜ r ≡ nearer cost arcs other most ⌝ }
 {
-    if cost == other {
-        return arcs < most;
+    if cost < other {
+        return true;
     }
-    cost < other
+    if other < cost {
+        return false;
+    }
+    arcs < most
 }
 
 // The lower of two numbers.
@@ -64,16 +72,63 @@ fn lower(a: u16, b: u16) -> u16
     a
 }
 
-// Whether no arc makes a cost and a number of arcs better.
-fn is_nearest(cost: u32, arcs: u16) -> bool
-    ensures { λ r. ⌜ r ≡ is-nearest cost arcs ⌝ }
+// Whether no arc makes a cost and a number of arcs better where none gives a cost below `bar`.
+fn is_nearest(bar: i32, cost: i32, arcs: u16) -> bool
+    ensures { λ r. ⌜ r ≡ is-nearest bar cost arcs ⌝ }
 {
-    (cost == 0) & (arcs <= 1)
+    (cost <= bar) & (arcs <= 1)
+}
+
+// Whether none of so many costs is below zero.
+fn costs_rise(states: usize, costs: &[i32; MAX_STATES]) -> bool
+    requires { ⌜ states ≤ max-states ⌝ }
+    ensures { λ r. ⌜ (r ≡ true → (s : ℕ) → s < states → At-most no-weight (cost-at (now (costs .entry)) s)) ⌝ }
+{
+    let mut s = 0;
+    while s < states {
+        if costs[s] < 0 {
+            return false;
+        }
+        s += 1;
+    }
+    true
+}
+
+// Whether it is plain that no weight is below zero, by a weight that none of the arcs is below and the costs of the empty paths. These are looked at only
+// where states have many arcs, of which those before one of weight 0 may be passed over then.
+pub fn is_plain(states: usize, arcs: usize, least: i32, costs: &[i32; MAX_STATES]) -> bool
+    requires { ⌜ states ≤ max-states ⌝ }
+    ensures { λ r. ⌜ (r ≡ true → Plain-costs least states (now (costs .entry))) ⌝ }
+{
+    if arcs <= MANY * states {
+        return false;
+    }
+    if least < 0 {
+        return false;
+    }
+    costs_rise(states, costs)
+}
+
+// Whether a sweep goes by states: where states have many arcs, some weights are below zero, and it is known (`up`) that each arc leads to a higher state.
+pub fn by_states(states: usize, arcs: usize, least: i32, up: bool) -> bool
+    requires { ⌜ states ≤ max-states ⌝ }
+    ensures { λ r. ⌜ (r ≡ true → (up ≡ true) × (weight-good least ≡ true) × At-most least no-weight) ⌝ }
+{
+    if arcs <= MANY * states {
+        return false;
+    }
+    if 0 <= least {
+        return false;
+    }
+    if !transducer::weight_ok(least) {
+        return false;
+    }
+    up
 }
 
 // A cost to come and a number of arcs.
 struct Distance {
-    cost: u32,
+    cost: i32,
     arcs: u16,
 }
 
@@ -82,36 +137,38 @@ fn by_arc(
     table: &[u8],
     first: usize,
     i: usize,
-    costs: &[u32; MAX_STATES],
+    costs: &[i32; MAX_STATES],
     lens: &[u16; MAX_STATES],
 ) -> Distance
-    requires { ⌜ Opened (now table) first × (i < length (decode (now table) .arcs)) ⌝ }
-    ensures { λ r. ⌜ (r .cost ≡ cost-by (decode (now (table .entry))) (by-state (now (costs .entry))) i)
+    requires { ⌜ Opened (now table) first × (i < length (decode (now table) .arcs)) × Cells (now costs) (now lens) ⌝ }
+    ensures { λ r. ⌜ (r .cost ≡ cost-by (decode (now (table .entry))) (cost-at (now (costs .entry))) i)
         × (r .arcs ≡ arcs-by (decode (now (table .entry))) (by-state (now (lens .entry))) i) ⌝ }
 {
     let a = transducer::arc_of(table, first, i);
     let to = a.target as usize;
     Distance {
         cost: sum(a.weight, costs[to]),
-        arcs: one_more(lens[to]),
+        arcs: lens[to] + 1,
     }
 }
 
 // The cost of the empty path, by a state's final code.
-fn own(code: u32) -> u32
-    ensures { λ r. ⌜ r ≡ code-cost code ⌝ }
+fn own(code: u32) -> i32
+    requires { ⌜ code ≤ max-code ⌝ }
+    ensures { λ r. ⌜ (r ≡ code-cost code) × At-most least-cost r × At-most r unreached ⌝ }
 {
     if code == 0 {
-        return NO_PATH;
+        return UNREACHED;
     }
-    code - 1
+    transducer::weight_of(code)
 }
 
-// Puts the cost of the empty path from each state into `costs`.
-pub fn own_costs(states: usize, codes: &[u32; MAX_STATES], costs: &mut [u32; MAX_STATES])
-    requires { ⌜ (states ≤ max-states) × (length (now costs) ≡ max-states) ⌝ }
+// Puts the cost of the empty path from each state into `costs`, an array of zeros.
+pub fn own_costs(states: usize, codes: &[u32; MAX_STATES], costs: &mut [i32; MAX_STATES])
+    requires { ⌜ (states ≤ max-states) × (now costs ≡ replicate max-states no-weight) × ((s : ℕ) → s < max-states → getD (now codes) s 0 ≤ max-code) ⌝ }
     ensures { λ _. ⌜ (length (now (costs .exit)) ≡ max-states)
-        × ((s : ℕ) → s < states → getD (now (costs .exit)) s 0 ≡ code-cost (getD (now (codes .entry)) s 0)) ⌝ }
+        × ((s : ℕ) → s < states → cost-at (now (costs .exit)) s ≡ code-cost (getD (now (codes .entry)) s 0))
+        × ((s : ℕ) → At-most least-cost (cost-at (now (costs .exit)) s)) × ((s : ℕ) → At-most (cost-at (now (costs .exit)) s) unreached) ⌝ }
 {
     let mut s = 0;
     while s < states {
@@ -120,43 +177,125 @@ pub fn own_costs(states: usize, codes: &[u32; MAX_STATES], costs: &mut [u32; MAX
     }
 }
 
-// Brings the source of arc `i` up to date by its target; whether that made it better.
+// Brings the source of arc `i` up to date by its target; what that came to. A path of as many arcs as there are states comes back to a state: it got
+// better by a cycle below zero.
 fn relax(
     table: &[u8],
     first: usize,
     i: usize,
-    costs: &mut [u32; MAX_STATES],
+    states: usize,
+    costs: &mut [i32; MAX_STATES],
     lens: &mut [u16; MAX_STATES],
-) -> bool
-    requires { ⌜ Opened (now table) first × (i < length (decode (now table) .arcs))
-        × Nearing (decode (now table)) (by-state (now costs)) (by-state (now lens)) × Long (now costs) (now lens) ⌝ }
+) -> u8
+    requires { ⌜ Opened (now table) first × (i < length (decode (now table) .arcs)) × (states ≡ decode (now table) .states)
+        × Nearing (decode (now table)) (cost-at (now costs)) (by-state (now lens)) × Cells (now costs) (now lens) ⌝ }
     ensures { λ r. ⌜ Relaxed (decode (now (table .entry))) i (now (costs .entry)) (now (lens .entry)) (now (costs .exit)) (now (lens .exit)) r ⌝ }
 {
     let a = transducer::arc_of(table, first, i);
     let s = a.source as usize;
     let to = a.target as usize;
     let cost = sum(a.weight, costs[to]);
-    let len = one_more(lens[to]);
+    let len = lens[to] + 1;
     if !comes_first(cost, len, costs[s], lens[s]) {
-        return false;
+        return KEPT;
+    }
+    if states <= len as usize {
+        return TOO_LONG;
     }
     costs[s] = cost;
     lens[s] = len;
-    true
+    BETTER
 }
 
-// Relaxes each arc, last arc first; once no arc makes a state better the rest of its arcs are passed over.
-// More may change where a state changed after an arc was read that leads to it or to one before it.
+// Relaxes the arcs from `from` to below `to`, those of state `s`, last arc first, until none of the rest makes it better: none gives a cost below `bar`.
+// True where a path had too many arcs.
+fn sweep_state(
+    table: &[u8],
+    first: usize,
+    states: usize,
+    s: usize,
+    from: usize,
+    to: usize,
+    bar: i32,
+    costs: &mut [i32; MAX_STATES],
+    lens: &mut [u16; MAX_STATES],
+) -> bool
+    requires { ⌜ Opened (now table) first × (states ≡ decode (now table) .states) × Leads-up (decode (now table)) × Leave (decode (now table)) s from to
+        × Barred (decode (now table)) from to bar (now costs) × Swept-from (decode (now table)) to (now costs) (now lens) ⌝ }
+    ensures { λ r. ⌜ State-swept (decode (now (table .entry))) s from (now (costs .entry)) (now (costs .exit)) (now (lens .exit)) r ⌝ }
+{
+    let mut i = to;
+    while i > from {
+        i -= 1;
+        let change = relax(table, first, i, states, costs, lens);
+        if change == KEPT {
+            continue;
+        }
+        if change == TOO_LONG {
+            return true;
+        }
+        if is_nearest(bar, costs[s], lens[s]) {
+            return false;
+        }
+    }
+    false
+}
+
+// The less of two costs.
+fn less(a: i32, b: i32) -> i32
+    ensures { λ r. ⌜ At-most r a × At-most r b × ((x : Weight) → At-most x a → At-most x b → At-most x r) ⌝ }
+{
+    if b < a {
+        return b;
+    }
+    a
+}
+
+// The same as a sweep where each arc leads to a higher state and has no weight below `least`: it goes by states, last state first. None of a state's arcs
+// gives a cost below the least one of the states above it and `least`.
+fn sweep_states(
+    table: &[u8],
+    first: usize,
+    states: usize,
+    index: &[u16; INDEX_LEN],
+    least: i32,
+    costs: &mut [i32; MAX_STATES],
+    lens: &mut [u16; MAX_STATES],
+) -> bool
+    requires { ⌜ Opened (now table) first × (states ≡ decode (now table) .states) × Indexed (decode (now table)) (now index)
+        × Forward (decode (now table)) least × Nearing (decode (now table)) (cost-at (now costs)) (by-state (now lens)) × Cells (now costs) (now lens) ⌝ }
+    ensures { λ r. ⌜ Swept-says (decode (now (table .entry))) (now (costs .exit)) (now (lens .exit)) r ⌝ }
+{
+    let mut floor = UNREACHED;
+    let mut s = states;
+    while s > 0 {
+        s -= 1;
+        let from = index[s] as usize;
+        let to = index[s + 1] as usize;
+        let bar = sum(least, floor);
+        if sweep_state(table, first, states, s, from, to, bar, costs, lens) {
+            return true;
+        }
+        floor = less(floor, costs[s]);
+    }
+    false
+}
+
+// Relaxes each arc, last arc first; where it is `plain` that no weight is below zero, once no arc makes a state better the rest of its arcs are passed over.
+// More may change where a state changed after an arc was read that leads to it or to one before it, or where a path had too many arcs.
 fn sweep(
     table: &[u8],
     first: usize,
+    states: usize,
     arcs: usize,
     index: &[u16; INDEX_LEN],
-    costs: &mut [u32; MAX_STATES],
+    plain: bool,
+    costs: &mut [i32; MAX_STATES],
     lens: &mut [u16; MAX_STATES],
 ) -> bool
-    requires { ⌜ Opened (now table) first × (arcs ≡ length (decode (now table) .arcs)) × Indexed (decode (now table)) (now index)
-        × Nearing (decode (now table)) (by-state (now costs)) (by-state (now lens)) × Long (now costs) (now lens) ⌝ }
+    requires { ⌜ Opened (now table) first × (states ≡ decode (now table) .states) × (arcs ≡ length (decode (now table) .arcs))
+        × Indexed (decode (now table)) (now index) × (plain ≡ true → Rising (decode (now table)))
+        × Nearing (decode (now table)) (cost-at (now costs)) (by-state (now lens)) × Cells (now costs) (now lens) ⌝ }
     ensures { λ r. ⌜ Swept-says (decode (now (table .entry))) (now (costs .exit)) (now (lens .exit)) r ⌝ }
 {
     let mut again = false;
@@ -166,40 +305,76 @@ fn sweep(
         i -= 1;
         let a = transducer::arc_of(table, first, i);
         let s = a.source as usize;
-        if is_nearest(costs[s], lens[s]) {
+        if plain & is_nearest(0, costs[s], lens[s]) {
             i = index[s] as usize;
             continue;
         }
         low = lower(low, a.target);
-        if !relax(table, first, i, costs, lens) {
+        let change = relax(table, first, i, states, costs, lens);
+        if change == KEPT {
             continue;
         }
-        again = again | (low <= a.source);
+        again = again | ((change == TOO_LONG) | (low <= a.source));
     }
     again
 }
 
-// Relaxes arc `i`; where its source gets better it joins the `count` states that wait, unless it is one of them. Returns how many wait now.
+// A sweep in one of the two ways.
+fn sweep_once(
+    table: &[u8],
+    first: usize,
+    states: usize,
+    arcs: usize,
+    index: &[u16; INDEX_LEN],
+    plain: bool,
+    forward: bool,
+    least: i32,
+    costs: &mut [i32; MAX_STATES],
+    lens: &mut [u16; MAX_STATES],
+) -> bool
+    requires { ⌜ Opened (now table) first × (states ≡ decode (now table) .states) × (arcs ≡ length (decode (now table) .arcs))
+        × Indexed (decode (now table)) (now index) × (plain ≡ true → Rising (decode (now table))) × (forward ≡ true → Forward (decode (now table)) least)
+        × Nearing (decode (now table)) (cost-at (now costs)) (by-state (now lens)) × Cells (now costs) (now lens) ⌝ }
+    ensures { λ r. ⌜ Swept-says (decode (now (table .entry))) (now (costs .exit)) (now (lens .exit)) r ⌝ }
+{
+    if forward {
+        return sweep_states(table, first, states, index, least, costs, lens);
+    }
+    sweep(table, first, states, arcs, index, plain, costs, lens)
+}
+
+// Relaxes arc `i` where its source is marked; where that gets better it joins the `count` states that wait, unless it is one of them. Returns how many wait
+// now, or STUCK.
 fn relax_and_join(
     table: &[u8],
     first: usize,
     i: usize,
-    costs: &mut [u32; MAX_STATES],
+    states: usize,
+    marks: &[bool; MAX_STATES],
+    costs: &mut [i32; MAX_STATES],
     lens: &mut [u16; MAX_STATES],
     ring: &mut [u16; MAX_STATES],
     waits: &mut [bool; MAX_STATES],
     head: usize,
     count: usize,
 ) -> usize
-    requires { ⌜ Opened (now table) first × (i < length (decode (now table) .arcs)) × Nearing (decode (now table)) (by-state (now costs)) (by-state (now lens))
-        × Long (now costs) (now lens) × Queue (decode (now table) .states) (now ring) (now waits) head count ⌝ }
-    ensures { λ r. ⌜ Joined (decode (now (table .entry))) i (now (costs .entry)) (now (lens .entry)) (now (waits .entry)) count
+    requires { ⌜ Opened (now table) first × (i < length (decode (now table) .arcs)) × (states ≡ decode (now table) .states)
+        × Nearing (decode (now table)) (cost-at (now costs)) (by-state (now lens)) × Cells (now costs) (now lens)
+        × Queue (decode (now table) .states) (now ring) (now waits) head count ⌝ }
+    ensures { λ r. ⌜ Joins (decode (now (table .entry))) (mark (now (marks .entry))) i (now (costs .entry)) (now (lens .entry)) (now (waits .entry)) count
         (now (costs .exit)) (now (lens .exit)) (now (ring .exit)) (now (waits .exit)) head r ⌝ }
 {
-    if !relax(table, first, i, costs, lens) {
+    let from = reach::source(table, first, i);
+    if !marks[from] {
         return count;
     }
-    let from = reach::source(table, first, i);
+    let change = relax(table, first, i, states, costs, lens);
+    if change == KEPT {
+        return count;
+    }
+    if change == TOO_LONG {
+        return STUCK;
+    }
     if waits[from] {
         return count;
     }
@@ -207,25 +382,45 @@ fn relax_and_join(
     count + 1
 }
 
-// Relaxes all arcs in order, with an empty queue that what gets better joins. Returns how many wait then.
+// Relaxes all arcs from marked states in order, with an empty queue that what gets better joins. Returns how many wait then, or STUCK.
 fn relax_all(
     table: &[u8],
     first: usize,
+    states: usize,
     arcs: usize,
-    costs: &mut [u32; MAX_STATES],
+    marks: &[bool; MAX_STATES],
+    costs: &mut [i32; MAX_STATES],
     lens: &mut [u16; MAX_STATES],
     ring: &mut [u16; MAX_STATES],
     waits: &mut [bool; MAX_STATES],
 ) -> usize
-    requires { ⌜ Opened (now table) first × (arcs ≡ length (decode (now table) .arcs))
-        × Nearing (decode (now table)) (by-state (now costs)) (by-state (now lens)) × Long (now costs) (now lens)
+    requires { ⌜ Opened (now table) first × (states ≡ decode (now table) .states) × (arcs ≡ length (decode (now table) .arcs))
+        × Nearing (decode (now table)) (cost-at (now costs)) (by-state (now lens)) × Cells (now costs) (now lens)
         × (length (now ring) ≡ max-states) × (now waits ≡ replicate max-states false) ⌝ }
-    ensures { λ r. ⌜ Draining (decode (now (table .entry))) none (now (costs .exit)) (now (lens .exit)) (now (ring .exit)) (now (waits .exit)) 0 r ⌝ }
+    ensures { λ r. ⌜ Drains (decode (now (table .entry))) (mark (now (marks .entry)))
+        (to-do (decode (now (table .entry))) (now (costs .exit)) (now (lens .exit)) r)
+        (now (costs .exit)) (now (lens .exit)) (now (ring .exit)) (now (waits .exit)) 0 r ⌝ }
 {
     let mut count = 0;
     let mut i = 0;
     while i < arcs {
-        count = relax_and_join(table, first, i, costs, lens, ring, waits, 0, count);
+        let next = relax_and_join(
+            table,
+            first,
+            i,
+            states,
+            marks,
+            costs,
+            lens,
+            ring,
+            waits,
+            0,
+            count,
+        );
+        if next == STUCK {
+            return STUCK;
+        }
+        count = next;
         i += 1;
     }
     count
@@ -235,62 +430,98 @@ fn relax_all(
 fn relax_into(
     table: &[u8],
     first: usize,
+    states: usize,
     s: usize,
     heads: &[u16; INDEX_LEN],
     into: &[u16; MAX_ARCS],
-    costs: &mut [u32; MAX_STATES],
+    marks: &[bool; MAX_STATES],
+    costs: &mut [i32; MAX_STATES],
     lens: &mut [u16; MAX_STATES],
     ring: &mut [u16; MAX_STATES],
     waits: &mut [bool; MAX_STATES],
     head: usize,
     count: usize,
 ) -> usize
-    requires { ⌜ Opened (now table) first × By-target (decode (now table)) (now heads) (now into) × (s < decode (now table) .states)
-        × Draining (decode (now table)) (leads-to (decode (now table)) s) (now costs) (now lens) (now ring) (now waits) head count ⌝ }
-    ensures { λ r. ⌜ Draining (decode (now (table .entry))) none (now (costs .exit)) (now (lens .exit)) (now (ring .exit)) (now (waits .exit)) head r
-        × (to-do (decode (now (table .entry))) (now (costs .exit)) (now (lens .exit)) r
-        ≤ to-do (decode (now (table .entry))) (now (costs .entry)) (now (lens .entry)) count) ⌝ }
+    requires { ⌜ Opened (now table) first × (states ≡ decode (now table) .states) × By-target (decode (now table)) (now heads) (now into)
+        × (s < decode (now table) .states) × Draining (decode (now table)) (mark (now marks)) (leads-to (decode (now table)) s)
+        (now costs) (now lens) (now ring) (now waits) head count ⌝ }
+    ensures { λ r. ⌜ Drains (decode (now (table .entry))) (mark (now (marks .entry)))
+        (to-do (decode (now (table .entry))) (now (costs .entry)) (now (lens .entry)) count)
+        (now (costs .exit)) (now (lens .exit)) (now (ring .exit)) (now (waits .exit)) head r ⌝ }
 {
     let to = heads[s + 1] as usize;
     let mut at = heads[s] as usize;
     let mut waiting = count;
     while at < to {
         let i = into[at] as usize;
-        waiting = relax_and_join(table, first, i, costs, lens, ring, waits, head, waiting);
+        let next = relax_and_join(
+            table,
+            first,
+            i,
+            states,
+            marks,
+            costs,
+            lens,
+            ring,
+            waits,
+            head,
+            waiting,
+        );
+        if next == STUCK {
+            return STUCK;
+        }
+        waiting = next;
         at += 1;
     }
     waiting
 }
 
-// Settles what a sweep may leave, by a queue of the states that got better: when one comes off, the arcs that lead to it are relaxed.
+// Settles what a sweep may leave at marked states, by a queue of the states that got better: when one comes off, the arcs that lead to it are relaxed.
+// False where a path had too many arcs.
 fn drain(
     table: &[u8],
     first: usize,
     states: usize,
     arcs: usize,
-    costs: &mut [u32; MAX_STATES],
+    marks: &[bool; MAX_STATES],
+    costs: &mut [i32; MAX_STATES],
     lens: &mut [u16; MAX_STATES],
-)
+) -> bool
     requires { ⌜ Opened (now table) first × (states ≡ decode (now table) .states) × (arcs ≡ length (decode (now table) .arcs))
-        × Nearing (decode (now table)) (by-state (now costs)) (by-state (now lens)) × Long (now costs) (now lens) ⌝ }
-    ensures { λ _. ⌜ All-relaxed (decode (now (table .entry))) (by-state (now (costs .exit))) (by-state (now (lens .exit))) ⌝ }
+        × Nearing (decode (now table)) (cost-at (now costs)) (by-state (now lens)) × Cells (now costs) (now lens) ⌝ }
+    ensures { λ r. ⌜ Drained (decode (now (table .entry))) (mark (now (marks .entry))) (now (costs .exit)) (now (lens .exit)) r ⌝ }
 {
     let mut heads = [0u16; INDEX_LEN];
     let mut into = [0u16; MAX_ARCS];
     reach::by_target(table, first, states, arcs, &mut heads, &mut into);
     let mut ring = [0u16; MAX_STATES];
     let mut waits = [false; MAX_STATES];
-    let mut count = relax_all(table, first, arcs, costs, lens, &mut ring, &mut waits);
+    let mut count = relax_all(
+        table,
+        first,
+        states,
+        arcs,
+        marks,
+        costs,
+        lens,
+        &mut ring,
+        &mut waits,
+    );
+    if count == STUCK {
+        return false;
+    }
     let mut head = 0;
     while count > 0 {
         let s = queue::pop(&ring, &mut waits, head);
         head = queue::behind(head, 1);
-        count = relax_into(
+        let next = relax_into(
             table,
             first,
+            states,
             s,
             &heads,
             &into,
+            marks,
             costs,
             lens,
             &mut ring,
@@ -298,50 +529,76 @@ fn drain(
             head,
             count - 1,
         );
+        if next == STUCK {
+            return false;
+        }
+        count = next;
     }
+    true
 }
 
-// The least cost to come from each state, with the fewest arcs at that cost; `costs` begins with the empty paths' costs.
-// Arcs most often lead to higher numbers, so that one sweep, the last arc first, most often settles all.
+// The least cost to come from each state where the start leads, with the fewest arcs at that cost; `costs` begins with the empty paths' costs. False where a
+// cycle below zero lies on an accepting path.
+// Arcs most often lead to higher numbers, so that one sweep, the last arc first, most often settles all. Else the queue goes over all states first; only where
+// a path has too many arcs are those left out to which the start does not lead.
 pub fn distances(
     table: &[u8],
     first: usize,
     states: usize,
     arcs: usize,
+    start: usize,
     index: &[u16; INDEX_LEN],
-    costs: &mut [u32; MAX_STATES],
+    plain: bool,
+    forward: bool,
+    least: i32,
+    costs: &mut [i32; MAX_STATES],
     lens: &mut [u16; MAX_STATES],
-)
+) -> bool
     requires { ⌜ Opened (now table) first × (states ≡ decode (now table) .states) × (arcs ≡ length (decode (now table) .arcs))
-        × Indexed (decode (now table)) (now index)
-        × Nearing (decode (now table)) (by-state (now costs)) (by-state (now lens)) × Long (now costs) (now lens) ⌝ }
-    ensures { λ _. ⌜ Distances-settled (decode (now (table .entry))) (now (costs .exit)) (now (lens .exit)) ⌝ }
+        × (start ≡ decode (now table) .start) × Indexed (decode (now table)) (now index) × (plain ≡ true → Rising (decode (now table)))
+        × (forward ≡ true → Forward (decode (now table)) least)
+        × Nearing (decode (now table)) (cost-at (now costs)) (by-state (now lens)) × Cells (now costs) (now lens) ⌝ }
+    ensures { λ r. ⌜ Distances-say (decode (now (table .entry))) (now (costs .exit)) (now (lens .exit)) r ⌝ }
 {
-    if !sweep(table, first, arcs, index, costs, lens) {
-        return;
+    if !sweep_once(
+        table,
+        first,
+        states,
+        arcs,
+        index,
+        plain,
+        forward,
+        least,
+        costs,
+        lens,
+    ) {
+        return true;
     }
-    drain(table, first, states, arcs, costs, lens);
+    let all = [true; MAX_STATES];
+    if drain(table, first, states, arcs, &all, costs, lens) {
+        return true;
+    }
+    let reached = reach::accessible(table, first, states, arcs, start);
+    drain(table, first, states, arcs, &reached, costs, lens)
 }
 
-// The first of the arcs from `from` to below `to` that gives the cost and number of arcs of state `s`, or `to` where none does.
+// The first arc from `from` to below `to` that gives the cost and the number of arcs of state `s`, or `to` where none does.
 fn first_giving(
     table: &[u8],
     first: usize,
     s: usize,
     from: usize,
     to: usize,
-    costs: &[u32; MAX_STATES],
+    costs: &[i32; MAX_STATES],
     lens: &[u16; MAX_STATES],
 ) -> usize
-    requires { ⌜ Opened (now table) first × (s < max-states) × (from ≤ to) × (to ≤ length (decode (now table) .arcs)) ⌝ }
-    ensures { λ r. ⌜ r ≡ first-giving (to - from) (decode (now (table .entry))) (by-state (now (costs .entry))) (by-state (now (lens .entry))) s from ⌝ }
+    requires { ⌜ Opened (now table) first × (s < max-states) × (from ≤ to) × (to ≤ length (decode (now table) .arcs)) × Cells (now costs) (now lens) ⌝ }
+    ensures { λ r. ⌜ r ≡ first-giving (to - from) (decode (now (table .entry))) (cost-at (now (costs .entry))) (by-state (now (lens .entry))) s from ⌝ }
 {
-    let cost = costs[s];
-    let len = lens[s];
     let mut i = from;
     while i < to {
         let by = by_arc(table, first, i, costs, lens);
-        if (by.cost == cost) & (by.arcs == len) {
+        if !comes_first(costs[s], lens[s], by.cost, by.arcs) {
             return i;
         }
         i += 1;
@@ -356,16 +613,17 @@ pub fn walk(
     start: usize,
     len: usize,
     index: &[u16; INDEX_LEN],
-    costs: &[u32; MAX_STATES],
+    costs: &[i32; MAX_STATES],
     lens: &[u16; MAX_STATES],
     out: &mut [u16],
 )
     requires { ⌜ Opened (now table) first × Indexed (decode (now table)) (now index) × (start < decode (now table) .states) × (len ≤ length (now out))
         × (runs (decode (now table)) start
-        (follow len (decode (now table)) (first-tight (decode (now table)) (by-state (now costs)) (by-state (now lens))) start) ≡ true) ⌝ }
+        (follow len (decode (now table)) (first-tight (decode (now table)) (cost-at (now costs)) (by-state (now lens))) start) ≡ true)
+        × Cells (now costs) (now lens) ⌝ }
     ensures { λ _. ⌜ now (out .exit) ≡ filled (length (now (out .entry)))
         (follow len (decode (now (table .entry)))
-        (first-tight (decode (now (table .entry))) (by-state (now (costs .entry))) (by-state (now (lens .entry)))) start) ⌝ }
+        (first-tight (decode (now (table .entry))) (cost-at (now (costs .entry))) (by-state (now (lens .entry)))) start) ⌝ }
 {
     let mut s = start;
     let mut n: usize = 0;

@@ -6,7 +6,8 @@ use mathlib.Core.Bool.{false}
 use mathlib.Core.List.{List, [], _∷_, _++_, map-append}
 use Prim.Native.Nat.{ℕ}
 use lib.ListN.{take, drop, replicate}
-use Rattle.wire.specs.Bytes.{two, four, low, places, every}
+use Rattle.wire.specs.Bytes.{two, four, low, signed-four, signed-low, places, every}
+use Rattle.transducer.specs.Weight.{no-weight, amount}
 use Rattle.transducer.specs.Format.{Transducer, Good}
 use Rattle.transducer.specs.Format.{framed-from, framed, records-from, records, kind-good, in-order, kinds-good}
 use Rattle.transducer.specs.Format.{weight-at, weight-good, labels-good, finals-in, arcs-in}
@@ -31,10 +32,11 @@ use Rattle.lattice.specs.Lattice.{lattice, lattice-origins}
 use Rattle.lattice.specs.ApplyEntry.{apply-room, apply-refusal}
 use Rattle.paths.specs.Count.{before, paths-from, paths, goes-on, endless, path-count, nth-path}
 use Rattle.paths.specs.Entry.{count-refusal, nth-refusal}
-use Rattle.shortest.specs.Shortest.{nearer, better, best-of, best, shortest}
+use Rattle.least.specs.Cycles.{some-leaving, falls-to, falls-round, some-below, falling}
+use Rattle.shortest.specs.Shortest.{nearer, nearer-path, better, best-of, best, shortest}
 use Rattle.shortest.specs.Entry.{shortest-refusal}
 use Rattle.listing.specs.Code.{labels-in}
-use Rattle.listing.specs.Text.{digits, decimal, readings-word, labels-text, line, line-of, lines, counted-text, listing-text}
+use Rattle.listing.specs.Text.{digits, decimal, cost-text, readings-word, labels-text, line, line-of, lines, counted-text, listing-text}
 use Rattle.listing.specs.Entry.{code-refusal, applied-refusal, text-unless, listing-refusal, text-of}
 use Rattle.starred.specs.Answer.{Answer, Case, All-hold, counts, or-refused, read-answer, write-answer, path-answer, defined}
 use Rattle.starred.specs.Answer.Call.{counting}
@@ -53,8 +55,8 @@ alike n =
     record {
       states = 2;
       start = 0;
-      finals = record { state = 1; weight = 0 } ∷ [];
-      arcs = replicate n (record { source = 0; input = 1; output = 2; target = 1; weight = 5 });
+      finals = record { state = 1; weight = no-weight } ∷ [];
+      arcs = replicate n (record { source = 0; input = 1; output = 2; target = 1; weight = amount 5 });
     }
 
 -- The count of bytes that a good transducer has is that of the transducer.
@@ -63,7 +65,8 @@ unfolding defined count-refusal or-else or-refused
 counted bs t written good finite = rw (written, refusal-encode t good, decode-encode t good, finite) refl
 
 like-arcs-hold : (x y z : ℕ) → All-hold (take 3 (drop 13 (cases x y z)))
-unfolding alike repeated encode head-record final-records final-record arc-records arc-record weight-bytes low every head-good content-refusal first-of
+unfolding alike repeated encode head-record final-records final-record arc-records arc-record weight-bytes signed-low low every head-good
+    content-refusal first-of
     states-good order-good finals-rise sources-stay all-labels-good labels-good weights-good weight-good endless goes-on coaccessible some-arc path-count
     paths paths-from each-arc by-number is-final
 like-arcs-hold x y z =
@@ -73,7 +76,8 @@ like-arcs-hold x y z =
 
 -- The first thirteen rows, the three of like arcs, the rest.
 pub all-hold : (x y z : ℕ) → All-hold (cases x y z)
-unfolding two four low places every framed-from framed records-from records kind-good in-order kinds-good weight-at weight-good labels-good finals-in
+unfolding two four low signed-four signed-low places every framed-from framed records-from records kind-good in-order kinds-good weight-at
+    weight-good labels-good finals-in
     arcs-in head-states head-arcs head-finals head-start decode head-good states-good finals-rise sources-stay order-good all-labels-good weights-good
     first-of content-refusal refusal weight-bytes head-record final-record arc-record final-records arc-records encode is-final final-weight arc ends
     non-empty written-by arcs-cost path-cost by-number each-arc fits passed or-else arc-fields read-room read-refusal there place met served numbered
@@ -82,8 +86,9 @@ unfolding two four low places every framed-from framed records-from records kind
     string-good step arc-steps applied same-position applied-steps final-position entered some-arc accessible coaccessible useful
     arc-useful renumbered kept-arcs kept-finals kept-numbers trimmed origins-kept lattice lattice-origins apply-room apply-refusal before paths-from
     paths
-    goes-on endless path-count nth-path count-refusal nth-refusal nearer better best-of best shortest shortest-refusal labels-in digits
-    decimal readings-word labels-text line line-of lines counted-text listing-text code-refusal applied-refusal text-unless listing-refusal text-of
+    goes-on endless path-count nth-path count-refusal nth-refusal nearer nearer-path better best-of best shortest some-leaving falls-to falls-round
+    some-below falling shortest-refusal labels-in digits
+    decimal cost-text readings-word labels-text line line-of lines counted-text listing-text code-refusal applied-refusal text-unless listing-refusal text-of
     or-refused read-answer write-answer path-answer defined repeated
 all-hold x y z =
     together (take 13 (cases x y z)) (drop 13 (cases x y z)) refl

@@ -9,8 +9,10 @@ use Prim.Native.Nat.{ℕ, _≤_}
 use borrow.Author.Tests.{le-ltb, eqb-true}
 use lib.Dec.{eqb}
 use lib.ListN.{length, getD, drop}
+use Rattle.wire.specs.Bytes.{signed-filled}
 use Rattle.transducer.specs.Format.{decode}
-use Rattle.transducer.specs.Entry.{or-else, unless, left-in}
+use Rattle.transducer.specs.Entry.{or-else, unless, cost-unless, left-in, weights-left-in}
+use Rattle.transducer.specs.Weight.{Weight, no-weight}
 use Rattle.codec.specs.Entry.{read-room, read-refusal, Read-says}
 use Rattle.explore.specs.Explore.{left-behind}
 use Rattle.compose.specs.Compose.{composed}
@@ -24,7 +26,7 @@ use Rattle.shortest.specs.Entry.{shortest-refusal, Shortest-says}
 use Rattle.listing.specs.Entry.{text-room, Listing-says}
 use Rattle.starred.specs.Answer.{Call, Answer, Case, All-hold, refused, counts, or-refused, read-answer, write-answer, path-answer, defined}
 use Rattle.starred.specs.Answer.Call.{reading, composing, applying, counting, kth-path, shortest-path, listing}
-use Rattle.starred.specs.Promise.{number, buffer, Promises, All-promised}
+use Rattle.starred.specs.Promise.{number, buffer, weights, Promises, All-promised}
 use Rattle.starred.specs.Cases.{cases}
 use Rattle.starred.proofs.AllHold.{all-hold}
 
@@ -46,6 +48,14 @@ number-of n y i = on (eqb n 0)
     on true = refl
     on false = refl
 
+cost-of : (n : ℕ) (y : Answer) → cost-unless n (y .cost) ≡ or-refused n y .cost
+unfolding or-refused cost-unless
+cost-of n y = on (eqb n 0)
+  where
+    on : (b : Bool) → cond b (y .cost) no-weight ≡ cond b y (refused n) .cost
+    on true = refl
+    on false = refl
+
 -- A buffer that on refusal does not depend on what would be written, as both `left-in` and `left-behind` leave it.
 left-of : (left : ℕ → List ℕ → List ℕ) → ((n : ℕ) (v w : List ℕ) → eqb n 0 ≡ false → left n v ≡ left n w) → (n : ℕ) (y : Answer) (i : ℕ)
     → y .refusal ≡ 0 → left n (buffer y i) ≡ left (or-refused n y .refusal) (buffer (or-refused n y) i)
@@ -60,6 +70,17 @@ left-in-of : (n : ℕ) (y : Answer) (i : ℕ) (before : List ℕ) → y .refusal
     → left-in n before (buffer y i) ≡ left-in (or-refused n y .refusal) before (buffer (or-refused n y) i)
 unfolding left-in
 left-in-of n y i before h = left-of (λ m w. left-in m before w) (λ m v w e. rw e refl) n y i h
+
+weights-left-in-of : (n : ℕ) (y : Answer) (i : ℕ) (before : List Weight) → y .refusal ≡ 0
+    → weights-left-in n before (weights y i) ≡ weights-left-in (or-refused n y .refusal) before (weights (or-refused n y) i)
+unfolding or-refused weights-left-in
+weights-left-in-of n y i before h = on (eqb n 0) refl
+  where
+    on : (b : Bool) → eqb n 0 ≡ b
+        → cond (eqb n 0) (signed-filled (length before) (weights y i)) before
+        ≡ cond (eqb (cond b y (refused n) .refusal) 0) (signed-filled (length before) (weights (cond b y (refused n)) i)) before
+    on true e = rw (e, h) refl
+    on false e = rw e refl
 
 left-behind-of : (n : ℕ) (y : Answer) (i : ℕ) (before : List ℕ) → y .refusal ≡ 0
     → left-behind n before (buffer y i) ≡ left-behind (or-refused n y .refusal) before (buffer (or-refused n y) i)
@@ -91,7 +112,7 @@ shortest-enough bs a b ha hb = rw (le-ltb a 1023 ha, le-ltb b 1023 hb) refl
 -- Each contract, with the number by which its call is refused.
 
 read-promised : (bs : List ℕ) → Promises (reading bs) (defined (reading bs))
-unfolding Promises defined number buffer read-answer
+unfolding Promises defined number buffer weights read-answer
 read-promised bs r a a' b b' c c' d d' ha hb hc hd says =
     let n = read-refusal bs 1024 1024 12288 3072 in
     let y = read-answer (decode bs) in
@@ -104,9 +125,9 @@ read-promised bs r a a' b b' c c' d d' ha hb hc hd says =
       finals = told .finals-is ∙ number-of n y 2;
       start = told .start-is ∙ number-of n y 3;
       final-states = told .final-states ∙ left-in-of n y 0 a refl;
-      final-weights = told .final-weights ∙ left-in-of n y 1 b refl;
-      fields = told .fields ∙ left-in-of n y 2 c refl;
-      arc-weights = told .arc-weights ∙ left-in-of n y 3 d refl;
+      final-weights = told .final-weights ∙ weights-left-in-of n y 0 b refl;
+      fields = told .fields ∙ left-in-of n y 1 c refl;
+      arc-weights = told .arc-weights ∙ weights-left-in-of n y 1 d refl;
     }
 
 compose-promised : (xs ys : List ℕ) → Promises (composing xs ys) (defined (composing xs ys))
@@ -155,9 +176,9 @@ nth-promised bs k r a a' b b' ha hb says =
     let told = subst (λ (m : ℕ). Nth-says bs k m r a a' b b') e says in
     record {
       refusal = told .refusal-is ∙ refusal-of n y refl;
-      cost = told .cost-is ∙ number-of n y 0;
-      arc-count = told .arcs-is ∙ number-of n y 1;
-      label-count = told .labels-is ∙ number-of n y 2;
+      cost = told .cost-is ∙ cost-of n y;
+      arc-count = told .arcs-is ∙ number-of n y 0;
+      label-count = told .labels-is ∙ number-of n y 1;
       arcs = told .arcs ∙ left-in-of n y 0 a refl;
       labels = told .labels ∙ left-in-of n y 1 b refl;
     }
@@ -171,16 +192,16 @@ shortest-promised bs r a a' b b' ha hb says =
     let told = subst (λ (m : ℕ). Shortest-says bs m r a a' b b') e says in
     record {
       refusal = told .refusal-is ∙ refusal-of n y refl;
-      cost = told .cost-is ∙ number-of n y 0;
-      arc-count = told .arcs-is ∙ number-of n y 1;
-      label-count = told .labels-is ∙ number-of n y 2;
+      cost = told .cost-is ∙ cost-of n y;
+      arc-count = told .arcs-is ∙ number-of n y 0;
+      label-count = told .labels-is ∙ number-of n y 1;
       arcs = told .arcs ∙ left-in-of n y 0 a refl;
       labels = told .labels ∙ left-in-of n y 1 b refl;
     }
 
-text-enough : (room : ℕ) → 602898 ≤ room → text-room room ≡ 0
+text-enough : (room : ℕ) → 602996 ≤ room → text-room room ≡ 0
 unfolding text-room
-text-enough room h = rw (le-ltb room 602898 h) refl
+text-enough room h = rw (le-ltb room 602996 h) refl
 
 listing-promised : (xs ys cs : List ℕ) → Promises (listing xs ys cs) (defined (listing xs ys cs))
 unfolding Promises defined number buffer unless left-in

@@ -9,6 +9,7 @@ use lib.ListN.{length}
 use Rattle.transducer.specs.Format.{Transducer, decode}
 use Rattle.transducer.specs.Encode.{encode}
 use Rattle.transducer.specs.Path.{written-by, path-cost}
+use Rattle.transducer.specs.Weight.{Weight, no-weight, amount}
 use Rattle.codec.specs.Entry.{arc-fields, read-refusal}
 use Rattle.compose.specs.Compose.{composed}
 use Rattle.compose.specs.Entry.{compose-refusal, origin-pairs}
@@ -31,11 +32,14 @@ pub data Call : Type 0 where
   shortest-path : (table : List ℕ) → Call
   listing : (left right code : List ℕ) → Call
 
--- What a call answers: the refusal or 0, the other numbers in the answer's order, and what it writes to the front of each buffer that it hands over.
+-- What a call answers: the refusal or 0, a cost, the other numbers in the answer's order, and what it writes to the front of each buffer that it
+-- hands over, those of weights by themselves.
 pub record Answer : Type 0 where
   pub refusal : ℕ
+  pub cost : Weight
   pub numbers : List ℕ
   pub buffers : List (List ℕ)
+  pub weights : List (List Weight)
 
 pub record Case : Type 0 where
   pub call : Call
@@ -47,24 +51,34 @@ c gives a = record { call = c; answer = a }
 
 -- Answers as rows have them: a refusal by a number; a transducer written, with its length and origins; a count; a path with its cost.
 abbrev pub refused : (number : ℕ) → Answer
-refused number = record { refusal = number; numbers = []; buffers = [] }
+refused number = record { refusal = number; cost = no-weight; numbers = []; buffers = []; weights = [] }
 
 abbrev pub writes : (len : ℕ) → (bytes origins : List ℕ) → Answer
-writes len bytes origins = record { refusal = 0; numbers = len ∷ []; buffers = bytes ∷ origins ∷ [] }
+writes len bytes origins = record { refusal = 0; cost = no-weight; numbers = len ∷ []; buffers = bytes ∷ origins ∷ []; weights = [] }
 
 abbrev pub counts : ℕ → Answer
-counts count = record { refusal = 0; numbers = count ∷ []; buffers = [] }
+counts count = record { refusal = 0; cost = no-weight; numbers = count ∷ []; buffers = []; weights = [] }
+
+abbrev pub path-told : (cost : Weight) → (arcs labels : List ℕ) → Answer
+path-told cost arcs labels =
+    record { refusal = 0; cost = cost; numbers = length arcs ∷ length labels ∷ []; buffers = arcs ∷ labels ∷ []; weights = [] }
 
 abbrev pub tells : (cost : ℕ) → (arcs labels : List ℕ) → Answer
-tells cost arcs labels = record { refusal = 0; numbers = cost ∷ length arcs ∷ length labels ∷ []; buffers = arcs ∷ labels ∷ [] }
+tells cost arcs labels = path-told (amount cost) arcs labels
 
 -- A listing, and the refusal that its text says.
 abbrev pub lists : (said : ℕ) → (text : List ℕ) → Answer
-lists said text = record { refusal = 0; numbers = length text ∷ said ∷ []; buffers = text ∷ [] }
+lists said text = record { refusal = 0; cost = no-weight; numbers = length text ∷ said ∷ []; buffers = text ∷ []; weights = [] }
 
--- The bytes of a transducer are accepted: its four numbers, final states and weights, arc fields, arc weights.
+-- The bytes of a transducer are accepted: its four numbers, final states and weights, arc fields, arc weights. No cost and no weight of a row is
+-- below 0.
+abbrev pub table-read : (states arcs finals start : ℕ) → (final-states : List ℕ) → (final-weights : List Weight) → (fields : List ℕ)
+    → (arc-weights : List Weight) → Answer
+table-read n m f start a b c d =
+    record { refusal = 0; cost = no-weight; numbers = n ∷ m ∷ f ∷ start ∷ []; buffers = a ∷ c ∷ []; weights = b ∷ d ∷ [] }
+
 abbrev pub reads : (states arcs finals start : ℕ) → (final-states final-weights fields arc-weights : List ℕ) → Answer
-reads n m f start a b c d = record { refusal = 0; numbers = n ∷ m ∷ f ∷ start ∷ []; buffers = a ∷ b ∷ c ∷ d ∷ [] }
+reads n m f start a b c d = table-read n m f start a (map amount b) c (map amount d)
 
 -- An answer where a call is not refused.
 unfoldable pub or-refused : (number : ℕ) → Answer → Answer
@@ -73,14 +87,14 @@ or-refused number a = cond (eqb number 0) a (refused number)
 -- A transducer read, one written with its origins, and a path told.
 unfoldable pub read-answer : Transducer → Answer
 read-answer t =
-    reads (t .states) (length (t .arcs)) (length (t .finals)) (t .start)
+    table-read (t .states) (length (t .arcs)) (length (t .finals)) (t .start)
     (map (λ f. f .state) (t .finals)) (map (λ f. f .weight) (t .finals)) (arc-fields (t .arcs)) (map (λ a. a .weight) (t .arcs))
 
 unfoldable pub write-answer : Transducer → (origins : List ℕ) → Answer
 write-answer t origins = writes (length (encode t)) (encode t) origins
 
 unfoldable pub path-answer : Transducer → (path : List ℕ) → Answer
-path-answer t p = tells (path-cost t p) p (written-by t p)
+path-answer t p = path-told (path-cost t p) p (written-by t p)
 
 -- What the definitions give for each call, lent buffers of the least lengths.
 unfoldable pub defined : Call → Answer

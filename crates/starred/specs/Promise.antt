@@ -7,7 +7,8 @@ use lib.ListN.{length, getD}
 use Rattle.wire.specs.Bytes.{filled}
 use Rattle.transducer.specs.declared.Header.{Header}
 use Rattle.transducer.specs.declared.Written.{Written}
-use Rattle.transducer.specs.Entry.{left-in}
+use Rattle.transducer.specs.Entry.{left-in, weights-left-in}
+use Rattle.transducer.specs.Weight.{Weight}
 use Rattle.codec.specs.Entry.{read-refusal, Read-says}
 use Rattle.explore.specs.Explore.{left-behind}
 use Rattle.compose.specs.Entry.{compose-refusal, Compose-says}
@@ -28,12 +29,15 @@ number x i = getD (x .numbers) i 0
 unfoldable pub buffer : Answer → (i : ℕ) → List ℕ
 buffer x i = getD (x .buffers) i []
 
+unfoldable pub weights : Answer → (i : ℕ) → List Weight
+weights x i = getD (x .weights) i []
+
 -- A path told: its cost, how many arcs and labels it has, and both.
 pub record Tells-as (x : Answer) (r : Told) (a a' b b' : List ℕ) : Type 0 where
   pub refusal : r .refusal ≡ x .refusal
-  pub cost : r .cost ≡ number x 0
-  pub arc-count : r .arcs ≡ number x 1
-  pub label-count : r .labels ≡ number x 2
+  pub cost : r .cost ≡ x .cost
+  pub arc-count : r .arcs ≡ number x 0
+  pub label-count : r .labels ≡ number x 1
   pub arcs : a' ≡ left-in (x .refusal) a (buffer x 0)
   pub labels : b' ≡ left-in (x .refusal) b (buffer x 1)
 
@@ -45,16 +49,16 @@ pub record Writes-as (x : Answer) (r : Written) (a a' b b' c c' : List ℕ) : Ty
   pub origins : b' ≡ left-behind (x .refusal) b (buffer x 1)
   pub work : c' ≡ left-behind (x .refusal) c []
 
-pub record Reads-as (x : Answer) (r : Header) (a a' b b' c c' d d' : List ℕ) : Type 0 where
+pub record Reads-as (x : Answer) (r : Header) (a a' : List ℕ) (b b' : List Weight) (c c' : List ℕ) (d d' : List Weight) : Type 0 where
   pub refusal : r .refusal ≡ x .refusal
   pub states : r .states ≡ number x 0
   pub arcs : r .arcs ≡ number x 1
   pub finals : r .finals ≡ number x 2
   pub start : r .start ≡ number x 3
   pub final-states : a' ≡ left-in (x .refusal) a (buffer x 0)
-  pub final-weights : b' ≡ left-in (x .refusal) b (buffer x 1)
-  pub fields : c' ≡ left-in (x .refusal) c (buffer x 2)
-  pub arc-weights : d' ≡ left-in (x .refusal) d (buffer x 3)
+  pub final-weights : b' ≡ weights-left-in (x .refusal) b (weights x 0)
+  pub fields : c' ≡ left-in (x .refusal) c (buffer x 1)
+  pub arc-weights : d' ≡ weights-left-in (x .refusal) d (weights x 1)
 
 pub record Counts-as (x : Answer) (r : Counted) : Type 0 where
   pub refusal : r .refusal ≡ x .refusal
@@ -68,7 +72,8 @@ pub record Lists-as (x : Answer) (r : Listed) (out out' : List ℕ) : Type 0 whe
 
 unfoldable pub Promises : Call → Answer → Type 0
 Promises (reading bs) x =
-    (r : Header) (a a' b b' c c' d d' : List ℕ) → 1024 ≤ length a → 1024 ≤ length b → 12288 ≤ length c → 3072 ≤ length d
+    (r : Header) (a a' : List ℕ) (b b' : List Weight) (c c' : List ℕ) (d d' : List Weight) → 1024 ≤ length a → 1024 ≤ length b → 12288 ≤ length c
+    → 3072 ≤ length d
     → Read-says bs (read-refusal bs (length a) (length b) (length c) (length d)) r a a' b b' c c' d d' → Reads-as x r a a' b b' c c' d d'
 Promises (composing xs ys) x =
     (r : Written) (a a' b b' c c' : List ℕ) → 59404 ≤ length a → 6144 ≤ length b → 1024 ≤ length c
@@ -84,7 +89,7 @@ Promises (shortest-path bs) x =
     (r : Told) (a a' b b' : List ℕ) → 1023 ≤ length a → 1023 ≤ length b → Shortest-says bs (shortest-refusal bs (length a) (length b)) r a a' b b'
     → Tells-as x r a a' b b'
 Promises (listing xs ys cs) x =
-    (r : Listed) (out out' : List ℕ) → 602898 ≤ length out → Listing-says xs ys cs (text-room (length out)) r out out' → Lists-as x r out out'
+    (r : Listed) (out out' : List ℕ) → 602996 ≤ length out → Listing-says xs ys cs (text-room (length out)) r out out' → Lists-as x r out out'
 
 -- The cases of a table are what their calls promise.
 unfoldable pub All-promised : List Case → Type 0

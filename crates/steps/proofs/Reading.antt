@@ -22,6 +22,7 @@ use Rattle.steps.specs.Lookup.{Rest}
 use Rattle.steps.specs.Packing.{Bounded}
 use Rattle.steps.specs.Runs.{run-step, run-steps, reading-from, begin-from, run-at, Takeable, In-both}
 use Rattle.transducer.proofs.RoundTrip.{good-range, good-content}
+use Rattle.transducer.proofs.Weights.{none-good}
 use Rattle.steps.proofs.Leaving.{rest-at, state-leaving}
 use Rattle.steps.proofs.RunSteps.{
   run-none,
@@ -222,7 +223,7 @@ module _ (t u : Transducer) (tg : Good t) (ug : Good u) (x : State) (inside : In
         ready =
             record {
               target-fits = fits (x .left) 1 (inside .left-in) (omega arith);
-              weight-fits = omega arith;
+              weight-fits = none-good;
               inside = λ h. right-inside;
               single = λ h. never h;
               rest = λ h m. rest-at j right-rest (first .least) m;

@@ -9,7 +9,7 @@ use lib.ListN.{length}
 use borrow.Author.Tests.{eq-eqb, ne-eqb, lt-ltb, le-ltb}
 use Rattle.wire.specs.Bytes.{Bytes, two}
 use Rattle.transducer.specs.declared.Arc.{Arc}
-use Rattle.transducer.specs.Format.{Transducer, Good, decode, arc-at}
+use Rattle.transducer.specs.Format.{Transducer, Good, decode, arc-at, weight-good}
 use Rattle.transducer.specs.Path.{arc}
 use Rattle.transducer.specs.Leaf.{Opened}
 use Rattle.transducer.proofs.Offsets.{arc-offset, length-accepted, length-arcs}
@@ -46,7 +46,7 @@ module _ (bs : List ℕ) (bytes : Bytes bs) (first : ℕ) (opened : Opened bs fi
       let good : Good (decode bs) = accepted-good bs bytes (opened .accepted) in
       omega (arith, good-content (decode bs) good .target j h, good-range (decode bs) good .states)
 
-  pub opened-weight : (j : ℕ) → j < length (decode bs .arcs) → arc (decode bs) j .weight ≤ 1000000
+  pub opened-weight : (j : ℕ) → j < length (decode bs .arcs) → weight-good (arc (decode bs) j .weight) ≡ true
   opened-weight j h = let b : Bounds bs = bounds bytes (opened .accepted) in b .weight j (omega (arith, b .arcs-long))
 
 -- begin-from

@@ -4,7 +4,6 @@ use mathlib.Core.Path.{_≡_, refl, sym, ap, _∙_}
 use mathlib.Core.Bool.{Bool, true, false, _||_, cond}
 use mathlib.Core.List.{List, [], _∷_, _++_, map, map-append, append-assoc}
 use Prim.Native.Nat.{ℕ, zero, suc, _+_, _*_, _-_, _≤_, _<_}
-use native.Mathlib.Nat.{zero-add}
 use native.Mathlib.Omega.{arith}
 use lib.Dec.{eqb}
 use lib.ListN.{length}
@@ -24,6 +23,8 @@ use Rattle.steps.specs.declared.Step.{Step}
 use Rattle.steps.specs.Steps.{left-alone, right-alone, both-step, left-steps, right-steps, steps}
 use Rattle.steps.specs.Runs.{coded, run-step, run-steps}
 use Rattle.transducer.proofs.RoundTrip.{good-range, good-content}
+use Rattle.transducer.specs.Weight.{no-weight}
+use Rattle.transducer.proofs.Weights.{none-plus}
 
 -- run-steps
 
@@ -86,7 +87,7 @@ both-run x i a =
 
 abbrev pub right-run : State → Run
 right-run x =
-    record { alone = false; left = barred; label = 0; input = 0; target = record { left = x .left; right = x .right; filter = 1 }; weight = 0 }
+    record { alone = false; left = barred; label = 0; input = 0; target = record { left = x .left; right = x .right; filter = 1 }; weight = no-weight }
 
 -- The steps of a run with each right arc of the right state that fits.
 abbrev pub right-steps-of : (u : Transducer) → State → Run → List Step
@@ -104,7 +105,7 @@ coded-both u x i j a small = rw (ne-eqb i 65535 (λ q. omega arith))
 
 pub coded-right : (u : Transducer) (x : State) (j : ℕ) → coded (right-alone x j (arc u j)) ≡ run-step u (right-run x) j
 unfolding coded right-alone run-step
-coded-right u x j = rw (zero-add (arc u j .weight))
+coded-right u x j = rw (none-plus (arc u j .weight))
 
 -- What a test lets through, mapped.
 map-cond : {A B : Type 0} (f : A → B) (b : Bool) (x : A) → map f (cond b (x ∷ []) []) ≡ cond b (f x ∷ []) []

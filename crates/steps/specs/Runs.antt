@@ -5,9 +5,9 @@ use mathlib.Core.List.{List, [], _∷_}
 use Prim.Native.Nat.{ℕ, zero, suc, _+_, _*_, _≤_, _<_}
 use lib.Dec.{ltb, eqb}
 use lib.ListN.{length}
-use Rattle.transducer.specs.Format.{max-weight, barred, Transducer}
+use Rattle.transducer.specs.Format.{weight-good, barred, Transducer}
 use Rattle.transducer.specs.Path.{arc}
-use Rattle.transducer.specs.Weight.{plus}
+use Rattle.transducer.specs.Weight.{no-weight, plus}
 use Rattle.explore.specs.Explore as explore
 use Rattle.steps.specs.declared.State.{State}
 use Rattle.steps.specs.declared.Origin.{Origin}
@@ -71,7 +71,7 @@ run-at t last x b =
       weight = a .weight;
     })
     (cond (eqb (b .i) last)
-    (record { alone = false; left = barred; label = 0; input = 0; target = record { left = x .left; right = x .right; filter = 1 }; weight = 0 })
+    (record { alone = false; left = barred; label = 0; input = 0; target = record { left = x .left; right = x .right; filter = 1 }; weight = no-weight })
     (record {
       alone = false;
       left = b .i;
@@ -85,7 +85,7 @@ run-at t last x b =
 -- end at `to`.
 pub record Takeable (u : Transducer) (r : Run) (j to : ℕ) : Type 0 where
   pub target-fits : Bounded (r .target)
-  pub weight-fits : r .weight ≤ max-weight
+  pub weight-fits : weight-good (r .weight) ≡ true
   pub inside : r .alone ≡ false → to ≤ length (u .arcs)
   pub single : r .alone ≡ true → to ≤ j + 1
   pub rest : r .alone ≡ false → j < to → Rest u (arc u j .source) j to

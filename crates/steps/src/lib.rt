@@ -34,7 +34,7 @@ pub struct Step {
     pub input: u16,
     pub output: u16,
     pub target: u32,
-    pub weight: u32,
+    pub weight: i32,
 }
 
 // Steps that differ in their right arc alone: of one left arc alone, of one left arc with each right arc that reads `label`, or of the
@@ -46,7 +46,7 @@ pub struct Run {
     pub label: u16,
     pub input: u16,
     pub target: State,
-    pub weight: u32,
+    pub weight: i32,
 }
 
 // Where the next run begins: at left arc `i`, or behind the last one, with right arc `j`.

@@ -4,7 +4,7 @@ ghost use mathlib.Core.Bool.{true, false, cond};
 ghost use lib.Dec.{eqb};
 ghost use Prim.Native.Nat.{ℕ, _+_, _*_, _-_, _≤_, _<_};
 ghost use lib.ListN.{length};
-ghost use Rattle.transducer.specs.Format.{max-weight, decode, barred};
+ghost use Rattle.transducer.specs.Format.{weight-good, decode, barred};
 ghost use Rattle.transducer.specs.Leaf.{Opened};
 ghost use Rattle.steps.specs.Steps.{left-origin, right-origin};
 ghost use Rattle.steps.specs.Lookup.{Heads, Chain, Leaving};
@@ -144,7 +144,7 @@ fn with_right(left: u16, j: u16) -> Origin
 // The step of a run with right arc `j`.
 pub fn step_of(run: Run, right: &[u8], rfirst: usize, j: usize) -> Step
     requires { ⌜ Opened (now right) rfirst × (run .alone ≡ false → j < length (decode (now right) .arcs))
-        × Bounded (run .target) × (run .weight ≤ max-weight) ⌝ }
+        × Bounded (run .target) × (weight-good (run .weight) ≡ true) ⌝ }
     ensures { λ r. ⌜ r ≡ run-step (decode (now (right .entry))) run j ⌝ }
 {
     let to = run.target;

@@ -13,13 +13,13 @@ use lib.ListN.{length, getD}
 use Rattle.wire.specs.Bytes.{Bytes}
 use Rattle.wire.proofs.Bool.{and-true, true-and, passed, by-test}
 use Rattle.transducer.specs.declared.Final.{Final}
-use Rattle.transducer.specs.Format.{max-states, max-arcs, max-weight, barred, arcs-at, arc-bytes}
+use Rattle.transducer.specs.Format.{max-states, max-arcs, barred, arcs-at, arc-bytes, weight-good}
 use Rattle.transducer.specs.Format.{Transducer, framed, records, kinds-good, decode, head-states, head-arcs, head-finals, head-start}
 use Rattle.transducer.specs.Format.{head-good, finals-rise, sources-stay, content-refusal, refusal}
 use Rattle.transducer.specs.Path.{no-arc, arc}
 use Rattle.transducer.specs.Check.{walked}
 use Rattle.transducer.proofs.Good.{Head-range, head-range, Content, content-good, finals-rise-good, sources-stay-good}
-use Rattle.transducer.proofs.Good.{final-state-below, arc-states-below, arc-labels-below, final-weight-most, arc-weight-most}
+use Rattle.transducer.proofs.Good.{final-state-below, arc-states-below, arc-labels-below, final-light, arc-light}
 use Rattle.transducer.proofs.Laid.{Laid, laid-framed, laid-kinds, laid-finals-count, laid-arcs-count, kinds-laid}
 
 -- Refusal 3's test and refusal 4's, of bytes.
@@ -103,9 +103,9 @@ pub record Content-range (t : Transducer) : Type 0 where
   pub target : (i : ℕ) → i < length (t .arcs) → arc t i .target < t .states
   pub input : (i : ℕ) → i < length (t .arcs) → arc t i .input < barred
   pub output : (i : ℕ) → i < length (t .arcs) → arc t i .output < barred
-  pub weight : (i : ℕ) → i < length (t .arcs) → arc t i .weight ≤ max-weight
+  pub weight : (i : ℕ) → i < length (t .arcs) → weight-good (arc t i .weight) ≡ true
   pub final-state : (i : ℕ) (d : Final) → i < length (t .finals) → getD (t .finals) i d .state < t .states
-  pub final-weight : (i : ℕ) (d : Final) → i < length (t .finals) → getD (t .finals) i d .weight ≤ max-weight
+  pub final-weight : (i : ℕ) (d : Final) → i < length (t .finals) → weight-good (getD (t .finals) i d .weight) ≡ true
   pub rise : finals-rise 0 (t .finals) ≡ true
   pub stay : sources-stay 0 (t .arcs) ≡ true
 
@@ -118,9 +118,9 @@ content-range t h =
       target = λ i l. arc-states-below t c i no-arc l .1;
       input = λ i l. arc-labels-below t c i no-arc l .0;
       output = λ i l. arc-labels-below t c i no-arc l .1;
-      weight = λ i l. arc-weight-most t c i no-arc l;
+      weight = λ i l. arc-light t c i no-arc l;
       final-state = final-state-below t c;
-      final-weight = final-weight-most t c;
+      final-weight = final-light t c;
       rise = finals-rise-good t c;
       stay = sources-stay-good t c;
     }
@@ -132,7 +132,7 @@ pub record Bounds (bs : List ℕ) : Type 0 where
   pub start : head-start bs < head-states bs
   pub long : length bs ≡ arcs-at (head-finals bs) + arc-bytes * head-arcs bs
   pub arcs-long : length (decode bs .arcs) ≡ head-arcs bs
-  pub weight : (i : ℕ) → i < head-arcs bs → arc (decode bs) i .weight ≤ max-weight
+  pub weight : (i : ℕ) → i < head-arcs bs → weight-good (arc (decode bs) i .weight) ≡ true
 
 pub bounds : {bs : List ℕ} → Bytes bs → refusal bs ≡ 0 → Bounds bs
 bounds {bs} b h =

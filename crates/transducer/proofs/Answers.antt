@@ -6,8 +6,9 @@ use Prim.Native.Nat.{ℕ}
 use lib.Dec.{eqb}
 use lib.ListN.{length}
 use borrow.Author.Tests.{eqb-true, eqb-false, eq-eqb, ne-eqb}
-use Rattle.wire.specs.Bytes.{filled}
-use Rattle.transducer.specs.Entry.{or-else, unless, left-in}
+use Rattle.wire.specs.Bytes.{filled, signed-filled}
+use Rattle.transducer.specs.Entry.{or-else, unless, cost-unless, left-in, weights-left-in}
+use Rattle.transducer.specs.Weight.{Weight, no-weight}
 
 pub or-else-none : (a b : ℕ) → or-else a b ≡ 0 → (a ≡ 0) × (b ≡ 0)
 unfolding or-else
@@ -33,6 +34,19 @@ pub unless-some : (number value : ℕ) → (number ≡ 0 → ⊥) → unless num
 unfolding unless
 unless-some number value bad = rw (ne-eqb number 0 bad)
 
+pub cost-unless-none : (number : ℕ) (cost : Weight) → number ≡ 0 → cost-unless number cost ≡ cost
+unfolding cost-unless
+cost-unless-none number cost e = rw (eq-eqb number 0 e)
+
+pub cost-unless-some : (number : ℕ) (cost : Weight) → (number ≡ 0 → ⊥) → cost-unless number cost ≡ no-weight
+unfolding cost-unless
+cost-unless-some number cost bad = rw (ne-eqb number 0 bad)
+
 pub left-in-none : (number : ℕ) (before written : List ℕ) → number ≡ 0 → left-in number before written ≡ filled (length before) written
 unfolding left-in
 left-in-none number before written e = rw (eq-eqb number 0 e)
+
+pub weights-left-in-none : (number : ℕ) (before written : List Weight) → number ≡ 0
+    → weights-left-in number before written ≡ signed-filled (length before) written
+unfolding weights-left-in
+weights-left-in-none number before written e = rw (eq-eqb number 0 e)

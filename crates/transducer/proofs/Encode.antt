@@ -7,7 +7,7 @@ use native.Mathlib.Numerals.{add-one}
 use native.Mathlib.Omega.{arith}
 use lib.ListN.{length, drop, length-append}
 use lib.Seq.{sets, sets-eq}
-use Rattle.wire.specs.Bytes.{low, places, filled, cleared}
+use Rattle.wire.specs.Bytes.{low, signed-low, places, filled, cleared}
 use Rattle.wire.proofs.Places.{length-places, places-snoc, sets-append, cleared-front}
 use Rattle.transducer.specs.declared.Arc.{Arc}
 use Rattle.transducer.specs.declared.Final.{Final}
@@ -30,11 +30,11 @@ unfolding head-record low
 length-head-record n m f s = refl
 
 pub length-final-record : (f : Final) → length (final-record f) ≡ 10
-unfolding final-record weight-bytes low
+unfolding final-record weight-bytes signed-low low
 length-final-record f = refl
 
 pub length-arc-record : (a : Arc) → length (arc-record a) ≡ 16
-unfolding arc-record weight-bytes low
+unfolding arc-record weight-bytes signed-low low
 length-arc-record a = refl
 
 -- Stored field after field, a record stands.
@@ -52,25 +52,25 @@ sets-head out n m f s h1 h2 h3 h4 h5 h6 =
     (sets-then out 0 6 b (low 2 m) refl (sets-then out 0 4 a (low 2 n) refl (sets-then out 0 2 (low 2 8) (low 2 1) refl h1 h2) h3) h4) h5) h6
 
 pub sets-final : (out : List ℕ) (at : ℕ) (f : Final) {o1 o2 o3 o4 : List ℕ} → o1 ≡ sets out at (low 2 6) → o2 ≡ sets o1 (at + 2) (low 2 2) →
-    o3 ≡ sets o2 (at + 4) (low 2 (f .state)) → o4 ≡ sets o3 (at + 6) (low 4 (f .weight)) → o4 ≡ sets out at (final-record f)
-unfolding final-record weight-bytes low
+    o3 ≡ sets o2 (at + 4) (low 2 (f .state)) → o4 ≡ sets o3 (at + 6) (weight-bytes (f .weight)) → o4 ≡ sets out at (final-record f)
+unfolding final-record low
 sets-final out at f h1 h2 h3 h4 =
     let a = low 2 6 ++ low 2 2 in
     let b = a ++ low 2 (f .state) in
-    sets-then out at 6 b (low 4 (f .weight)) refl
+    sets-then out at 6 b (weight-bytes (f .weight)) refl
     (sets-then out at 4 a (low 2 (f .state)) refl (sets-then out at 2 (low 2 6) (low 2 2) refl h1 h2) h3) h4
 
 pub sets-arc : (out : List ℕ) (at : ℕ) (a : Arc) {o1 o2 o3 o4 o5 o6 o7 : List ℕ} → o1 ≡ sets out at (low 2 12) → o2 ≡ sets o1 (at + 2) (low 2 3) →
     o3 ≡ sets o2 (at + 4) (low 2 (a .source)) → o4 ≡ sets o3 (at + 6) (low 2 (a .input)) → o5 ≡ sets o4 (at + 8) (low 2 (a .output)) →
-    o6 ≡ sets o5 (at + 10) (low 2 (a .target)) → o7 ≡ sets o6 (at + 12) (low 4 (a .weight)) → o7 ≡ sets out at (arc-record a)
-unfolding arc-record weight-bytes low
+    o6 ≡ sets o5 (at + 10) (low 2 (a .target)) → o7 ≡ sets o6 (at + 12) (weight-bytes (a .weight)) → o7 ≡ sets out at (arc-record a)
+unfolding arc-record low
 sets-arc out at a h1 h2 h3 h4 h5 h6 h7 =
     let b = low 2 12 ++ low 2 3 in
     let c = b ++ low 2 (a .source) in
     let d = c ++ low 2 (a .input) in
     let e = d ++ low 2 (a .output) in
     let f = e ++ low 2 (a .target) in
-    sets-then out at 12 f (low 4 (a .weight)) refl
+    sets-then out at 12 f (weight-bytes (a .weight)) refl
     (sets-then out at 10 e (low 2 (a .target)) refl
     (sets-then out at 8 d (low 2 (a .output)) refl
     (sets-then out at 6 c (low 2 (a .input)) refl

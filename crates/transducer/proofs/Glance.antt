@@ -1,80 +1,70 @@
--- Arcs tested at a glance: their labels and weights, gathered by `bitOr`, which is never below either of two numbers, nor in either half.
---     or-above-l, or-above-r, ..-low-.., ..-high-..      bitOr only grows
---     good-up-to                                          the bounds of the glance; the only law here that knows which labels and weights are good
+-- Arcs tested at a glance: their fields gathered (`Fields`), their weights by one comparison.
+--     good-up-to                                          the bounds of the glance; the only law here that knows which labels are good
+--     weight-within                                       the one comparison of a weight's bits
 --     arc-passes, arcs-checked-snoc                       an arc that passes each test, and one more arc at the end
+--     under-none, under-next                              no target is below that of the gathered fields
 --     glanced-first, glanced-next, glanced-stop           the loop
+--     glanced-lower, glanced-under                        a lower weight than any before; fields gathered anew
 -- Assumes nothing.
 use mathlib.Core.Path.{_≡_, refl, sym, ap, _∙_}
-use mathlib.Core.Bool.{Bool, true, false, _&&_, and-true}
+use mathlib.Core.Bool.{Bool, true, false, and-true}
 use mathlib.Core.List.{List}
-use Prim.Native.Nat.{ℕ, zero, suc, _+_, _*_, _/_, _%_, _≤_, _<_}
-use native.Mathlib.Nat.{add-zero, mul-zero, mul-suc, add-mul-div-left, div-eq-of-lt, add-mul-mod-self-left, mod-eq-of-lt}
+use Prim.Native.Nat.{ℕ, zero, suc, _+_, _-_, _*_, _%_, _^_, _≤_, _<_}
+use native.Mathlib.Nat.{add-zero, mul-zero, mul-suc}
 use native.Mathlib.Numerals.{add-one}
 use native.Mathlib.Omega.{arith}
-use lib.Bits.{bitOr, or-add-and, and-le-l, and-le-r, or-mod, or-shr}
-use lib.Dec.{lit<}
-use borrow.Author.Tests.{lt-ltb, le-leb, eq-eqb}
+use lib.Bits.{bitOr, bitAnd}
+use lib.Dec.{ltb, eqb}
+use lib.IntN.{pos}
+use mir.Syntax.{w32}
+use mir.Val.{toZ}
+use mir.Facts.{toZ-pos}
+use borrow.Author.Tests.{lt-ltb, le-leb, eq-eqb, ltb-true, ltb-false, eqb-true, eqb-false}
 use Rattle.wire.specs.Bytes.{Bytes, two, four}
-use Rattle.wire.proofs.Low.{two-below}
+use Rattle.wire.proofs.Bool.{by-test, clash}
+use Rattle.wire.proofs.Ints.{sums, minus}
+use Rattle.wire.proofs.Signed.{upper-is}
 use Rattle.transducer.specs.declared.Arc.{Arc}
 use Rattle.transducer.specs.declared.Checks.{Checks}
-use Rattle.transducer.specs.Format.{max-weight, barred, weight-good, weight-at, labels-good, arc-at}
-use Rattle.transducer.specs.Check.{arc-checked, arcs-checked, with-floor, arc-word, Good-up-to, unsure, Plain}
+use Rattle.transducer.specs.declared.check.Glance.{Glance}
+use Rattle.transducer.specs.Format.{barred, arc-bytes, min-weight, max-weight, weight-good, weight-at, labels-good, arc-at}
+use Rattle.transducer.specs.Check.{arc-checked, arcs-checked, with-floor, arc-word, unsure, eight, input-of, output-of, target-of}
+use Rattle.transducer.specs.Check.{Good-up-to, Good-fields, Rows, Between, None-under, Glanced, Goes-on, None-below, Each-up, Glance-says}
+use Rattle.transducer.specs.Weight.{Weight, rebate, At-most}
 use Rattle.transducer.proofs.Labels.{unbarred-good}
-
--- bitOr
-
-pub or-above-l : (a b : ℕ) → a ≤ bitOr a b
-or-above-l a b = omega (arith, or-add-and a b, and-le-r a b)
-
-pub or-above-r : (a b : ℕ) → b ≤ bitOr a b
-or-above-r a b = omega (arith, or-add-and a b, and-le-l a b)
-
-or-low : (a b : ℕ) → bitOr a b % 65536 ≡ bitOr (a % 65536) (b % 65536)
-or-low a b = or-mod a b 16
-
-or-high : (a b : ℕ) → bitOr a b / 65536 ≡ bitOr (a / 65536) (b / 65536)
-or-high a b = or-shr a b 16
-
-pub or-above-low-l : (a b : ℕ) → a % 65536 ≤ bitOr a b % 65536
-or-above-low-l a b = rw (or-low a b) (or-above-l (a % 65536) (b % 65536))
-
-pub or-above-low-r : (a b : ℕ) → b % 65536 ≤ bitOr a b % 65536
-or-above-low-r a b = rw (or-low a b) (or-above-r (a % 65536) (b % 65536))
-
-pub or-above-high-l : (a b : ℕ) → a / 65536 ≤ bitOr a b / 65536
-or-above-high-l a b = rw (or-high a b) (or-above-l (a / 65536) (b / 65536))
-
-pub or-above-high-r : (a b : ℕ) → b / 65536 ≤ bitOr a b / 65536
-or-above-high-r a b = rw (or-high a b) (or-above-r (a / 65536) (b / 65536))
-
--- The halves of a number of four bytes.
-
-pub four-low-half : (bs : List ℕ) (at : ℕ) → Bytes bs → four bs at % 65536 ≡ two bs at
-unfolding four
-four-low-half bs at b = add-mul-mod-self-left (two bs at) 65536 (two bs (at + 2)) ∙ mod-eq-of-lt (two-below bs at b)
-
-pub four-high-half : (bs : List ℕ) (at : ℕ) → Bytes bs → four bs at / 65536 ≡ two bs (at + 2)
-unfolding four
-four-high-half bs at b =
-    omega (arith, add-mul-div-left (two bs at) (two bs (at + 2)) {y = 65536} (lit< tt), div-eq-of-lt (two-below bs at b))
+use Rattle.transducer.proofs.Weights.{good-range, range-good, most-trans}
+use Rattle.transducer.proofs.Fields.{or-input-l, or-input-r, or-output-l, or-output-r, or-target-l, or-target-r, and-target-l, and-target-r}
+use Rattle.transducer.proofs.Fields.{eight-input, eight-output, eight-target}
 
 -- What is good up to bounds
 
-pub good-up-to : (labels weights : ℕ) → labels % 65536 < barred → labels / 65536 < barred → weights ≤ max-weight → Good-up-to labels weights
-unfolding weight-good
-good-up-to labels weights low high light =
+pub good-up-to : (any : ℕ) → input-of any < barred → output-of any < barred → Good-up-to any
+good-up-to any low high =
+    record { labels-are = λ input output p q. unbarred-good input output (record { read = omega (arith, p, low); written = omega (arith, q, high) }) }
+
+good-before : {n : ℕ} {each : Bool} (any x : ℕ) → Good-fields (bitOr any x) n each → Good-fields any n each
+good-before any x g =
     record {
-      labels-are = λ input output p q. unbarred-good input output (record { read = omega (arith, p, low); written = omega (arith, q, high) });
-      weights-are = λ weight p. le-leb weight max-weight (omega (arith, p, light));
+      labels = record {
+        labels-are = λ input output p q. g .labels .labels-are input output (omega (arith, p, or-input-l any x)) (omega (arith, q, or-output-l any x));
+      };
+      targets = λ e. omega (arith, g .targets e, or-target-l any x);
     }
 
-good-before : (labels weights x w : ℕ) → Good-up-to (bitOr labels x) (bitOr weights w) → Good-up-to labels weights
-good-before labels weights x w g =
-    record {
-      labels-are = λ input output p q. g .labels-are input output (omega (arith, p, or-above-low-l labels x)) (omega (arith, q, or-above-high-l labels x));
-      weights-are = λ weight p. g .weights-are weight (omega (arith, p, or-above-l weights w));
-    }
+-- Bits are those of a weight from -below on and not too high: their sum with `below`, modulo 2^32, is small.
+pub weight-within : (bits below : ℕ) → bits < 2 ^ 32 → below ≤ 1000000 → (bits + below) % 2 ^ 32 ≤ 1000000 + below →
+    Between (rebate below) (toZ w32 bits) max-weight
+weight-within bits below fits small h =
+    by-test (ltb (bits + below) 4294967296)
+    (λ e.
+    let l : bits + below < 4294967296 = ltb-true (bits + below) 4294967296 e in
+    let low : bits < 2 ^ 31 = omega (arith, h, l, small) in
+    rw (toZ-pos w32 low)
+    (record { not-below = omega (arith, sums, minus (pos below)); not-above = omega (arith, sums, h, l) }))
+    (λ e.
+    let l : 4294967296 ≤ bits + below = ltb-false (bits + below) 4294967296 e in
+    rw (upper-is bits fits (omega (arith, l, small)))
+    (record { not-below = omega (arith, sums, minus (pos below), l, fits); not-above = omega (arith, sums) }))
 
 -- Arcs
 
@@ -108,47 +98,228 @@ arcs-checked-snoc (suc k) at s n word arc c =
 
 -- The loop
 
--- After i arcs: if the last source is a state and what was gathered is good, then each of them passes.
-pub record Glanced (bs : List ℕ) (at count n floor last labels weights place i : ℕ) : Type 0 where
-  pub within : i ≤ count
-  pub there : place ≡ at + 16 * i
-  pub passing : last < n → Good-up-to labels weights → (c : Checks) → c .floor ≡ floor →
-      arcs-checked i at 16 n (four bs) (arc-at bs) c ≡ with-floor last c
+pub none-below-good : (bs : List ℕ) (at count : ℕ) → None-below bs at count min-weight
+none-below-good bs at count = record { light = λ k h good. good-range (arc-at bs (at + arc-bytes * k) .weight) good .low }
 
-pub plain-unsure : (bs : List ℕ) (at count n floor : ℕ) → Plain bs at count n floor unsure
-plain-unsure bs at count n floor = record { all-pass = λ h. absurd (h refl) }
+pub says-unsure : (bs : List ℕ) (at count n floor : ℕ) (g : Glance) → g .last ≡ unsure → g .least ≡ min-weight → g .up ≡ false →
+    Glance-says bs at count n floor g
+says-unsure bs at count n floor g e f not-up =
+    record {
+      plain = record { all-pass = λ h. absurd (h e) };
+      light = rw f (none-below-good bs at count);
+      up = λ u. clash u not-up;
+    }
 
-pub glanced-first : (bs : List ℕ) (at count n floor labels weights : ℕ) → Glanced bs at count n floor floor labels weights at 0
+-- No target is below that of fields gathered by bitAnd.
+
+pub under-none : (bs : List ℕ) (at all : ℕ) → None-under bs at all at
+under-none bs at all = record { leads = λ k h. absurd (omega (arith, h)) }
+
+pub under-next : {bs : List ℕ} {at all place : ℕ} (arcs : ℕ) → Bytes bs → place ≡ at + arc-bytes * arcs → None-under bs at all place →
+    None-under bs at (bitAnd all (eight bs (place + 4))) (place + 16)
+unfolding arc-at
+under-next {bs} {at} {all} {place} arcs b there under = record { leads = λ k h. by-test (eqb k arcs) (this k) (before k h) }
+  where
+    x : ℕ
+    x = eight bs (place + 4)
+
+    this : (k : ℕ) → eqb k arcs ≡ true → target-of (bitAnd all x) ≤ two bs (at + 16 * k + 10)
+    this k e =
+        let same : at + 16 * k + 10 ≡ place + 4 + 6 = omega (arith, eqb-true k arcs e, there) in
+        rw (same, ← eight-target bs (place + 4) b) (and-target-r all x)
+
+    before : (k : ℕ) → at + 16 * k < place + 16 → eqb k arcs ≡ false → target-of (bitAnd all x) ≤ two bs (at + 16 * k + 10)
+    before k h e =
+        omega (arith, under .leads k (omega (arith, h, there, eqb-false k arcs e)), and-target-l all x)
+
+-- The loop
+
+pub glanced-first : (bs : List ℕ) (at count n : ℕ) (each : Bool) (floor any all : ℕ) (least : Weight) →
+    Glanced bs at count n each floor floor any all least at
 unfolding arcs-checked with-floor
-glanced-first bs at count n floor labels weights =
-    record { within = omega arith; there = omega arith; passing = λ _ _ c e. rw (sym e) }
+glanced-first bs at count n each floor any all least =
+    record {
+      arcs = 0;
+      within = omega arith;
+      there = omega arith;
+      passing = λ _ _ c e. rw (sym e);
+      light = λ k h. absurd (omega arith);
+      steps = λ k h. absurd (omega arith);
+      under = under-none bs at all;
+    }
 
-module _ {bs : List ℕ} {at count n floor last labels weights place i : ℕ} (g : Glanced bs at count n floor last labels weights place i) where
-  passing-more : (source : ℕ) → Bytes bs → four bs place ≡ arc-word → source ≡ two bs (place + 4) → last ≤ source → two bs (place + 10) < n →
-      source < n → Good-up-to (bitOr labels (four bs (place + 6))) (bitOr weights (four bs (place + 12))) → (c : Checks) → c .floor ≡ floor →
-      arcs-checked (i + 1) at 16 n (four bs) (arc-at bs) c ≡ with-floor source c
-  unfolding arc-at weight-at
-  passing-more source b word from order target below good c e =
-      let x : ℕ = four bs (place + 6) in
-      let w : ℕ = four bs (place + 12) in
+module _ {bs : List ℕ} {at count n : ℕ} {each : Bool} {floor last any all place : ℕ} {least : Weight}
+    (g : Glanced bs at count n each floor last any all least place) where
+  passing-more : (source : ℕ) → Bytes bs → four bs place ≡ arc-word → source ≡ two bs (place + 4) → last ≤ source →
+      (each ≡ true → two bs (place + 10) < n) → weight-good (weight-at bs (place + 12)) ≡ true → source < n →
+      Good-fields (bitOr any (eight bs (place + 4))) n each → (c : Checks) → c .floor ≡ floor →
+      arcs-checked (g .arcs + 1) at 16 n (four bs) (arc-at bs) c ≡ with-floor source c
+  unfolding arc-at
+  passing-more source b word from order tested weight below good c e =
+      let x : ℕ = eight bs (place + 4) in
+      let i : ℕ = g .arcs in
       let earlier : arcs-checked i at 16 n (four bs) (arc-at bs) c ≡ with-floor last c =
-      g .passing (omega (arith, order, below)) (good-before labels weights x w good) c e in
-      let output : place + 8 ≡ place + 6 + 2 = omega arith in
+      g .passing (omega (arith, order, below)) (good-before any x good) c e in
+      let input : two bs (place + 6) ≤ input-of (bitOr any x) =
+      let at-input : place + 4 + 2 ≡ place + 6 = omega arith in
+      rw (← at-input, ← eight-input bs (place + 4) b) (or-input-r any x) in
+      let output : two bs (place + 8) ≤ output-of (bitOr any x) =
+      let at-output : place + 4 + 4 ≡ place + 8 = omega arith in
+      rw (← at-output, ← eight-output bs (place + 4) b) (or-output-r any x) in
+      let reached : two bs (place + 10) ≤ target-of (bitOr any x) =
+      let at-target : place + 4 + 6 ≡ place + 10 = omega arith in
+      rw (← at-target, ← eight-target bs (place + 4) b) (or-target-r any x) in
       let marks : labels-good (two bs (place + 6)) (two bs (place + 8)) ≡ true =
-      good .labels-are (two bs (place + 6)) (two bs (place + 8)) (rw (← four-low-half bs (place + 6) b) (or-above-low-r labels x))
-      (rw (output, ← four-high-half bs (place + 6) b) (or-above-high-r labels x)) in
+      good .labels .labels-are (two bs (place + 6)) (two bs (place + 8)) input output in
+      let target : two bs (place + 10) < n = by-test each tested (λ f. omega (arith, reached, good .targets f)) in
       let this : arc-checked n (four bs place) (arc-at bs place) (with-floor last c) ≡ with-floor (two bs (place + 4)) c =
-      arc-passes n (four bs place) last (arc-at bs place) c word (omega (arith, from, below)) target (omega (arith, from, order)) marks
-      (good .weights-are w (or-above-r weights w)) in
+      arc-passes n (four bs place) last (arc-at bs place) c word (omega (arith, from, below)) target (omega (arith, from, order)) marks weight in
       rw (add-one i, arcs-checked-snoc i at 16 n (four bs) (arc-at bs) c, ← g .there, earlier, from) this
 
-  pub glanced-next : (source : ℕ) → Bytes bs → i < count → four bs place ≡ arc-word → source ≡ two bs (place + 4) → last ≤ source →
-      two bs (place + 10) < n →
-      Glanced bs at count n floor source (bitOr labels (four bs (place + 6))) (bitOr weights (four bs (place + 12))) (place + 16) (i + 1)
-  glanced-next source b h word from order target =
-      record { within = omega arith; there = omega (arith, g .there); passing = passing-more source b word from order target }
+  light-more : At-most least (weight-at bs (place + 12)) → (k : ℕ) → k < g .arcs + 1 → At-most least (arc-at bs (at + arc-bytes * k) .weight)
+  unfolding arc-at
+  light-more this k h = on (eqb k (g .arcs)) refl
+    where
+      on : (b : Bool) → eqb k (g .arcs) ≡ b → At-most least (weight-at bs (at + 16 * k + 12))
+      on true e =
+          let same : at + 16 * k ≡ place = omega (arith, eqb-true k (g .arcs) e, g .there) in
+          rw same this
+      on false e = g .light k (omega (arith, h, eqb-false k (g .arcs) e))
 
-  pub glanced-stop : count ≤ i → last < n → Good-up-to labels weights → Plain bs at count n floor last
-  glanced-stop h below good =
-      let all : i ≡ count = omega (arith, g .within) in
-      record { all-pass = λ _ c e. rw all at (g .passing below good c e) }
+  steps-more : (source : ℕ) → source ≡ two bs (place + 4) → last ≤ source → (k : ℕ) → k < g .arcs + 1 → arc-at bs (at + arc-bytes * k) .source ≤ source
+  unfolding arc-at
+  steps-more source from order k h = on (eqb k (g .arcs)) refl
+    where
+      on : (b : Bool) → eqb k (g .arcs) ≡ b → two bs (at + 16 * k + 4) ≤ source
+      on true e =
+          let same : at + 16 * k ≡ place = omega (arith, eqb-true k (g .arcs) e, g .there) in
+          rw same (omega (arith, from))
+      on false e = omega (arith, order, g .steps k (omega (arith, h, eqb-false k (g .arcs) e)))
+
+  -- One more arc.
+  pub glanced-next : (source : ℕ) → Bytes bs → place < at + arc-bytes * count → At-most min-weight least →
+      Between least (weight-at bs (place + 12)) max-weight → (each ≡ true → two bs (place + 10) < n) → four bs place ≡ arc-word →
+      source ≡ two bs (place + 4) → last ≤ source →
+      Glanced bs at count n each floor source (bitOr any (eight bs (place + 4))) (bitAnd all (eight bs (place + 4))) least (place + 16)
+  glanced-next source b h low weight target word from order =
+      let w : Weight = weight-at bs (place + 12) in
+      let good : weight-good w ≡ true = range-good w (record { low = most-trans min-weight least w low (weight .not-below); high = weight .not-above }) in
+      record {
+        arcs = g .arcs + 1;
+        within = omega (arith, h, g .there);
+        there = omega (arith, g .there);
+        passing = passing-more source b word from order target good;
+        light = light-more (weight .not-below);
+        steps = steps-more source from order;
+        under = under-next (g .arcs) b (g .there) (g .under);
+      }
+
+  -- The arcs up to here, and from here on.
+  pub glanced-rows : Rows at place
+  glanced-rows = record { many = g .arcs; end-is = g .there }
+
+  pub glanced-rest : Rows place (at + arc-bytes * count)
+  glanced-rest = record { many = count - g .arcs; end-is = omega (arith, g .there, g .within) }
+
+  pub glanced-lower : (lower : Weight) → At-most lower least → Glanced bs at count n each floor last any all lower place
+  glanced-lower lower h =
+      record {
+        arcs = g .arcs;
+        within = g .within;
+        there = g .there;
+        passing = g .passing;
+        light = λ k l. most-trans lower least (arc-at bs (at + arc-bytes * k) .weight) h (g .light k l);
+        steps = g .steps;
+        under = g .under;
+      }
+
+  pub glanced-under : (anew : ℕ) → None-under bs at anew place → Glanced bs at count n each floor last any anew least place
+  glanced-under anew u =
+      record { arcs = g .arcs; within = g .within; there = g .there; passing = g .passing; light = g .light; steps = g .steps; under = u }
+
+  -- All arcs are seen.
+  module _ (h : at + arc-bytes * count ≤ place) where
+    seen-all : g .arcs ≡ count
+    seen-all = omega (arith, h, g .within, g .there)
+
+    seen-light : None-below bs at count least
+    seen-light = record { light = λ k l _. g .light k (omega (arith, l, seen-all)) }
+
+    seen-up : last < target-of all → Each-up bs at count
+    seen-up u =
+        record { rises = λ k l. omega (arith, g .steps k (omega (arith, l, seen-all)), u, g .under .leads k (omega (arith, l, seen-all, g .there))) }
+
+    pub glanced-stop : last < n → Good-fields any n each → (r : Glance) → r .last ≡ last → r .least ≡ least → (r .up ≡ true → last < target-of all) →
+        Glance-says bs at count n floor r
+    glanced-stop below good r e f up =
+        record {
+          plain = record { all-pass = λ _ c s. rw (e, ← seen-all) (g .passing below good c s) };
+          light = rw f seen-light;
+          up = λ u. seen-up (up u);
+        }
+
+    -- The least weight is known where the labels are not.
+    pub glanced-unsure : (r : Glance) → r .last ≡ unsure → r .least ≡ least → r .up ≡ false → Glance-says bs at count n floor r
+    glanced-unsure r e f not-up =
+        record { plain = record { all-pass = λ k. absurd (k e) }; light = rw f seen-light; up = λ u. clash u not-up }
+
+-- A run, of which the arcs up to `place` are seen.
+pub record Running (bs : List ℕ) (from end n : ℕ) (each : Bool) (last any all : ℕ) (least : Weight) (before most lowest place : ℕ) : Type 0 where
+  pub rows : Rows place end
+  pub goes-on : Goes-on bs from end n each last any all least before most lowest place
+
+pub running-first : {bs : List ℕ} {from end n : ℕ} {each : Bool} {last any all : ℕ} {least : Weight} → Rows from end →
+    Running bs from end n each last any all least last any all from
+running-first rows = record { rows = rows; goes-on = λ at count floor e g. g }
+
+module _ {bs : List ℕ} {from end n : ℕ} {each : Bool} {last any all : ℕ} {least : Weight} {before most lowest place : ℕ}
+    (r : Running bs from end n each last any all least before most lowest place) (h : place < end) where
+  pub running-room : place + 16 ≤ end
+  running-room = omega (arith, h, r .rows .end-is)
+
+  pub running-next : (source : ℕ) → Bytes bs → At-most min-weight least → Between least (weight-at bs (place + 12)) max-weight →
+      (each ≡ true → two bs (place + 10) < n) → four bs place ≡ arc-word → source ≡ two bs (place + 4) → before ≤ source →
+      Running bs from end n each last any all least source (bitOr most (eight bs (place + 4))) (bitAnd lowest (eight bs (place + 4))) (place + 16)
+  running-next source b low weight target word from-is order =
+      record {
+        rows = record { many = r .rows .many - 1; end-is = omega (arith, h, r .rows .end-is) };
+        goes-on = λ at count floor e g.
+            glanced-next (r .goes-on at count floor e g) source b (rw e at h) low weight target word from-is order;
+      }
+
+-- What is known between two runs: no weight is lower than `below` below zero.
+pub record Looking (bs : List ℕ) (at count n : ℕ) (each : Bool) (floor last any all below place : ℕ) : Type 0 where
+  pub glanced : Glanced bs at count n each floor last any all (rebate below) place
+  pub small : below ≤ 1000000
+
+pub rebate-lower : (a b : ℕ) → a ≤ b → At-most (rebate b) (rebate a)
+rebate-lower a b h = omega (arith, sums, minus (pos a), minus (pos b))
+
+pub rebate-good : (a : ℕ) → a ≤ 1000000 → At-most min-weight (rebate a)
+rebate-good a h = rebate-lower a 1000000 h
+
+-- The arcs up to a place, their fields gathered by bitAnd.
+pub record Gathered (bs : List ℕ) (at end all place : ℕ) : Type 0 where
+  pub arcs : ℕ
+  pub there : place ≡ at + arc-bytes * arcs
+  pub rows : Rows place end
+  pub under : None-under bs at all place
+
+pub gathered-first : {bs : List ℕ} {at end all : ℕ} → Rows at end → Gathered bs at end all at
+gathered-first {bs} {at} {end} {all} rows = record { arcs = 0; there = omega arith; rows = rows; under = under-none bs at all }
+
+module _ {bs : List ℕ} {at end all place : ℕ} (g : Gathered bs at end all place) where
+  pub gathered-room : place < end → place + 16 ≤ end
+  gathered-room h = omega (arith, h, g .rows .end-is)
+
+  pub gathered-next : place < end → Bytes bs → Gathered bs at end (bitAnd all (eight bs (place + 4))) (place + 16)
+  gathered-next h b =
+      record {
+        arcs = g .arcs + 1;
+        there = omega (arith, g .there);
+        rows = record { many = g .rows .many - 1; end-is = omega (arith, h, g .rows .end-is) };
+        under = under-next (g .arcs) b (g .there) (g .under);
+      }
+
+  pub gathered-all : end ≤ place → None-under bs at all end
+  gathered-all h = record { leads = λ k l. g .under .leads k (omega (arith, h, l)) }

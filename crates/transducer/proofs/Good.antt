@@ -11,7 +11,7 @@ use Rattle.wire.proofs.Places.{every-getD}
 use Rattle.wire.proofs.Bool.{and-true, passed}
 use Rattle.transducer.specs.declared.Arc.{Arc}
 use Rattle.transducer.specs.declared.Final.{Final}
-use Rattle.transducer.specs.Format.{max-states, max-arcs, max-weight, barred}
+use Rattle.transducer.specs.Format.{max-states, max-arcs, barred}
 use Rattle.transducer.specs.Format.{Transducer, head-good, states-good, order-good, all-labels-good, weights-good, weight-good, labels-good, first-of, content-refusal, finals-rise, sources-stay}
 
 pub record Head-range (n m f s : ℕ) : Type 0 where
@@ -85,14 +85,16 @@ module _ (t : Transducer) (good : Content t) where
       (every-getD (λ a. labels-good (a .input) (a .output)) (t .arcs) i d (good .labels) l) in
       (ltb-true (a .input) barred (both .0), ltb-true (a .output) barred (both .1))
 
-  pub final-weight-most : (i : ℕ) (d : Final) → i < length (t .finals) → getD (t .finals) i d .weight ≤ max-weight
-  unfolding weights-good weight-good
-  final-weight-most i d l =
-      let all = and-true (every (λ f. weight-good (f .weight)) (t .finals)) (every (λ a. weight-good (a .weight)) (t .arcs)) (good .weights) in
-      leb-true (getD (t .finals) i d .weight) max-weight (every-getD (λ f. weight-good (f .weight)) (t .finals) i d (all .0) l)
+  pub finals-light : every (λ f. weight-good (f .weight)) (t .finals) ≡ true
+  unfolding weights-good
+  finals-light = and-true (every (λ f. weight-good (f .weight)) (t .finals)) (every (λ a. weight-good (a .weight)) (t .arcs)) (good .weights) .0
 
-  pub arc-weight-most : (i : ℕ) (d : Arc) → i < length (t .arcs) → getD (t .arcs) i d .weight ≤ max-weight
-  unfolding weights-good weight-good
-  arc-weight-most i d l =
-      let all = and-true (every (λ f. weight-good (f .weight)) (t .finals)) (every (λ a. weight-good (a .weight)) (t .arcs)) (good .weights) in
-      leb-true (getD (t .arcs) i d .weight) max-weight (every-getD (λ a. weight-good (a .weight)) (t .arcs) i d (all .1) l)
+  pub arcs-light : every (λ a. weight-good (a .weight)) (t .arcs) ≡ true
+  unfolding weights-good
+  arcs-light = and-true (every (λ f. weight-good (f .weight)) (t .finals)) (every (λ a. weight-good (a .weight)) (t .arcs)) (good .weights) .1
+
+  pub final-light : (i : ℕ) (d : Final) → i < length (t .finals) → weight-good (getD (t .finals) i d .weight) ≡ true
+  final-light i d l = every-getD (λ f. weight-good (f .weight)) (t .finals) i d finals-light l
+
+  pub arc-light : (i : ℕ) (d : Arc) → i < length (t .arcs) → weight-good (getD (t .arcs) i d .weight) ≡ true
+  arc-light i d l = every-getD (λ a. weight-good (a .weight)) (t .arcs) i d arcs-light l

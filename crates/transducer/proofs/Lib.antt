@@ -6,6 +6,7 @@ pub mod Good
 pub mod GoodParts
 pub mod Labels
 pub mod Checked
+pub mod Fields
 pub mod Glance
 -- Acceptance of bytes: which refusal it is, and what no refusal gives.
 pub mod Accept
@@ -32,3 +33,4 @@ pub mod Paths
 pub mod Runs
 pub mod Rings
 pub mod Weights
+pub mod Magnitudes

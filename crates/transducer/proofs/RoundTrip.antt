@@ -11,12 +11,15 @@ use mathlib.Core.List.{List, [], _∷_, _++_, append-assoc}
 use Prim.Native.Nat.{ℕ, _+_, _*_, _≤_, _<_}
 use native.Mathlib.Nat.{add-zero}
 use native.Mathlib.Omega.{arith}
-use borrow.Author.Tests.{ltb-true, leb-true, eq-eqb}
+use borrow.Author.Tests.{ltb-true, eq-eqb}
 use lib.Dec.{ltb, eqb}
 use lib.ListN.{length, drop}
 use lib.Seq.{drop-drop, drop-at}
-use Rattle.wire.specs.Bytes.{Bytes, two, four, low, places, every}
-use Rattle.wire.proofs.Low.{bytes-low, bytes-append, two-drop, four-drop, two-low-front, four-low-front}
+use mir.Syntax.{w32}
+use mir.Val.{SFits}
+use Rattle.wire.specs.Bytes.{Bytes, two, four, low, signed-four, signed-low, places, every}
+use Rattle.wire.proofs.Low.{bytes-low, bytes-append, two-drop, four-drop, two-low-front}
+use Rattle.wire.proofs.Signed.{bytes-signed-low, signed-four-drop, signed-low-front}
 use Rattle.wire.proofs.Places.{length-places}
 use Rattle.wire.proofs.Bool.{and-true, true-and}
 use Rattle.transducer.specs.declared.Arc.{Arc}
@@ -25,11 +28,13 @@ use Rattle.transducer.specs.Format.{Transducer, Good, max-bytes, final-a
 use Rattle.transducer.specs.Format.{states-good, order-good, all-labels-good, weights-good, head-states, head-arcs, head-finals, head-start}
 use Rattle.transducer.specs.Encode.{encode, head-record, final-record, arc-record, final-records, arc-records, weight-bytes}
 use Rattle.transducer.specs.Check.{head-word, final-word, arc-word}
+use Rattle.transducer.specs.Weight.{Weight}
 use Rattle.transducer.proofs.Laid.{Laid, laid-decode}
 use Rattle.transducer.proofs.Encode.{length-final-records, length-encode}
 use Rattle.transducer.proofs.WriteBack.{encode-laid}
 use Rattle.transducer.proofs.Accept.{accepted-laid, accepted-head, accepted-content, laid-refusal, Content-range, content-range}
 use Rattle.transducer.proofs.Good.{Head-range, head-range, Content, content-good}
+use Rattle.transducer.proofs.Weights.{good-fits}
 
 -- What is written: each element is a byte
 
@@ -49,16 +54,20 @@ head-bytes : (n m f s : ℕ) → Byte-list (head-record n m f s)
 unfolding head-record
 head-bytes n m f s = joined (joined (joined (joined (joined (lowest 2 8) (lowest 2 1)) (lowest 2 n)) (lowest 2 m)) (lowest 2 f)) (lowest 2 s)
 
+weight-bytes-are : (w : Weight) → Byte-list (weight-bytes w)
+unfolding weight-bytes
+weight-bytes-are w = record { each = bytes-signed-low w }
+
 final-bytes : (f : Final) → Byte-list (final-record f)
-unfolding final-record weight-bytes
-final-bytes f = joined (joined (joined (lowest 2 6) (lowest 2 2)) (lowest 2 (f .state))) (lowest 4 (f .weight))
+unfolding final-record
+final-bytes f = joined (joined (joined (lowest 2 6) (lowest 2 2)) (lowest 2 (f .state))) (weight-bytes-are (f .weight))
 
 arc-bytes : (a : Arc) → Byte-list (arc-record a)
-unfolding arc-record weight-bytes
+unfolding arc-record
 arc-bytes a =
     let labels : Byte-list (low 2 12 ++ low 2 3 ++ low 2 (a .source) ++ low 2 (a .input) ++ low 2 (a .output)) =
     joined (joined (joined (joined (lowest 2 12) (lowest 2 3)) (lowest 2 (a .source))) (lowest 2 (a .input))) (lowest 2 (a .output)) in
-    joined (joined labels (lowest 2 (a .target))) (lowest 4 (a .weight))
+    joined (joined labels (lowest 2 (a .target))) (weight-bytes-are (a .weight))
 
 finals-bytes : (fs : List Final) → Byte-list (final-records fs)
 unfolding final-records
@@ -143,6 +152,10 @@ two-there bs xs at i e = sym (two-drop bs at i) ∙ ap (λ (l : List ℕ). two l
 four-there : (bs xs : List ℕ) (at i : ℕ) → drop at bs ≡ xs → four bs (at + i) ≡ four xs i
 four-there bs xs at i e = sym (four-drop bs at i) ∙ ap (λ (l : List ℕ). four l i) e
 
+pub weight-there : (bs xs : List ℕ) (at i : ℕ) → drop at bs ≡ xs → weight-at bs (at + i) ≡ weight-at xs i
+unfolding weight-at
+weight-there bs xs at i e = sym (signed-four-drop bs at i) ∙ ap (λ (l : List ℕ). signed-four l i) e
+
 word-there : (bs xs : List ℕ) (at : ℕ) → drop at bs ≡ xs → four bs at ≡ four xs 0
 word-there bs xs at e = ap (λ (k : ℕ). four bs k) (sym (add-zero at)) ∙ four-there bs xs at 0 e
 
@@ -152,68 +165,66 @@ next-there bs xs at k e = sym (drop-drop k at bs) ∙ ap (λ (l : List ℕ). dro
 -- Each number of a final and of an arc is below what its field holds.
 record Final-fits (f : Final) : Type 0 where
   state : f .state < 65536
-  weight : f .weight < 4294967296
+  weight : SFits w32 (f .weight)
 
 record Arc-fits (a : Arc) : Type 0 where
   source : a .source < 65536
   input : a .input < 65536
   output : a .output < 65536
   target : a .target < 65536
-  weight : a .weight < 4294967296
+  weight : SFits w32 (a .weight)
 
 final-fits : (n : ℕ) (f : Final) → n ≤ 1024 → ltb (f .state) n ≡ true → weight-good (f .weight) ≡ true → Final-fits f
-unfolding weight-good
-final-fits n f h s w = omega (arith, ltb-true (f .state) n s, leb-true (f .weight) 1000000 w)
+final-fits n f h s w = record { state = omega (arith, ltb-true (f .state) n s); weight = good-fits (f .weight) w }
 
 arc-fits : (n : ℕ) (a : Arc) → n ≤ 1024 → ltb (a .source) n && ltb (a .target) n ≡ true → labels-good (a .input) (a .output) ≡ true →
     weight-good (a .weight) ≡ true → Arc-fits a
-unfolding weight-good labels-good
+unfolding labels-good
 arc-fits n a h s l w =
     let states : (ltb (a .source) n ≡ true) × (ltb (a .target) n ≡ true) = and-true _ _ s in
     let labels : (ltb (a .input) 65535 ≡ true) × (ltb (a .output) 65535 ≡ true) = and-true _ _ l in
-    omega (
-      arith,
-      ltb-true (a .source) n (states .0),
-      ltb-true (a .target) n (states .1),
-      ltb-true (a .input) 65535 (labels .0),
-      ltb-true (a .output) 65535 (labels .1),
-      leb-true (a .weight) 1000000 w,
-    )
+    record {
+      source = omega (arith, ltb-true (a .source) n (states .0));
+      input = omega (arith, ltb-true (a .input) 65535 (labels .0));
+      output = omega (arith, ltb-true (a .output) 65535 (labels .1));
+      target = omega (arith, ltb-true (a .target) n (states .1));
+      weight = good-fits (a .weight) w;
+    }
 
 -- One record that stands at a place: its word, what is read from it, and what stands behind it.
 module _ (bs rest : List ℕ) (at : ℕ) (f : Final) (here : drop at bs ≡ final-record f ++ rest) where
   final-word-there : four bs at ≡ final-word
-  unfolding final-record weight-bytes two four low
+  unfolding final-record two four low
   final-word-there = word-there bs (final-record f ++ rest) at here
 
   final-there : Final-fits f → final-at bs at ≡ f
-  unfolding final-at weight-at final-record weight-bytes two four low
+  unfolding final-at weight-at final-record weight-bytes signed-four signed-low two four low
   final-there fits =
       let state : two bs (at + 4) ≡ f .state = two-there bs (final-record f ++ rest) at 4 here ∙ two-low-front (f .state) [] (fits .state) in
-      let weight : four bs (at + 6) ≡ f .weight = four-there bs (final-record f ++ rest) at 6 here ∙ four-low-front (f .weight) [] (fits .weight) in
+      let weight : weight-at bs (at + 6) ≡ f .weight = weight-there bs (final-record f ++ rest) at 6 here ∙ signed-low-front (f .weight) [] (fits .weight) in
       λ i. record { state = state i; weight = weight i }
 
   final-next : drop (at + 10) bs ≡ rest
-  unfolding final-record weight-bytes low
+  unfolding final-record weight-bytes signed-low low
   final-next = next-there bs (final-record f ++ rest) at 10 here
 
 module _ (bs rest : List ℕ) (at : ℕ) (a : Arc) (here : drop at bs ≡ arc-record a ++ rest) where
   arc-word-there : four bs at ≡ arc-word
-  unfolding arc-record weight-bytes two four low
+  unfolding arc-record two four low
   arc-word-there = word-there bs (arc-record a ++ rest) at here
 
   arc-there : Arc-fits a → arc-at bs at ≡ a
-  unfolding arc-at weight-at arc-record weight-bytes two four low
+  unfolding arc-at weight-at arc-record weight-bytes signed-four signed-low two four low
   arc-there fits =
       let source : two bs (at + 4) ≡ a .source = two-there bs (arc-record a ++ rest) at 4 here ∙ two-low-front (a .source) [] (fits .source) in
       let input : two bs (at + 6) ≡ a .input = two-there bs (arc-record a ++ rest) at 6 here ∙ two-low-front (a .input) [] (fits .input) in
       let output : two bs (at + 8) ≡ a .output = two-there bs (arc-record a ++ rest) at 8 here ∙ two-low-front (a .output) [] (fits .output) in
       let target : two bs (at + 10) ≡ a .target = two-there bs (arc-record a ++ rest) at 10 here ∙ two-low-front (a .target) [] (fits .target) in
-      let weight : four bs (at + 12) ≡ a .weight = four-there bs (arc-record a ++ rest) at 12 here ∙ four-low-front (a .weight) [] (fits .weight) in
+      let weight : weight-at bs (at + 12) ≡ a .weight = weight-there bs (arc-record a ++ rest) at 12 here ∙ signed-low-front (a .weight) [] (fits .weight) in
       λ k. record { source = source k; input = input k; output = output k; target = target k; weight = weight k }
 
   arc-next : drop (at + 16) bs ≡ rest
-  unfolding arc-record weight-bytes low
+  unfolding arc-record weight-bytes signed-low low
   arc-next = next-there bs (arc-record a ++ rest) at 16 here
 
 -- All finals, and all arcs, that stand from a place on.

@@ -7,12 +7,19 @@ use native.Mathlib.Omega.{arith}
 use lib.Dec.{eqb}
 use lib.ListN.{length}
 use Rattle.wire.specs.Bytes.{Bytes, four, places, every}
-use Rattle.wire.proofs.Bool.{and-true, true-and}
-use Rattle.transducer.specs.Format.{decode, head-states, head-arcs, head-finals, head-start, head-good, first-of, refusal}
-use Rattle.transducer.specs.Check.{head-word, final-word, arc-word, all-checked, walked}
+use Rattle.wire.proofs.Bool.{and-true, true-and, clash}
+use Rattle.transducer.specs.declared.Arc.{Arc}
+use Rattle.transducer.specs.declared.Looked.{Looked}
+use Rattle.transducer.specs.Format.{decode, head-states, head-arcs, head-finals, head-start, head-good, first-of, refusal, arcs-at, arc-bytes, arc-at}
+use Rattle.transducer.specs.Format.{min-weight, weight-good}
+use Rattle.transducer.specs.Path.{arc}
+use Rattle.transducer.specs.Check.{head-word, final-word, arc-word, all-checked, walked, None-below, Each-up}
+use Rattle.transducer.specs.Leaf.{Looked-says}
 use Rattle.transducer.proofs.Laid.{Laid, laid-decode}
-use Rattle.transducer.proofs.Accept.{refused-early, laid-refusal}
+use Rattle.transducer.proofs.Accept.{refused-early, laid-refusal, bounds}
 use Rattle.transducer.proofs.Checked.{all-checked-heads, all-checked-content}
+use Rattle.transducer.proofs.Glance.{none-below-good}
+use Rattle.transducer.proofs.Offsets.{arc-offset}
 
 pub refused-short : (bs : List ℕ) → Bytes bs → length bs < 12 → refusal bs ≡ walked bs
 refused-short bs b h = refused-early b (λ l. omega (arith, l .long))
@@ -55,3 +62,26 @@ refusal-checked bs b word good long heads =
     all-checked-content bs n m f t (ap (λ (d : _). d .states) (laid-decode b l)) (ap (λ (d : _). d .finals) (laid-decode b l))
     (ap (λ (d : _). d .arcs) (laid-decode b l))
     ∙ sym (laid-refusal b l good)
+
+-- What a look tells beside the refusal: no arc of accepted bytes weighs less than a weight that none of their good arcs is below, and each leads up where
+-- each record says so.
+pub looked-light : (bs : List ℕ) → Bytes bs → (r : Looked) → r .refusal ≡ refusal bs → None-below bs (arcs-at (head-finals bs)) (head-arcs bs) (r .least) →
+    (r .up ≡ true → Each-up bs (arcs-at (head-finals bs)) (head-arcs bs)) → Looked-says bs r
+looked-light bs b r e below up =
+    record {
+      refusal-is = e;
+      light = λ h i l.
+          let k = bounds b h in
+          let same : arc (decode bs) i ≡ arc-at bs (arcs-at (head-finals bs) + arc-bytes * i) = arc-offset bs b h i l in
+          let within : i < head-arcs bs = omega (arith, l, k .arcs-long) in
+          let good : weight-good (arc-at bs (arcs-at (head-finals bs) + arc-bytes * i) .weight) ≡ true =
+          ap (λ (a : Arc). weight-good (a .weight)) (sym same) ∙ k .weight i within in
+          rw same (below .light i within good);
+      rises = λ h u i l.
+          let same : arc (decode bs) i ≡ arc-at bs (arcs-at (head-finals bs) + arc-bytes * i) = arc-offset bs b h i l in
+          rw same (up u .rises i (omega (arith, l, bounds b h .arcs-long)));
+    }
+
+pub looked-misplaced : (bs : List ℕ) → Bytes bs → (r : Looked) → r .refusal ≡ refusal bs → r .least ≡ min-weight → r .up ≡ false → Looked-says bs r
+looked-misplaced bs b r e f not-up =
+    looked-light bs b r e (rw f (none-below-good bs (arcs-at (head-finals bs)) (head-arcs bs))) (λ u. clash u not-up)

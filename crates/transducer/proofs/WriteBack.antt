@@ -11,7 +11,8 @@ use lib.Dec.{eqb}
 use lib.ListN.{length, drop}
 use lib.Seq.{drop-length}
 use Rattle.wire.specs.Bytes.{Bytes, two, four, low, places, every}
-use Rattle.wire.proofs.Low.{low-two-drop, low-four-drop, four-halves}
+use Rattle.wire.proofs.Low.{low-two-drop, four-halves}
+use Rattle.wire.proofs.Signed.{signed-low-four-drop}
 use Rattle.wire.proofs.Places.{length-places}
 use Rattle.wire.proofs.Bool.{and-true}
 use Rattle.transducer.specs.Format.{final-at, arc-at, weight-at, head-states, head-arcs, head-finals, head-start}
@@ -19,7 +20,7 @@ use Rattle.transducer.specs.Encode.{encode, head-record, final-record, a
 use Rattle.transducer.specs.Check.{head-word, final-word, arc-word}
 use Rattle.transducer.proofs.Laid.{Laid}
 
--- The first four bytes of a record, then two bytes or four more, put in front of what stands behind them.
+-- The first four bytes of a record, then two bytes more or a weight, put in front of what stands behind them.
 word-back : (bs : List ℕ) (at size kind : ℕ) → Bytes bs → size < 65536 → four bs at ≡ size + 65536 * kind → at + 4 ≤ length bs →
     low 2 size ++ (low 2 kind ++ drop (at + 4) bs) ≡ drop at bs
 word-back bs at size kind h s e l =
@@ -30,8 +31,9 @@ word-back bs at size kind h s e l =
 two-back : (bs : List ℕ) (at next : ℕ) → Bytes bs → next ≡ at + 2 → next ≤ length bs → low 2 (two bs at) ++ drop next bs ≡ drop at bs
 two-back bs at next h e l = rw e (low-two-drop bs at h (omega arith))
 
-four-back : (bs : List ℕ) (at next : ℕ) → Bytes bs → next ≡ at + 4 → next ≤ length bs → low 4 (four bs at) ++ drop next bs ≡ drop at bs
-four-back bs at next h e l = rw e (low-four-drop bs at h (omega arith))
+weight-back : (bs : List ℕ) (at next : ℕ) → Bytes bs → next ≡ at + 4 → next ≤ length bs → weight-bytes (weight-at bs at) ++ drop next bs ≡ drop at bs
+unfolding weight-at weight-bytes
+weight-back bs at next h e l = rw e (signed-low-four-drop bs at h (omega arith))
 
 head-back : (bs : List ℕ) → Bytes bs → 12 ≤ length bs → four bs 0 ≡ head-word →
     head-record (head-states bs) (head-arcs bs) (head-finals bs) (head-start bs) ++ drop 12 bs ≡ bs
@@ -47,21 +49,21 @@ head-back bs h l e =
 
 final-back : (bs : List ℕ) (at : ℕ) → Bytes bs → at + 10 ≤ length bs → four bs at ≡ final-word →
     final-record (final-at bs at) ++ drop (at + 10) bs ≡ drop at bs
-unfolding final-record final-at weight-at weight-bytes
+unfolding final-record final-at
 final-back bs at h l e =
     simp append-assoc
     (rw (
-      four-back bs (at + 6) (at + 10) h (omega arith) l,
+      weight-back bs (at + 6) (at + 10) h (omega arith) l,
       two-back bs (at + 4) (at + 6) h (omega arith) (omega arith),
     ) (word-back bs at 6 2 h (omega arith) e (omega arith)))
 
 arc-back : (bs : List ℕ) (at : ℕ) → Bytes bs → at + 16 ≤ length bs → four bs at ≡ arc-word →
     arc-record (arc-at bs at) ++ drop (at + 16) bs ≡ drop at bs
-unfolding arc-record arc-at weight-at weight-bytes
+unfolding arc-record arc-at
 arc-back bs at h l e =
     simp append-assoc
     (rw (
-      four-back bs (at + 12) (at + 16) h (omega arith) l,
+      weight-back bs (at + 12) (at + 16) h (omega arith) l,
       two-back bs (at + 10) (at + 12) h (omega arith) (omega arith),
       two-back bs (at + 8) (at + 10) h (omega arith) (omega arith),
       two-back bs (at + 6) (at + 8) h (omega arith) (omega arith),

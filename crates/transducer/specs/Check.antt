@@ -2,15 +2,17 @@
 use mathlib.Core.Path.{_≡_}
 use mathlib.Core.Bool.{Bool, true, false, _&&_, not, cond}
 use mathlib.Core.List.{List, [], _∷_}
-use Prim.Native.Nat.{ℕ, zero, suc, _+_, _*_, _/_, _%_, _≤_}
-use Rattle.wire.specs.Bytes.{four}
+use Prim.Native.Nat.{ℕ, zero, suc, _+_, _*_, _/_, _%_, _≤_, _<_}
 use lib.Dec.{ltb, leb, eqb}
 use lib.ListN.{getD}
+use Rattle.wire.specs.Bytes.{four}
 use Rattle.transducer.specs.declared.Arc.{Arc}
 use Rattle.transducer.specs.declared.Final.{Final}
 use Rattle.transducer.specs.declared.Checks.{Checks}
+use Rattle.transducer.specs.declared.check.Glance.{Glance}
 use Rattle.transducer.specs.Format.{head-bytes, final-bytes, arc-bytes, arcs-at, weight-good, labels-good, final-at, arc-at, framed, kinds-good, records}
 use Rattle.transducer.specs.Format.{head-good, head-states, head-arcs, head-finals, head-start}
+use Rattle.transducer.specs.Weight.{Weight, At-most}
 
 -- Length and kind of a final's and of an arc's record, as one number of four bytes.
 abbrev pub head-word : ℕ
@@ -68,10 +70,62 @@ unfoldable pub with-floor : ℕ → Checks → Checks
 with-floor floor c =
     record { heads = c .heads; states = c .states; order = c .order; labels = c .labels; weights = c .weights; floor = floor }
 
--- Labels and weights up to these are good; the bound of inputs is the low half of `labels`, that of outputs the high half.
-pub record Good-up-to (labels weights : ℕ) : Type 0 where
-  pub labels-are : (input output : ℕ) → input ≤ labels % 65536 → output ≤ labels / 65536 → labels-good input output ≡ true
-  pub weights-are : (weight : ℕ) → weight ≤ weights → weight-good weight ≡ true
+-- Source, input, output and target of an arc whose fields begin at a place, as one number of eight bytes; and its upper three fields.
+unfoldable pub eight : List ℕ → (at : ℕ) → ℕ
+eight bs at = four bs at + 4294967296 * four bs (at + 4)
+
+abbrev pub input-of : ℕ → ℕ
+input-of fields = fields / 65536 % 65536
+
+abbrev pub output-of : ℕ → ℕ
+output-of fields = fields / 4294967296 % 65536
+
+abbrev pub target-of : ℕ → ℕ
+target-of fields = fields / 281474976710656
+
+-- Labels up to those of `any` are good; and unless each target was tested, the target of `any` is a state.
+pub record Good-up-to (any : ℕ) : Type 0 where
+  pub labels-are : (input output : ℕ) → input ≤ input-of any → output ≤ output-of any → labels-good input output ≡ true
+
+pub record Good-fields (any n : ℕ) (each : Bool) : Type 0 where
+  pub labels : Good-up-to any
+  pub targets : each ≡ false → target-of any < n
+
+-- The records of arcs from one place to another.
+pub record Rows (from end : ℕ) : Type 0 where
+  pub many : ℕ
+  pub end-is : end ≡ from + arc-bytes * many
+
+-- No arc from `at` up to `end` leads to a state below the target of `all`.
+pub record None-under (bs : List ℕ) (at all end : ℕ) : Type 0 where
+  pub leads : (k : ℕ) → at + arc-bytes * k < end → target-of all ≤ arc-at bs (at + arc-bytes * k) .target
+
+-- How far a good weight is below zero at most.
+abbrev pub most-below : ℕ
+most-below = 1000000
+
+-- A weight is neither below the one nor above the other.
+pub record Between (low weight high : Weight) : Type 0 where
+  pub not-below : At-most low weight
+  pub not-above : At-most weight high
+
+-- What is seen of the arcs up to a place, of `count` from `at` on: if the last source is a state and the gathered fields are good, then each passes each
+-- test. No weight is below `least`, no source is above the last, and no target is below that of `all`.
+pub record Glanced (bs : List ℕ) (at count n : ℕ) (each : Bool) (floor last any all : ℕ) (least : Weight) (place : ℕ) : Type 0 where
+  pub arcs : ℕ
+  pub within : arcs ≤ count
+  pub there : place ≡ at + arc-bytes * arcs
+  pub passing : last < n → Good-fields any n each → (c : Checks) → c .floor ≡ floor →
+      arcs-checked arcs at arc-bytes n (four bs) (arc-at bs) c ≡ with-floor last c
+  pub light : (k : ℕ) → k < arcs → At-most least (arc-at bs (at + arc-bytes * k) .weight)
+  pub steps : (k : ℕ) → k < arcs → arc-at bs (at + arc-bytes * k) .source ≤ last
+  pub under : None-under bs at all place
+
+-- A run from one place to another: whatever was known of the arcs before it goes on.
+abbrev pub Goes-on : (bs : List ℕ) (from end n : ℕ) (each : Bool) (last any all : ℕ) (least : Weight) (before most lowest place : ℕ) → Type 0
+Goes-on bs from end n each last any all least before most lowest place =
+    (at count floor : ℕ) → end ≡ at + arc-bytes * count → Glanced bs at count n each floor last any all least from →
+    Glanced bs at count n each floor before most lowest least place
 
 -- What a glance at arcs answers: `unsure`, or the source of the last where each passes each test, the floor where there are none.
 abbrev pub unsure : ℕ
@@ -79,6 +133,19 @@ unsure = 4294967295
 
 pub record Plain (bs : List ℕ) (at count n floor r : ℕ) : Type 0 where
   pub all-pass : (r ≡ unsure → ⊥) → (c : Checks) → c .floor ≡ floor → arcs-checked count at arc-bytes n (four bs) (arc-at bs) c ≡ with-floor r c
+
+-- No good weight of `count` arcs from `at` on is below `least`.
+pub record None-below (bs : List ℕ) (at count : ℕ) (least : Weight) : Type 0 where
+  pub light : (k : ℕ) → k < count → weight-good (arc-at bs (at + arc-bytes * k) .weight) ≡ true → At-most least (arc-at bs (at + arc-bytes * k) .weight)
+
+-- Each of `count` arcs from `at` on leads to a higher state.
+pub record Each-up (bs : List ℕ) (at count : ℕ) : Type 0 where
+  pub rises : (k : ℕ) → k < count → arc-at bs (at + arc-bytes * k) .source < arc-at bs (at + arc-bytes * k) .target
+
+pub record Glance-says (bs : List ℕ) (at count n floor : ℕ) (g : Glance) : Type 0 where
+  pub plain : Plain bs at count n floor (g .last)
+  pub light : None-below bs at count (g .least)
+  pub up : g .up ≡ true → Each-up bs at count
 
 -- The tests of all records, at the places that f finals and m arcs give.
 unfoldable pub all-checked : List ℕ → (n m f : ℕ) → Checks

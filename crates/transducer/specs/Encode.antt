@@ -2,14 +2,15 @@
 use mathlib.Core.List.{List, [], _∷_, _++_}
 use Prim.Native.Nat.{ℕ}
 use lib.ListN.{length}
-use Rattle.wire.specs.Bytes.{low}
+use Rattle.wire.specs.Bytes.{low, signed-low}
 use Rattle.transducer.specs.declared.Arc.{Arc}
 use Rattle.transducer.specs.declared.Final.{Final}
 use Rattle.transducer.specs.Format.{Transducer}
+use Rattle.transducer.specs.Weight.{Weight}
 
 -- The bytes of a weight.
-unfoldable pub weight-bytes : ℕ → List ℕ
-weight-bytes w = low 4 w
+unfoldable pub weight-bytes : Weight → List ℕ
+weight-bytes w = signed-low w
 
 unfoldable pub head-record : (states arcs finals start : ℕ) → List ℕ
 head-record n m f s = low 2 8 ++ low 2 1 ++ low 2 n ++ low 2 m ++ low 2 f ++ low 2 s

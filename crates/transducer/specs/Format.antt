@@ -5,12 +5,13 @@ use mathlib.Core.List.{List, [], _∷_}
 use Prim.Native.Nat.{ℕ, zero, suc, _+_, _*_}
 use lib.Dec.{ltb, leb, eqb}
 use lib.ListN.{length}
-use Rattle.wire.specs.Bytes.{two, four, every}
-pub use Rattle.bounds.specs.Bounds.{max-states, max-arcs, index-long, max-weight, barred, max-symbols, max-path, max-count, max-fields, max-origins}
-pub use Rattle.bounds.specs.Bounds.{head-bytes, final-bytes, arc-bytes, arcs-at, max-bytes}
+use Rattle.wire.specs.Bytes.{two, signed-four, every}
+pub use Rattle.bounds.specs.Bounds.{max-states, max-arcs, index-long, max-weight, min-weight, barred, max-symbols, max-path, max-count, max-fields}
+pub use Rattle.bounds.specs.Bounds.{max-origins, head-bytes, final-bytes, arc-bytes, arcs-at, max-bytes}
 unfoldable pub use Rattle.bounds.specs.Bounds.{head-good, labels-good, weight-good, first-of}
 use Rattle.transducer.specs.declared.Arc.{Arc}
 use Rattle.transducer.specs.declared.Final.{Final}
+use Rattle.transducer.specs.Weight.{Weight}
 
 -- A weighted transducer (paper 01: a table). An arc's number is its place in `arcs`.
 pub record Transducer : Type 0 where
@@ -60,9 +61,9 @@ unfoldable pub kinds-good : List Record → Bool
 kinds-good [] = false
 kinds-good (r ∷ rs) = (eqb (r .kind) 1 && eqb (r .size) 8) && in-order false rs
 
--- The weight in four bytes.
-unfoldable pub weight-at : List ℕ → (at : ℕ) → ℕ
-weight-at bs at = four bs at
+-- The weight in four bytes, two's complement.
+unfoldable pub weight-at : List ℕ → (at : ℕ) → Weight
+weight-at bs at = signed-four bs at
 
 -- The final and the arc whose record begins at a place.
 unfoldable pub final-at : List ℕ → (at : ℕ) → Final

@@ -8,8 +8,10 @@ use lib.ListN.{length, getD}
 use Rattle.transducer.specs.declared.Arc.{Arc}
 use Rattle.transducer.specs.declared.Final.{Final}
 use Rattle.transducer.specs.declared.Header.{Header}
+use Rattle.transducer.specs.declared.Looked.{Looked}
 use Rattle.transducer.specs.Format.{Transducer, max-states, arcs-at, decode, refusal, head-states, head-arcs, head-finals, head-start}
-use Rattle.transducer.specs.Path.{is-final, final-weight}
+use Rattle.transducer.specs.Path.{arc, is-final, final-weight}
+use Rattle.transducer.specs.Weight.{At-most, code-of}
 
 -- The head's four numbers, as an answer that is no refusal.
 unfoldable pub header-of : List ℕ → Header
@@ -20,6 +22,13 @@ header-of bs =
 pub record Opened (bs : List ℕ) (first : ℕ) : Type 0 where
   pub accepted : refusal bs ≡ 0
   pub first-is : first ≡ arcs-at (head-finals bs)
+
+-- What a look at bytes tells: the refusal or 0, and where they are accepted a weight that none of the arcs is below; `up` only where each arc leads to a
+-- higher state.
+pub record Looked-says (bs : List ℕ) (r : Looked) : Type 0 where
+  pub refusal-is : r .refusal ≡ refusal bs
+  pub light : refusal bs ≡ 0 → (i : ℕ) → i < length (decode bs .arcs) → At-most (r .least) (arc (decode bs) i .weight)
+  pub rises : refusal bs ≡ 0 → r .up ≡ true → (i : ℕ) → i < length (decode bs .arcs) → arc (decode bs) i .source < arc (decode bs) i .target
 
 -- How many arcs leave states below s. Sources never fall, so the arcs of s are those numbered from here to below the same of s + 1.
 unfoldable pub arcs-below : (s : ℕ) → List Arc → ℕ
@@ -37,11 +46,16 @@ pub record Indexed (t : Transducer) (index : List ℕ) : Type 0 where
   pub long : length index ≡ max-states + 1
   pub at-state : (s : ℕ) → s ≤ t .states → getD index s 0 ≡ arcs-below s (t .arcs)
 
--- A state's final weight and one more; 0 where it is not final.
+-- The code of a state's final weight; 0 where it is not final.
 unfoldable pub final-code : List Final → (s : ℕ) → ℕ
-final-code fs s = cond (is-final fs s) (final-weight fs s + 1) 0
+final-code fs s = cond (is-final fs s) (code-of (final-weight fs s)) 0
+
+-- The code of the largest weight.
+abbrev pub max-code : ℕ
+max-code = 2000001
 
 -- The final codes of the states by number.
 pub record Finals-by-state (t : Transducer) (codes : List ℕ) : Type 0 where
   pub long : length codes ≡ max-states
   pub at-state : (s : ℕ) → s < max-states → getD codes s 0 ≡ final-code (t .finals) s
+  pub small : (s : ℕ) → s < max-states → getD codes s 0 ≤ max-code

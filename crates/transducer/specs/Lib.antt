@@ -1,3 +1,4 @@
+pub mod Weight
 pub mod Format
 pub mod Encode
 pub mod Path
@@ -6,4 +7,3 @@ pub mod Check
 pub mod Leaf
 pub mod Prepare
 pub mod Entry
-pub mod Weight

@@ -7,19 +7,19 @@ use lib.ListN.{length, getD}
 use Rattle.transducer.specs.declared.Arc.{Arc}
 use Rattle.transducer.specs.declared.Final.{Final}
 use Rattle.transducer.specs.Format.{Transducer}
-use Rattle.transducer.specs.Weight.{no-weight, plus}
+use Rattle.transducer.specs.Weight.{Weight, no-weight, plus}
 
 -- Whether a state is final, and its final weight (0 where it is not).
 unfoldable pub is-final : List Final → (s : ℕ) → Bool
 is-final [] s = false
 is-final (f ∷ fs) s = eqb (f .state) s || is-final fs s
 
-unfoldable pub final-weight : List Final → (s : ℕ) → ℕ
-final-weight [] s = 0
+unfoldable pub final-weight : List Final → (s : ℕ) → Weight
+final-weight [] s = no-weight
 final-weight (f ∷ fs) s = cond (eqb (f .state) s) (f .weight) (final-weight fs s)
 
 abbrev pub no-arc : Arc
-no-arc = record { source = 0; input = 0; output = 0; target = 0; weight = 0 }
+no-arc = record { source = 0; input = 0; output = 0; target = 0; weight = no-weight }
 
 -- The arc of a number.
 unfoldable pub arc : Transducer → (i : ℕ) → Arc
@@ -53,9 +53,9 @@ written-by t [] = []
 written-by t (i ∷ is) = non-empty (arc t i .output) (written-by t is)
 
 -- A path's cost: its arcs, and the final weight of the state where it ends.
-unfoldable pub arcs-cost : Transducer → (path : List ℕ) → ℕ
+unfoldable pub arcs-cost : Transducer → (path : List ℕ) → Weight
 arcs-cost t [] = no-weight
 arcs-cost t (i ∷ is) = plus (arc t i .weight) (arcs-cost t is)
 
-unfoldable pub path-cost : Transducer → (path : List ℕ) → ℕ
+unfoldable pub path-cost : Transducer → (path : List ℕ) → Weight
 path-cost t p = plus (arcs-cost t p) (final-weight (t .finals) (ends t (t .start) p))

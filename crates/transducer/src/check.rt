@@ -1,17 +1,24 @@
 // Refusals 5 to 8 gathered in one pass over the records.
 ghost use mathlib.Core.Path.{_≡_};
-ghost use mathlib.Core.Bool.{true};
+ghost use mathlib.Core.Bool.{true, false};
 ghost use Prim.Native.Nat.{ℕ, _+_, _*_, _≤_, _<_};
 ghost use lib.ListN.{length};
+ghost use mir.Syntax.{w32};
+ghost use mir.Val.{toZ};
 ghost use Rattle.wire.specs.Bytes.{four};
-ghost use Rattle.transducer.specs.Format.{final-bytes, arc-bytes, final-at, arc-at, first-of};
-ghost use Rattle.transducer.specs.Check.{final-checked, arc-checked, finals-checked, arcs-checked, from-0, final-word, arc-word, Good-up-to, Plain};
+ghost use Rattle.transducer.specs.Format.{final-bytes, arc-bytes, final-at, arc-at, first-of, min-weight, max-weight};
+ghost use Rattle.transducer.specs.Check.{final-checked, arc-checked, finals-checked, arcs-checked, from-0, final-word, arc-word, unsure};
+ghost use Rattle.transducer.specs.Check.{most-below, eight, Good-up-to, Good-fields, Plain, Rows, None-under, Between, Goes-on, Glance-says};
+ghost use Rattle.transducer.specs.Weight.{rebate};
 use crate::Arc;
 use crate::Checks;
 use crate::Final;
 
 // No source: a closer look is needed.
 const UNSURE: u32 = 4294967295;
+
+// What is gathered by `&` begins with this.
+const ALL_ONES: u64 = 18446744073709551615;
 
 // Length and kind of a head's, a final's and an arc's record, as one number of four bytes.
 pub const HEAD_WORD: u32 = 65544;
@@ -79,7 +86,7 @@ pub fn load_final(bytes: &[u8], at: usize) -> Final
 {
     Final {
         state: wire::u16_at(bytes, at + 4),
-        weight: wire::u32_at(bytes, at + 6),
+        weight: wire::i32_at(bytes, at + 6),
     }
 }
 
@@ -93,7 +100,7 @@ pub fn load_arc(bytes: &[u8], at: usize) -> Arc
         input: wire::u16_at(bytes, at + 6),
         output: wire::u16_at(bytes, at + 8),
         target: wire::u16_at(bytes, at + 10),
-        weight: wire::u32_at(bytes, at + 12),
+        weight: wire::i32_at(bytes, at + 12),
     }
 }
 
@@ -118,12 +125,11 @@ pub fn check_finals(bytes: &[u8], at: usize, count: usize, n: u32, c: Checks) ->
     checks
 }
 
-// The tests of `count` arcs whose records begin at `at`.
-pub fn check_arcs(bytes: &[u8], at: usize, count: usize, n: u32, c: Checks) -> Checks
-    requires { ⌜ at + arc-bytes * count ≤ length (now bytes) ⌝ }
+// The tests of `count` arcs whose records begin at `at`, with what a glance told of them.
+pub fn check_arcs(bytes: &[u8], at: usize, count: usize, n: u32, c: Checks, last: u32) -> Checks
+    requires { ⌜ (at + arc-bytes * count ≤ length (now bytes)) × Plain (now bytes) at count n (c .floor) last ⌝ }
     ensures { λ r. ⌜ r ≡ arcs-checked count at arc-bytes n (four (now (bytes .entry))) (arc-at (now (bytes .entry))) c ⌝ }
 {
-    let last = plain_arcs(bytes, at, count, n, c.floor);
     if last == UNSURE {
         return check_each_arc(bytes, at, count, n, c);
     }
@@ -137,54 +143,208 @@ pub fn check_arcs(bytes: &[u8], at: usize, count: usize, n: u32, c: Checks) -> C
     }
 }
 
-// The source of the last of these arcs, `floor` where there are none, if it is seen at a glance that each passes each test; else UNSURE.
-// Labels and weights are gathered by `|`, which is never below any of them.
-fn plain_arcs(bytes: &[u8], at: usize, count: usize, n: u32, floor: u32) -> u32
-    requires { ⌜ at + arc-bytes * count ≤ length (now bytes) ⌝ }
-    ensures { λ r. ⌜ Plain (now (bytes .entry)) at count n floor r ⌝ }
-{
-    let mut last = floor;
-    let mut labels = 0;
-    let mut weights = 0;
-    let mut place = at;
-    let mut i = 0;
-    while i < count {
-        if wire::u32_at(bytes, place) != ARC_WORD {
-            return UNSURE;
-        }
-        let source = wire::u16_at(bytes, place + 4) as u32;
-        if source < last {
-            return UNSURE;
-        }
-        if n <= wire::u16_at(bytes, place + 10) as u32 {
-            return UNSURE;
-        }
-        last = source;
-        labels = labels | wire::u32_at(bytes, place + 6);
-        weights = weights | wire::u32_at(bytes, place + 12);
-        place += bounds::ARC_BYTES;
-        i += 1;
-    }
-    if n <= last {
-        return UNSURE;
-    }
-    if !at_a_glance(labels, weights) {
-        return UNSURE;
-    }
-    last
+// What a glance at arcs tells: the source of the last, or UNSURE; a weight that none is below; and `up` only where each leads to a higher state, which is
+// told only where a weight is below zero.
+pub struct Glance {
+    pub last: u32,
+    pub least: i32,
+    pub up: bool,
 }
 
-// If true, all labels and weights up to these are good; inputs are in the low half of `labels`, outputs in the high half.
-fn at_a_glance(labels: u32, weights: u32) -> bool
-    ensures { λ r. ⌜ (r ≡ true → Good-up-to labels weights) ⌝ }
+// No arc is known to pass; no good weight is below this one.
+fn not_sure() -> Glance
+    ensures { λ r. ⌜ (r .last ≡ unsure) × (r .least ≡ min-weight) × (r .up ≡ false) ⌝ }
 {
-    if bounds::BARRED as u32 <= labels & 65535 {
+    Glance {
+        last: UNSURE,
+        least: bounds::MIN_WEIGHT,
+        up: false,
+    }
+}
+
+// The source of the last of these arcs, `floor` where there are none, if it is seen at a glance that each passes each test; else UNSURE.
+// Most often no weight is below zero. Else the run of arcs goes on with the weight that ended it, as long as that is lower than before.
+// Where the number of states is a power of two, targets gathered by `|` tell as much as each by itself, so none is tested alone. What the first run gathers
+// by `&` is not used, so that it costs nothing where no weight is below zero.
+pub fn glance_at(bytes: &[u8], at: usize, count: usize, n: u32, floor: u32) -> Glance
+    requires { ⌜ at + arc-bytes * count ≤ length (now bytes) ⌝ }
+    ensures { λ r. ⌜ Glance-says (now (bytes .entry)) at count n floor r ⌝ }
+{
+    let end = at + bounds::ARC_BYTES * count;
+    let each = n & std::num::wrapping_sub_u32(n, 1) != 0;
+    let rising = run_on(bytes, at, end, n, each, floor, 0, ALL_ONES, 0);
+    let mut place = rising.place;
+    let mut last = rising.last;
+    let mut any = rising.any;
+    let mut all = lowest_before(bytes, at, place, end);
+    let mut below = 0;
+    while place < end {
+        // How far the weight is below zero; too much where it is above.
+        let lower = std::num::wrapping_sub_u32(0, wire::u32_at(bytes, place + 12));
+        if lower <= below {
+            return not_sure();
+        }
+        if lower > bounds::MAX_WEIGHT as u32 {
+            return not_sure();
+        }
+        below = lower;
+        let next = run_on(bytes, place, end, n, each, last, any, all, below);
+        place = next.place;
+        last = next.last;
+        any = next.any;
+        all = next.all;
+    }
+    if n <= last {
+        return not_sure();
+    }
+    if !good_at_a_glance(any, n, each) {
+        return Glance {
+            last: UNSURE,
+            least: minus(below),
+            up: false,
+        };
+    }
+    Glance {
+        last,
+        least: minus(below),
+        up: wide64(last) < all >> 48,
+    }
+}
+
+// The weight that is so much below zero.
+fn minus(below: u32) -> i32
+    requires { ⌜ below ≤ most-below ⌝ }
+    ensures { λ r. ⌜ r ≡ rebate below ⌝ }
+{
+    0 - below as i32
+}
+
+// Whether these are the bits of a weight that is at most so much below zero, and not too high. One comparison, as it is made at each arc.
+fn weight_in(bits: u32, below: u32) -> bool
+    requires { ⌜ below ≤ most-below ⌝ }
+    ensures { λ r. ⌜ (r ≡ true → Between (rebate below) (toZ w32 bits) max-weight) ⌝ }
+{
+    std::num::wrapping_add_u32(bits, below) <= bounds::MAX_WEIGHT as u32 + below
+}
+
+// This cast asks nothing of the slice that the number comes from.
+fn wide64(x: u32) -> u64
+    ensures { λ r. ⌜ r ≡ x ⌝ }
+{
+    x as u64
+}
+
+// Source, input, output and target of the arc whose fields begin at `at`, as one number of eight bytes.
+fn fields_at(bytes: &[u8], at: usize) -> u64
+    requires { ⌜ at + 8 ≤ length (now bytes) ⌝ }
+    ensures { λ r. ⌜ r ≡ eight (now (bytes .entry)) at ⌝ }
+{
+    wide64(wire::u32_at(bytes, at)) + 4294967296 * wide64(wire::u32_at(bytes, at + 4))
+}
+
+// The fields of the arcs from `at` up to `place`, gathered by `&`; 0, which is not above any, where all arcs were passed.
+fn lowest_before(bytes: &[u8], at: usize, place: usize, end: usize) -> u64
+    requires { ⌜ (end ≤ length (now bytes)) × Rows at place ⌝ }
+    ensures { λ r. ⌜ None-under (now (bytes .entry)) at r place ⌝ }
+{
+    if end <= place {
+        return 0;
+    }
+    lowest(bytes, at, place)
+}
+
+// The same of all arcs up to `end`.
+fn lowest(bytes: &[u8], at: usize, end: usize) -> u64
+    requires { ⌜ (end ≤ length (now bytes)) × Rows at end ⌝ }
+    ensures { λ r. ⌜ None-under (now (bytes .entry)) at r end ⌝ }
+{
+    let mut all = ALL_ONES;
+    let mut place = at;
+    while place < end {
+        all = all & fields_at(bytes, place + 4);
+        place += bounds::ARC_BYTES;
+    }
+    all
+}
+
+// Where a run of arcs ends that pass each test but that of what is gathered, the source of the last, and their fields gathered: by `|`, which is never below
+// any of them, and by `&`, which is never above.
+struct Run {
+    place: usize,
+    last: u32,
+    any: u64,
+    all: u64,
+}
+
+// The run of such arcs with no weight more than `below` below zero, from `from` on and up to `end`; `last`, `any` and `all` are those of the arcs before.
+// Targets are tested one by one only if `each`.
+fn run_on(
+    bytes: &[u8],
+    from: usize,
+    end: usize,
+    n: u32,
+    each: bool,
+    last: u32,
+    any: u64,
+    all: u64,
+    below: u32,
+) -> Run
+    requires { ⌜ (end ≤ length (now bytes)) × Rows from end × (below ≤ most-below) ⌝ }
+    ensures { λ r. ⌜ Goes-on (now (bytes .entry)) from end n each last any all (rebate below) (r .last) (r .any) (r .all) (r .place) ⌝ }
+{
+    let mut before = last;
+    let mut most = any;
+    let mut lowest = all;
+    let mut place = from;
+    while place < end {
+        if !weight_in(wire::u32_at(bytes, place + 12), below) {
+            break;
+        }
+        if each & (n <= wire::u16_at(bytes, place + 10) as u32) {
+            break;
+        }
+        if wire::u32_at(bytes, place) != ARC_WORD {
+            break;
+        }
+        let source = wire::u16_at(bytes, place + 4) as u32;
+        if source < before {
+            break;
+        }
+        let fields = fields_at(bytes, place + 4);
+        before = source;
+        most = most | fields;
+        lowest = lowest & fields;
+        place += bounds::ARC_BYTES;
+    }
+    Run {
+        place,
+        last: before,
+        any: most,
+        all: lowest,
+    }
+}
+
+// If true, all labels up to these are good, and unless each target was tested, all targets up to these are states.
+fn good_at_a_glance(any: u64, n: u32, each: bool) -> bool
+    ensures { λ r. ⌜ (r ≡ true → Good-fields any n each) ⌝ }
+{
+    if !labels_at_a_glance(any) {
         return false;
     }
-    if bounds::BARRED as u32 <= labels >> 16 {
+    if each {
+        return true;
+    }
+    any >> 48 < wide64(n)
+}
+
+// If true, all labels up to these are good.
+fn labels_at_a_glance(any: u64) -> bool
+    ensures { λ r. ⌜ (r ≡ true → Good-up-to any) ⌝ }
+{
+    if bounds::BARRED as u64 <= (any >> 16) & 65535 {
         return false;
     }
-    weights <= bounds::MAX_WEIGHT
+    (any >> 32) & 65535 < bounds::BARRED as u64
 }
 
 // The tests of these arcs, one by one.

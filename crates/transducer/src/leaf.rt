@@ -1,10 +1,12 @@
 // Arcs and finals read straight from accepted bytes, and two indexes by state.
 ghost use mathlib.Core.Path.{_≡_};
-ghost use Prim.Native.Nat.{ℕ, _+_, _*_, _≤_, _<_, max};
+ghost use mathlib.Core.Bool.{true};
+ghost use Prim.Native.Nat.{ℕ, _+_, _*_, _^_, _≤_, _<_, max};
 ghost use lib.ListN.{length, take, replicate};
-ghost use Rattle.transducer.specs.Format.{max-states, index-long, head-bytes, Transducer, refusal, decode, head-finals};
+ghost use Rattle.transducer.specs.Format.{max-states, index-long, head-bytes, Transducer, refusal, decode, head-finals, weight-good};
 ghost use Rattle.transducer.specs.Path.{arc};
-ghost use Rattle.transducer.specs.Leaf.{header-of, Opened, Marked, Indexed, Finals-by-state};
+ghost use Rattle.transducer.specs.Leaf.{header-of, Opened, Marked, Indexed, Finals-by-state, max-code};
+ghost use Rattle.transducer.specs.Weight.{magnitude, plus, code-of, weight-of};
 use crate::Arc;
 use crate::Header;
 use crate::check;
@@ -143,7 +145,30 @@ pub fn first_arcs_by_blocks(
     index
 }
 
-// Stores the final codes in an array of zeros: a state's final weight and one more, 0 where it is not final.
+// A cost with a weight more.
+pub fn plus(cost: i64, weight: i32) -> i64
+    requires { ⌜ magnitude cost ≤ 2 ^ 62 ⌝ }
+    ensures { λ r. ⌜ r ≡ plus cost weight ⌝ }
+{
+    cost + weight as i64
+}
+
+// The code of a weight, a number from 1 on, and the weight of a code.
+fn code_of(weight: i32) -> u32
+    requires { ⌜ weight-good weight ≡ true ⌝ }
+    ensures { λ r. ⌜ (r ≡ code-of weight) × (r ≤ max-code) ⌝ }
+{
+    (weight - bounds::MIN_WEIGHT) as u32 + 1
+}
+
+pub fn weight_of(code: u32) -> i32
+    requires { ⌜ (1 ≤ code) × (code ≤ max-code) ⌝ }
+    ensures { λ r. ⌜ (r ≡ weight-of code) × (weight-good r ≡ true) ⌝ }
+{
+    (code - 1) as i32 + bounds::MIN_WEIGHT
+}
+
+// Stores the final codes in an array of zeros: the code of a state's final weight, 0 where it is not final.
 pub fn put_codes(bytes: &[u8], finals: usize, codes: &mut [u32; bounds::MAX_STATES])
     requires { ⌜ (refusal (now bytes) ≡ 0) × (finals ≡ head-finals (now bytes)) × (now codes ≡ replicate max-states 0) ⌝ }
     ensures { λ _. ⌜ Finals-by-state (decode (now (bytes .entry))) (now (codes .exit)) ⌝ }
@@ -153,7 +178,7 @@ pub fn put_codes(bytes: &[u8], finals: usize, codes: &mut [u32; bounds::MAX_STAT
     while i < finals {
         let f = check::load_final(bytes, place);
         let state = f.state as usize;
-        codes[state] = f.weight + 1;
+        codes[state] = code_of(f.weight);
         place += bounds::FINAL_BYTES;
         i += 1;
     }

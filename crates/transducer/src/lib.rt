@@ -21,6 +21,7 @@ pub use bounds::MAX_PATH;
 pub use bounds::MAX_STATES;
 pub use bounds::MAX_SYMBOLS;
 pub use bounds::MAX_WEIGHT;
+pub use bounds::MIN_WEIGHT;
 pub use bounds::arcs_at;
 pub use bounds::head_ok;
 pub use bounds::weight_ok;
@@ -37,13 +38,16 @@ pub use leaf::final_codes;
 pub use leaf::first_arcs;
 pub use leaf::first_arcs_by_blocks;
 pub use leaf::header as head_of;
+pub use leaf::plus;
 pub use leaf::put_codes;
 pub use leaf::put_index;
+pub use leaf::weight_of;
 pub use preparing::Shape;
 pub use preparing::prepare;
 pub use store::put_arc;
 pub use store::put_final;
 pub use store::put_head;
+pub use walk::look;
 pub use walk::refusal;
 
 // An arc: from its source, reading one label and writing one, to its target, at a weight.
@@ -52,13 +56,13 @@ pub struct Arc {
     pub input: u16,
     pub output: u16,
     pub target: u16,
-    pub weight: u32,
+    pub weight: i32,
 }
 
 // A final state with its final weight.
 pub struct Final {
     pub state: u16,
-    pub weight: u32,
+    pub weight: i32,
 }
 
 // The tests that have passed so far: heads of records, 5 states, 6 order, 7 labels, 8 weights; and the least state that may come next.
@@ -69,6 +73,14 @@ pub struct Checks {
     pub labels: bool,
     pub weights: bool,
     pub floor: u32,
+}
+
+// What a look at bytes tells: the refusal or 0, and where they are accepted a weight that none of the arcs is below; `up` only where each arc leads to a
+// higher state.
+pub struct Looked {
+    pub refusal: u32,
+    pub least: i32,
+    pub up: bool,
 }
 
 // What reading answers: the refusal or 0, then the head's numbers, 0 on refusal.

@@ -29,7 +29,7 @@ pub fn put_final(out: &mut [u8], at: usize, f: Final)
     wire::put_u16(out, at, 6);
     wire::put_u16(out, at + 2, 2);
     wire::put_u16(out, at + 4, f.state);
-    wire::put_u32(out, at + 6, f.weight);
+    wire::put_i32(out, at + 6, f.weight);
 }
 
 // Writes an arc's record at a place.
@@ -43,5 +43,5 @@ pub fn put_arc(out: &mut [u8], at: usize, a: Arc)
     wire::put_u16(out, at + 6, a.input);
     wire::put_u16(out, at + 8, a.output);
     wire::put_u16(out, at + 10, a.target);
-    wire::put_u32(out, at + 12, a.weight);
+    wire::put_i32(out, at + 12, a.weight);
 }

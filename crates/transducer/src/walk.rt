@@ -4,9 +4,11 @@ ghost use mathlib.Core.Path.{_≡_};
 ghost use mathlib.Core.Bool.{true, false};
 ghost use Prim.Native.Nat.{ℕ, _+_, _*_, _≤_, _<_};
 ghost use lib.ListN.{length};
-ghost use Rattle.transducer.specs.Format.{framed, kinds-good, kind-good, records, refusal, arcs-at, arc-bytes};
-ghost use Rattle.transducer.specs.Check.{all-checked, walked};
+ghost use Rattle.transducer.specs.Format.{framed, kinds-good, kind-good, records, refusal, arcs-at, arc-bytes, min-weight};
+ghost use Rattle.transducer.specs.Check.{all-checked, walked, None-below, Each-up};
+ghost use Rattle.transducer.specs.Leaf.{Looked-says};
 use crate::Checks;
+use crate::Looked;
 use crate::check;
 
 // 1: whether records follow one another to the very end.
@@ -85,10 +87,18 @@ fn walk(bytes: &[u8]) -> u32
     4
 }
 
-// The tests of all records at the places that the head gives.
-fn check_all(bytes: &[u8], n: u32, m: usize, f: usize) -> Checks
+// The tests of all records, and a weight that none of the arcs is below; `up` only where each arc leads to a higher state.
+struct All {
+    checks: Checks,
+    least: i32,
+    up: bool,
+}
+
+// The same for the records at the places that the head gives.
+fn check_all(bytes: &[u8], n: u32, m: usize, f: usize) -> All
     requires { ⌜ (length (now bytes) ≡ arcs-at f + arc-bytes * m) × (f < 65536) ⌝ }
-    ensures { λ r. ⌜ r ≡ all-checked (now (bytes .entry)) n m f ⌝ }
+    ensures { λ r. ⌜ (r .checks ≡ all-checked (now (bytes .entry)) n m f) × None-below (now (bytes .entry)) (arcs-at f) m (r .least)
+        × (r .up ≡ true → Each-up (now (bytes .entry)) (arcs-at f) m) ⌝ }
 {
     let none = Checks {
         heads: true,
@@ -99,32 +109,62 @@ fn check_all(bytes: &[u8], n: u32, m: usize, f: usize) -> Checks
         floor: 0,
     };
     let finals = check::restart(check::check_finals(bytes, bounds::HEAD_BYTES, f, n, none));
-    check::check_arcs(bytes, bounds::arcs_at(f), m, n, finals)
+    let at = bounds::arcs_at(f);
+    let seen = check::glance_at(bytes, at, m, n, 0);
+    All {
+        checks: check::check_arcs(bytes, at, m, n, finals, seen.last),
+        least: seen.least,
+        up: seen.up,
+    }
 }
 
-// Refusals 1 to 8 of bytes, or 0 where they are accepted. Linear in the bytes.
-pub fn refusal(bytes: &[u8]) -> u32
-    ensures { λ r. ⌜ r ≡ refusal (now (bytes .entry)) ⌝ }
+// What is told of bytes whose records do not stand where the head says.
+fn misplaced(bytes: &[u8]) -> Looked
+    ensures { λ r. ⌜ (r .refusal ≡ walked (now (bytes .entry))) × (r .least ≡ min-weight) × (r .up ≡ false) ⌝ }
+{
+    Looked {
+        refusal: walk(bytes),
+        least: bounds::MIN_WEIGHT,
+        up: false,
+    }
+}
+
+// Refusals 1 to 8 of bytes, or 0 where they are accepted, a weight that none of the arcs is below, and whether each is known to lead up. Linear in the bytes.
+pub fn look(bytes: &[u8]) -> Looked
+    ensures { λ r. ⌜ Looked-says (now (bytes .entry)) r ⌝ }
 {
     if bytes.len() < bounds::HEAD_BYTES {
-        return walk(bytes);
+        return misplaced(bytes);
     }
     if wire::u32_at(bytes, 0) != check::HEAD_WORD {
-        return walk(bytes);
+        return misplaced(bytes);
     }
     let n = wire::u16_at(bytes, 4) as u32;
     let m = wire::u16_at(bytes, 6) as u32;
     let f = wire::u16_at(bytes, 8) as u32;
     let start = wire::u16_at(bytes, 10) as u32;
     if !bounds::head_ok(n, m, f, start) {
-        return walk(bytes);
+        return misplaced(bytes);
     }
     if bytes.len() != bounds::arcs_at(f as usize) + bounds::ARC_BYTES * (m as usize) {
-        return walk(bytes);
+        return misplaced(bytes);
     }
-    let c = check_all(bytes, n, m as usize, f as usize);
+    let all = check_all(bytes, n, m as usize, f as usize);
+    let c = all.checks;
     if !c.heads {
-        return walk(bytes);
+        return misplaced(bytes);
     }
-    check::number(c)
+    Looked {
+        refusal: check::number(c),
+        least: all.least,
+        up: all.up,
+    }
+}
+
+// Refusals 1 to 8 of bytes, or 0 where they are accepted. Linear in the bytes.
+pub fn refusal(bytes: &[u8]) -> u32
+    ensures { λ r. ⌜ r ≡ refusal (now (bytes .entry)) ⌝ }
+{
+    let seen = look(bytes);
+    seen.refusal
 }

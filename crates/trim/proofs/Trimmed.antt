@@ -2,7 +2,7 @@
 use mathlib.Core.Path.{_≡_, refl, sym, ap, ap₂, _∙_}
 use mathlib.Core.Bool.{Bool, true, false}
 use mathlib.Core.List.{List, [], _∷_, map}
-use Prim.Native.Nat.{ℕ, _+_, _<_}
+use Prim.Native.Nat.{ℕ, _<_}
 use native.Mathlib.Nat.{not-suc-le-zero, zero-add}
 use native.Mathlib.Omega.{arith}
 use lib.Dec.{ltb}
@@ -14,6 +14,7 @@ use Rattle.transducer.specs.Format.{Transducer}
 use Rattle.transducer.specs.Path.{arc, runs, ends, accepts, is-final, final-weight, non-empty, read-by, written-by, arcs-cost, path-cost}
 use Rattle.transducer.proofs.Paths.{Runs, runs-cons, cons-runs}
 use Rattle.transducer.proofs.Runs.{Accepting, AcceptingBy, accepting-cons, accepts-accepting, Within}
+use Rattle.transducer.specs.Weight.{plus}
 use Rattle.trim.specs.Trim.{useful, arc-useful, renumbered, kept-arcs, kept-finals, kept-numbers, trimmed, origins-kept, through}
 use Rattle.trim.proofs.Useful.{useful-next, start-useful}
 use Rattle.trim.proofs.Kept.{renumbered-injective, moved, length-kept, KeptAt, kept-at, KeptTo, kept-to, kept-rise, kept-is-final, kept-final-weight}
@@ -83,7 +84,7 @@ led-cons t z os s j p h e from r =
       used = r .used;
       reads = ap₂ non-empty (ap (λ (a : Arc). a .input) e) (r .reads);
       writes = ap₂ non-empty (ap (λ (a : Arc). a .output) e) (r .writes);
-      costs = ap₂ _+_ (ap (λ (a : Arc). a .weight) e) (r .costs);
+      costs = ap₂ plus (ap (λ (a : Arc). a .weight) e) (r .costs);
     }
 
 pub kept-led : (t : Transducer) (s : ℕ) (p : List ℕ) → useful t s ≡ true → runs (kept t) (renumbered t s) p ≡ true
@@ -123,7 +124,7 @@ kept-accepted t p u h =
       reads = l .reads;
       writes = l .writes;
       cost =
-          ap₂ _+_ (l .costs)
+          ap₂ plus (l .costs)
           (ap (final-weight (kept-finals t (t .finals))) (l .there) ∙ kept-final-weight t (t .finals) last (l .used));
     }
 

@@ -5,3 +5,6 @@ pub mod Places
 pub mod Store
 -- Numbers as bytes.
 pub mod Low
+-- Signed numbers: arithmetic, and their bytes.
+pub mod Ints
+pub mod Signed

@@ -1,4 +1,4 @@
--- Laws of `places`, `every`, `sets` and `filled`. Assumes nothing.
+-- Laws of `places`, `every`, `sets`, `padded` and `filled`. Assumes nothing.
 use mathlib.Core.Path.{_≡_, refl, sym, ap, _∙_}
 use mathlib.Core.Bool.{Bool, true, false, _&&_, _||_, not}
 pub use mathlib.Core.Bool.{and-assoc}
@@ -9,7 +9,7 @@ use native.Mathlib.Numerals.{add-one}
 use native.Mathlib.Omega.{arith}
 use lib.ListN.{length, getD, set, take, drop, replicate, length-append, length-replicate, length-drop}
 use lib.Seq.{sets, take-at, take-append-seam, length-sets}
-use Rattle.wire.specs.Bytes.{places, every, filled, cleared}
+use Rattle.wire.specs.Bytes.{places, every, padded, emptied, filled, cleared}
 pub use Rattle.wire.proofs.Bool.{and-true, true-and}
 
 -- places
@@ -100,37 +100,56 @@ sets-append l i (x ∷ xs) ys =
     let e : suc i + length xs ≡ i + suc (length xs) = omega arith in
     sets-append (set l i x) (suc i) xs ys ∙ ap (λ (k : ℕ). sets (sets (set l i x) (suc i) xs) k ys) e
 
+-- padded
+
+module _ {A : Type 0} (none : A) where
+  pub length-padded : (room : ℕ) (xs : List A) → length xs ≤ room → length (padded none room xs) ≡ room
+  length-padded room xs h = simp (length-append, length-replicate) (omega arith)
+
+  pub take-padded : (room : ℕ) (xs : List A) → take (length xs) (padded none room xs) ≡ xs
+  take-padded room xs = take-append-seam xs (replicate (room - length xs) none)
+
+  -- What is put behind a list reads as what lies behind its end does.
+  getD-none : (k i : ℕ) → getD (replicate k none) i none ≡ none
+  getD-none zero i = refl
+  getD-none (suc k) zero = refl
+  getD-none (suc k) (suc i) = getD-none k i
+
+  getD-behind : (xs : List A) (k i : ℕ) → getD (xs ++ replicate k none) i none ≡ getD xs i none
+  getD-behind [] k i = getD-none k i
+  getD-behind (x ∷ xs) k zero = refl
+  getD-behind (x ∷ xs) k (suc i) = getD-behind xs k i
+
+  pub getD-padded : (room : ℕ) (xs : List A) (i : ℕ) → getD (padded none room xs) i none ≡ getD xs i none
+  getD-padded room xs i = getD-behind xs (room - length xs) i
+
+  -- What is written at the front, then emptied behind.
+  pub emptied-append : (k : ℕ) (xs ys : List A) → length xs ≡ k → emptied none k (xs ++ ys) ≡ padded none (length (xs ++ ys)) xs
+  emptied-append k xs ys e = rw (take-at xs ys k e, e)
+
+  pub emptied-front : (k : ℕ) (xs out : List A) → length xs ≡ k → k ≤ length out → emptied none k (xs ++ drop k out) ≡ padded none (length out) xs
+  emptied-front k xs out e h =
+      let long : length (xs ++ drop k out) ≡ length out = length-append xs (drop k out) ∙ (simp length-drop (omega arith)) in
+      emptied-append k xs (drop k out) e ∙ ap (λ (n : ℕ). padded none n xs) long
+
 -- filled
 
 pub length-filled : (room : ℕ) (xs : List ℕ) → length xs ≤ room → length (filled room xs) ≡ room
 unfolding filled
-length-filled room xs h = simp (length-append, length-replicate) (omega arith)
+length-filled room xs h = length-padded 0 room xs h
 
 pub take-filled : (room : ℕ) (xs : List ℕ) → take (length xs) (filled room xs) ≡ xs
 unfolding filled
-take-filled room xs = take-append-seam xs (replicate (room - length xs) 0)
-
--- Zeros behind a list read as what lies behind its end does.
-getD-zeros : (k i : ℕ) → _≡_ {A = ℕ} (getD (replicate k 0) i 0) 0
-getD-zeros zero i = refl
-getD-zeros (suc k) zero = refl
-getD-zeros (suc k) (suc i) = getD-zeros k i
-
-getD-behind : (xs : List ℕ) (k i : ℕ) → getD (xs ++ replicate k 0) i 0 ≡ getD xs i 0
-getD-behind [] k i = getD-zeros k i
-getD-behind (x ∷ xs) k zero = refl
-getD-behind (x ∷ xs) k (suc i) = getD-behind xs k i
+take-filled room xs = take-padded 0 room xs
 
 pub getD-filled : (room : ℕ) (xs : List ℕ) (i : ℕ) → getD (filled room xs) i 0 ≡ getD xs i 0
 unfolding filled
-getD-filled room xs i = getD-behind xs (room - length xs) i
+getD-filled room xs i = getD-padded 0 room xs i
 
--- What is written at the front, then cleared behind.
 pub cleared-append : (k : ℕ) (xs ys : List ℕ) → length xs ≡ k → cleared k (xs ++ ys) ≡ filled (length (xs ++ ys)) xs
 unfolding filled cleared
-cleared-append k xs ys e = rw (take-at xs ys k e, e)
+cleared-append k xs ys e = emptied-append 0 k xs ys e
 
 pub cleared-front : (k : ℕ) (xs out : List ℕ) → length xs ≡ k → k ≤ length out → cleared k (xs ++ drop k out) ≡ filled (length out) xs
-cleared-front k xs out e h =
-    let long : length (xs ++ drop k out) ≡ length out = length-append xs (drop k out) ∙ (simp length-drop (omega arith)) in
-    cleared-append k xs (drop k out) e ∙ ap (λ (n : ℕ). filled n xs) long
+unfolding filled cleared
+cleared-front k xs out e h = emptied-front 0 k xs out e h

@@ -1,11 +1,14 @@
 -- `arcs-held-next` says what `put_arc` leaves, and `arcs-held-full` that what is written stays where there is no room for more.
 use borrow.Author.Needs.{needs}
-use mathlib.Core.Path.{refl, ap}
+use mathlib.Core.Path.{refl, ap, _∙_}
 use mathlib.Core.Bool.{Bool, _||_, not}
 use Prim.Native.Nat.{_+_}
+use mir.Syntax.{w32}
+use mir.Facts.{toZ-ofZ}
 use Rattle.explore.proofs.Recording.{arcs-held-next, arcs-held-full}
 use Rattle.explore.proofs.record_arc.Statement.{statement}
 use Rattle.explore.proofs.record_arc.Tie as tie
+use Rattle.transducer.specs.Format.{weight-good}
 
 weight-ok-requires : tie.Need-weight-ok-requires
 weight-ok-requires c κs = search needs
@@ -27,14 +30,17 @@ same-length c = search needs
 
 returns : tie.Need-returns
 returns c =
-    let a = c .before .before .before .before .before .before .before .before .args in
-    let ok = c .before .before .before .before .before .before .weight-ok in
+    let checked = c .before .before .before .before .before .before in
+    let a = checked .before .before .before .args in
+    let ok = checked .weight-ok in
+    let weight = toZ-ofZ {w = w32} {z = a .arc .weight} (record { sfits = checked .before .struct-told .given .1 .1 .1 .1 .0 .1 }) in
     record {
       states-stay = refl;
       full-stays = refl;
       one-more = λ as' dear held.
           arcs-held-next as' dear (a .w) (record { states = a .w .states; arcs = a .w .arcs + 1; dear = a .w .dear || not (ok .result); full = a .w .full })
-          (a .table .now) (a .arc) held _ (c .before .before .before .before .if1 .taken) refl (ap (λ (g : Bool). a .w .dear || not g) (ok .ensures)) (c .before .before .put-arc .ensures);
+          (a .table .now) (a .arc) held _ (c .before .before .before .before .if1 .taken) refl
+          (ap (λ (g : Bool). a .w .dear || not g) (ok .ensures ∙ ap weight-good weight)) (c .before .before .put-arc .ensures);
     }
 
 add-t13 : tie.Need-add-t13
@@ -42,14 +48,16 @@ add-t13 c = search needs
 
 returns-2 : tie.Need-returns-2
 returns-2 c =
-    let a = c .before .before .before .before .args in
-    let ok = c .before .before .weight-ok in
+    let checked = c .before .before in
+    let a = checked .before .before .before .args in
+    let ok = checked .weight-ok in
+    let weight = toZ-ofZ {w = w32} {z = a .arc .weight} (record { sfits = checked .before .struct-told .given .1 .1 .1 .1 .0 .1 }) in
     record {
       states-stay = refl;
       full-stays = refl;
       one-more = λ as' dear held.
           arcs-held-full as' dear (a .w) (record { states = a .w .states; arcs = 3073; dear = a .w .dear || not (ok .result); full = a .w .full })
-          (a .table .now) (a .arc) held (c .if1 .left) refl (ap (λ (g : Bool). a .w .dear || not g) (ok .ensures));
+          (a .table .now) (a .arc) held (c .if1 .left) refl (ap (λ (g : Bool). a .w .dear || not g) (ok .ensures ∙ ap weight-good weight));
     }
 
 pub record-arc-spec : {M : Type 1} → statement M

@@ -3,18 +3,19 @@ use borrow.Author.Needs.{needs}
 use Prim.Native.Nat.{_-_}
 use native.Mathlib.Omega.{arith}
 use lib.ListN.{length, length-set}
+use Rattle.wire.specs.Bytes.{cleared}
 use Rattle.wire.proofs.Store.{Clearing, clearing-first, clearing-next, clearing-stop}
 use Rattle.wire.proofs.clear8.Statement.{statement}
 use Rattle.wire.proofs.clear8.Tie as tie
 
 abbrev Inv-loop : tie.InvT-loop
-Inv-loop out₀ from i₀ out i = Clearing from out₀ out i
+Inv-loop out₀ from i₀ out i = Clearing 0 from out₀ out i
 
 abbrev μ-loop : tie.MeasureT-loop
 μ-loop out₀ from i₀ out i = length out - i
 
 loop-holds : tie.Need-loop-holds Inv-loop μ-loop
-loop-holds c = clearing-first (c .pre)
+loop-holds c = clearing-first 0 (c .pre)
 
 slice-write-out : tie.Need-slice-write-out Inv-loop μ-loop
 slice-write-out c = search needs
@@ -26,13 +27,14 @@ loop-less : tie.Need-loop-less Inv-loop μ-loop
 loop-less c = simp length-set (omega arith)
 
 loop-again : tie.Need-loop-again Inv-loop μ-loop
-loop-again c = clearing-next (c .before .before .pre) (c .before .loop .inv) (c .loop-test .taken)
+loop-again c = clearing-next 0 (c .before .before .pre) (c .before .loop .inv) (c .loop-test .taken)
 
 same-length : tie.Need-same-length Inv-loop μ-loop
 same-length c = c .before .loop .inv .same
 
 returns : tie.Need-returns Inv-loop μ-loop
-returns c = clearing-stop (c .before .before .pre) (c .before .loop .inv) (c .loop-test .left)
+unfolding cleared
+returns c = clearing-stop 0 (c .before .before .pre) (c .before .loop .inv) (c .loop-test .left)
 
 pub clear8-spec : {M : Type 1} → statement M
 clear8-spec =

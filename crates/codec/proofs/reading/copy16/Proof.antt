@@ -4,7 +4,7 @@ use mathlib.Core.Path.{_∙_}
 use Prim.Native.Nat.{_-_}
 use native.Mathlib.Omega.{arith}
 use lib.ListN.{length}
-use Rattle.wire.specs.Bytes.{two}
+use Rattle.wire.specs.Bytes.{two, filled, cleared}
 use Rattle.codec.proofs.Copy.{Copied, copied-first, copied-inside, copied-length, copied-next, copied-stop}
 use Rattle.codec.proofs.reading.copy16.Statement.{statement}
 use Rattle.codec.proofs.reading.copy16.Tie as tie
@@ -66,10 +66,12 @@ same-length c =
     c .before .before .clear16 .kept .0 ∙ copied-length (start .pre .0) (after .before .before .loop .inv)
 
 returns : tie.Need-returns Inv-loop μ-loop
+unfolding cleared filled
 returns c =
     let after = c .before .before .before in
     let start = after .before .before .before .before .before in
     copied-stop
+    0
     (c .before .before .clear16 .last .0)
     (start .pre .0)
     (after .before .loop-test .left)

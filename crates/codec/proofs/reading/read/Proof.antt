@@ -15,7 +15,7 @@ use Rattle.codec.proofs.reading.read.Tie as tie
 
 -- Places to look back to: the entry, the tested bytes, where all tests are passed, the head, and before each copy.
 abbrev entry : tie.After-refusal → tie.Start
-entry c = c .before .before .before .before .before .before
+entry c = c .before .before .before .before
 
 abbrev tested : tie.Else5 → tie.After-refusal
 tested c = c .before .before .before .before .before
@@ -23,20 +23,20 @@ tested c = c .before .before .before .before .before
 abbrev at-head : tie.After-copy16-arg → tie.After-header
 at-head c = c .before .before .before .before
 
-abbrev copy-1 : tie.After-copy32-arg → tie.After-copy16-arg
+abbrev copy-1 : tie.After-copy-weights-arg → tie.After-copy16-arg
 copy-1 c = c .before .before .before .before
 
-abbrev copy-2 : tie.After-copy-fields-arg → tie.After-copy32-arg
-copy-2 c = c .before .before .before .before
+abbrev copy-2 : tie.After-copy-fields-arg → tie.After-copy-weights-arg
+copy-2 c = c .before .before .before
 
-abbrev copy-3 : tie.After-copy32-arg2 → tie.After-copy-fields-arg
+abbrev copy-3 : tie.After-copy-weights-arg2 → tie.After-copy-fields-arg
 copy-3 c = c .before .before .before .before
 
 abbrev bytes-of : tie.Else5 → List ℕ
 bytes-of c = entry (tested c) .args .bytes .now
 
 is-bytes : (c : tie.Else5) → Bytes (bytes-of c)
-is-bytes c = λ i. omega (arith, tested c .before .before .before .before .before .shared-slice-known .given i)
+is-bytes c = λ i. omega (arith, tested c .before .before .before .shared-slice-known .given i)
 
 accepted : (c : tie.Else5) → refusal (bytes-of c) ≡ 0
 accepted c = sym (tested c .refusal .ensures) ∙ c .before .before .before .before .if1 .left
@@ -108,8 +108,8 @@ arcs-at-requires c κs = omega (arith, head-counted (c .before .before))
 copy16-requires : tie.Need-copy16-requires
 copy16-requires c κs = let head = at-head c in omega (arith, head-counted head, head .before .before .before .before .if2 .left)
 
-copy32-requires : tie.Need-copy32-requires
-copy32-requires c κs = let head = at-head (copy-1 c) in omega (arith, head-counted head, head .before .before .before .if3 .left)
+copy-weights-requires : tie.Need-copy-weights-requires
+copy-weights-requires c κs = let head = at-head (copy-1 c) in omega (arith, head-counted head, head .before .before .before .if3 .left)
 
 copy-fields-requires : tie.Need-copy-fields-requires
 copy-fields-requires c κs =
@@ -117,13 +117,13 @@ copy-fields-requires c κs =
     let head = at-head start in
     omega (arith, head-counted head, start .before .arcs-at .ensures, head .before .before .if4 .left)
 
-add-copy32 : tie.Need-add-copy32
-add-copy32 c =
+add-copy-weights : tie.Need-add-copy-weights
+add-copy-weights c =
     let start = copy-1 (copy-2 (c .before .before .before)) in
     omega (arith, head-counted (at-head start), start .before .arcs-at .ensures)
 
-copy32-requires-2 : tie.Need-copy32-requires-2
-copy32-requires-2 c κs =
+copy-weights-requires-2 : tie.Need-copy-weights-requires-2
+copy-weights-requires-2 c κs =
     let start = copy-1 (copy-2 (copy-3 c)) in
     let head = at-head start in
     omega (arith, head-counted head, start .before .arcs-at .ensures, head .before .if5 .left)
@@ -142,7 +142,7 @@ same-length-4 c = search needs
 
 returns-6 : tie.Need-returns-6
 returns-6 c =
-    let fourth = c .before .before .before in
+    let fourth = c .before .before in
     let third = copy-3 fourth in
     let second = copy-2 third in
     let head = at-head (copy-1 second) in
@@ -156,9 +156,9 @@ returns-6 c =
     (head .header .ensures)
     (first-arc .ensures)
     (second .before .before .before .copy16 .ensures)
-    (third .before .before .before .copy32 .ensures)
+    (third .before .before .copy-weights .ensures)
     (fourth .before .before .before .copy-fields .ensures)
-    (c .before .before .copy322 .ensures)
+    (c .before .copy-weights2 .ensures)
 
 pub read-spec : {M : Type 1} → statement M
 read-spec =
@@ -180,10 +180,10 @@ read-spec =
     cast-m
     arcs-at-requires
     copy16-requires
-    copy32-requires
+    copy-weights-requires
     copy-fields-requires
-    add-copy32
-    copy32-requires-2
+    add-copy-weights
+    copy-weights-requires-2
     same-length
     same-length-2
     same-length-3

@@ -3,10 +3,14 @@ use borrow.Author.Needs.{needs}
 use mathlib.Core.Path.{refl}
 use Prim.Native.Nat.{_-_}
 use Rattle.transducer.specs.Check.{finals-checked, final-word}
+use mir.Syntax.{w32}
+use mir.Facts.{toZ-ofZ}
 use Rattle.codec.specs.Entry.{final-of}
 use Rattle.transducer.proofs.Checked.{Left, left-first, left-next, left-stop}
+use Rattle.transducer.specs.Weight.{no-weight}
 use Rattle.codec.proofs.writing.check_given_finals.Statement.{statement}
 use Rattle.codec.proofs.writing.check_given_finals.Tie as tie
+use lib.ListN.{getD}
 
 abbrev Inv-loop : tie.InvT-loop
 Inv-loop states weights count n checks₀ i₀ checks i =
@@ -27,8 +31,8 @@ shared-slice-read-t12 c = search needs
 mul-t13 : tie.Need-mul-t13 Inv-loop μ-loop
 mul-t13 c = search needs
 
-shared-slice-read-t15 : tie.Need-shared-slice-read-t15 Inv-loop μ-loop
-shared-slice-read-t15 c = search needs
+shared-slice-copy-out-t15 : tie.Need-shared-slice-copy-out-t15 Inv-loop μ-loop
+shared-slice-copy-out-t15 c = search needs
 
 check-final-requires : tie.Need-check-final-requires Inv-loop μ-loop
 check-final-requires c κs = search needs
@@ -42,7 +46,10 @@ loop-less c = search needs
 loop-again : tie.Need-loop-again Inv-loop μ-loop
 unfolding finals-checked final-of
 loop-again c =
-    rw (c .check-final .ensures)
+    let h = c .before .before .before .before in
+    let w = getD (h .before .before .args .weights .now) (h .loop .i) no-weight in
+    let weight = toZ-ofZ {w = w32} {z = w} (record { sfits = c .before .t15 .given }) in
+    rw (c .check-final .ensures, weight)
     (left-next (λ k p d. refl) (c .before .before .before .before .loop .inv) (c .before .before .before .loop-test .taken))
 
 returns : tie.Need-returns Inv-loop μ-loop
@@ -59,7 +66,7 @@ check-given-finals-spec =
     mul-t10
     shared-slice-read-t12
     mul-t13
-    shared-slice-read-t15
+    shared-slice-copy-out-t15
     check-final-requires
     add-i
     loop-less

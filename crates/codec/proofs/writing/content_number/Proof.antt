@@ -19,7 +19,7 @@ number-requires c κs = search needs
 returns : tie.Need-returns
 returns c =
     λ start.
-    let args = c .before .before .before .before .before .before .before .before .args in
+    let args = c .before .before .before .before .before .before .args in
     rw (
       c .number .ensures,
       c .before .check-given-arcs .ensures,

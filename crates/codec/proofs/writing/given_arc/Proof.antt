@@ -1,6 +1,8 @@
 -- The code is the definition.
 use borrow.Author.Needs.{needs}
 use mathlib.Core.Path.{refl}
+use mir.Syntax.{w32}
+use mir.Facts.{toZ-ofZ}
 use Rattle.codec.specs.Entry.{arc-of}
 use Rattle.codec.proofs.writing.given_arc.Statement.{statement}
 use Rattle.codec.proofs.writing.given_arc.Tie as tie
@@ -53,12 +55,12 @@ shared-slice-read-t22 c = search needs
 mul-t23 : tie.Need-mul-t23
 mul-t23 c = search needs
 
-shared-slice-read-t25 : tie.Need-shared-slice-read-t25
-shared-slice-read-t25 c = search needs
+shared-slice-copy-out-t25 : tie.Need-shared-slice-copy-out-t25
+shared-slice-copy-out-t25 c = search needs
 
 returns : tie.Need-returns
 unfolding arc-of
-returns c = refl
+returns c = rw (toZ-ofZ {w = w32} (record { sfits = c .t25 .given })) refl
 
 pub given-arc-spec : {M : Type 1} → statement M
 given-arc-spec =
@@ -80,5 +82,5 @@ given-arc-spec =
     mul-t20
     shared-slice-read-t22
     mul-t23
-    shared-slice-read-t25
+    shared-slice-copy-out-t25
     returns)

@@ -24,7 +24,7 @@ abbrev μ-loop : tie.MeasureT-loop
 
 loop-holds : tie.Need-loop-holds Inv-loop μ-loop
 loop-holds c =
-    let x = c .before .before .before .args in
+    let x = c .before .before .args in
     (omega arith, omega arith, refl, sets-no-arcs (x .out .now) (x .first) (arc-of (x .fields .now) (x .weights .now)))
 
 given-arc-requires : tie.Need-given-arc-requires Inv-loop μ-loop
@@ -46,7 +46,7 @@ loop-again : tie.Need-loop-again Inv-loop μ-loop
 loop-again c =
     let called = c .before .before .put-arc in
     let h = c .before .before .before .before .before .before in
-    let x = h .before .before .before .before .args in
+    let x = h .before .before .before .args in
     let inv = h .loop .inv in
     let same = ap (λ (a : Arc). sets (h .loop .out) (h .loop .at) (arc-record a)) (c .before .before .before .given-arc .ensures) in (
       omega arith,
@@ -61,7 +61,7 @@ same-length c = c .before .loop .inv .2
 returns : tie.Need-returns Inv-loop μ-loop
 returns c =
     let h = c .before in
-    let x = h .before .before .before .before .args in
+    let x = h .before .before .before .args in
     let all : h .loop .i ≡ x .count = omega arith in
     h .loop .inv .3 ∙ ap (λ (k : ℕ). sets (x .out .now) (x .first) (arc-records (places k 0 1 (arc-of (x .fields .now) (x .weights .now))))) all
 

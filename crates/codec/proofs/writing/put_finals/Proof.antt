@@ -1,11 +1,15 @@
 -- A store loop, one record a turn. The invariant: the first `i` records stand from 12 on, and `at` is right behind them.
 use mathlib.Core.Path.{_≡_, refl, ap, _∙_}
+use mathlib.Core.List.{List}
 use Prim.Native.Nat.{ℕ, _≤_, _+_, _*_, _-_}
 use native.Mathlib.Omega.{arith}
-use lib.ListN.{length}
+use lib.ListN.{length, getD}
 use lib.Seq.{sets}
+use mir.Syntax.{w32}
+use mir.Facts.{toZ-ofZ}
 use Rattle.wire.specs.Bytes.{places}
-use Rattle.transducer.specs.Encode.{final-records}
+use Rattle.transducer.specs.Encode.{final-record, final-records}
+use Rattle.transducer.specs.Weight.{Weight}
 use Rattle.codec.specs.Entry.{final-of}
 use Rattle.transducer.proofs.Encode.{sets-finals, sets-no-finals}
 use Rattle.codec.proofs.writing.put_finals.Statement.{statement}
@@ -23,7 +27,7 @@ abbrev μ-loop : tie.MeasureT-loop
 
 loop-holds : tie.Need-loop-holds Inv-loop μ-loop
 loop-holds c =
-    let x = c .before .before .before .args in
+    let x = c .before .before .args in
     (omega arith, refl, refl, sets-no-finals (x .out .now) 12 (final-of (x .states .now) (x .weights .now)))
 
 mul-t9 : tie.Need-mul-t9 Inv-loop μ-loop
@@ -35,8 +39,8 @@ shared-slice-read-t11 c = omega arith
 mul-t12 : tie.Need-mul-t12 Inv-loop μ-loop
 mul-t12 c = omega arith
 
-shared-slice-read-t14 : tie.Need-shared-slice-read-t14 Inv-loop μ-loop
-shared-slice-read-t14 c = omega arith
+shared-slice-copy-out-t14 : tie.Need-shared-slice-copy-out-t14 Inv-loop μ-loop
+shared-slice-copy-out-t14 c = omega arith
 
 put-final-requires : tie.Need-put-final-requires Inv-loop μ-loop
 put-final-requires c κs = omega arith
@@ -55,12 +59,16 @@ unfolding final-of
 loop-again c =
     let called = c .before .before .put-final in
     let h = c .before .before .before .before .before .before .before in
-    let x = h .before .before .before .before .args in
+    let x = h .before .before .before .args in
+    let weight = toZ-ofZ {w = w32} (record { sfits = c .before .before .before .before .t14 .given }) in
+    let stored : Weight → List ℕ =
+    λ w. sets (h .loop .out) (h .loop .at) (final-record (record { state = getD (x .states .now) (h .loop .i) 0; weight = w })) in
     let inv = h .loop .inv in (
       omega arith,
       omega arith,
       called .kept .0 ∙ inv .2,
-      sets-finals (x .out .now) 12 (h .loop .at) (h .loop .i) (final-of (x .states .now) (x .weights .now)) (inv .1) (inv .3) (called .ensures),
+      sets-finals (x .out .now) 12 (h .loop .at) (h .loop .i) (final-of (x .states .now) (x .weights .now)) (inv .1) (inv .3)
+          (called .ensures ∙ ap stored weight),
     )
 
 same-length : tie.Need-same-length Inv-loop μ-loop
@@ -69,7 +77,7 @@ same-length c = c .before .loop .inv .2
 returns : tie.Need-returns Inv-loop μ-loop
 returns c =
     let h = c .before in
-    let x = h .before .before .before .before .args in
+    let x = h .before .before .before .args in
     let all : h .loop .i ≡ x .count = omega arith in
     h .loop .inv .3 ∙ ap (λ (k : ℕ). sets (x .out .now) 12 (final-records (places k 0 1 (final-of (x .states .now) (x .weights .now))))) all
 
@@ -83,7 +91,7 @@ put-finals-spec =
     mul-t9
     shared-slice-read-t11
     mul-t12
-    shared-slice-read-t14
+    shared-slice-copy-out-t14
     put-final-requires
     add-at
     add-i

@@ -13,7 +13,7 @@ use Rattle.codec.proofs.writing.write.Tie as tie
 
 -- The way back from a place to an earlier one.
 abbrev entry : tie.Else1 → tie.Start
-entry c = c .before .before .before .before .before .before .before
+entry c = c .before .before .before .before .before
 
 abbrev first : tie.Else5 → tie.Else1
 first c = c .before .before .before .before

@@ -1,15 +1,21 @@
 -- A store loop over the keys, a record for each that is final. The invariant, `Finishing`: the finals of the first `s` keys are written and counted.
 use borrow.Author.Needs.{needs}
-use mathlib.Core.Path.{sym}
+use mathlib.Core.Path.{_≡_, sym, ap, ap₂, _∙_}
 use Prim.Native.Nat.{_+_, _-_}
 use native.Mathlib.Omega.{arith}
 use lib.ListN.{getD}
+use mir.Syntax.{w32}
+use mir.Val.{SFits, toZ, ofZ}
+use mir.Facts.{toZ-ofZ}
 use Rattle.explore.proofs.PutFinals.{Finishing, finishing-first, finishing-none, finishing-more, finishing-stop}
 use Rattle.steps.specs.Packing.{Bounded}
 use Rattle.compose.specs.Finished.{key-final, key-weight}
 use Rattle.compose.proofs.KeyFinals.{left-not-final, right-not-final, both-final, both-weight}
 use Rattle.compose.proofs.finish.put_finals.Statement.{statement}
 use Rattle.compose.proofs.finish.put_finals.Tie as tie
+use Rattle.transducer.specs.Format.{weight-good}
+use Rattle.transducer.specs.Weight.{plus, weight-of}
+use Rattle.transducer.proofs.Weights.{plus-fits}
 
 abbrev Inv-loop : tie.InvT-loop
 Inv-loop lcodes rcodes states count table₀ finals₀ dear₀ s₀ table finals dear s =
@@ -22,11 +28,11 @@ abbrev μ-loop : tie.MeasureT-loop
 abbrev unpacking : tie.After-b Inv-loop μ-loop → tie.After-unpack Inv-loop μ-loop
 unpacking c = c .before .before .before .before
 
-abbrev codes : tie.After-weight-ok Inv-loop μ-loop → tie.After-b Inv-loop μ-loop
-codes c = c .before .before .before .before .before .before .before
-
 abbrev right-final : tie.After-weight-ok Inv-loop μ-loop → tie.Then2 Inv-loop μ-loop
-right-final c = c .before .before .before .before .before
+right-final c = c .before .before .before .before .before .before .before
+
+abbrev codes : tie.After-weight-ok Inv-loop μ-loop → tie.After-b Inv-loop μ-loop
+codes c = right-final c .before .before
 
 abbrev turn : tie.After-unpack Inv-loop μ-loop → tie.At-loop Inv-loop μ-loop
 turn c = c .before .before .before
@@ -75,18 +81,30 @@ element-copy-out-b c = parts (c .before .before .before) .right
 add-s : tie.Need-add-s Inv-loop μ-loop
 add-s c = omega arith
 
-sub-weight : tie.Need-sub-weight Inv-loop μ-loop
-sub-weight c = omega (arith, c .before .if1 .taken)
+-- Both codes are codes of good weights, and the sum of these is exact in 32 bits.
+weight-of-requires : tie.Need-weight-of-requires Inv-loop μ-loop
+weight-of-requires c κs =
+    let here = unpacking (c .before .before) in
+    let x = here .unpack .result in
+    (omega (arith, c .before .if1 .taken), turn here .before .before .before .pre .left (x .left) (parts here .left))
 
-sub-weight-2 : tie.Need-sub-weight-2 Inv-loop μ-loop
-sub-weight-2 c = omega (arith, c .if2 .taken)
+weight-of-requires-2 : tie.Need-weight-of-requires-2 Inv-loop μ-loop
+weight-of-requires-2 c κs =
+    let here = unpacking (c .before .before .before) in
+    let x = here .unpack .result in
+    (omega (arith, c .before .if2 .taken), turn here .before .before .before .pre .right (x .right) (parts here .right))
+
+left-weight : (c : tie.After-weight-of2 Inv-loop μ-loop) → SFits w32 (c .before .weight-of .result)
+left-weight c = record { sfits = c .before .weight-of .ok }
+
+right-weight : (c : tie.After-weight-of2 Inv-loop μ-loop) → SFits w32 (c .weight-of2 .result)
+right-weight c = record { sfits = c .weight-of2 .ok }
+
+sum-fits : (c : tie.After-weight-of2 Inv-loop μ-loop) → SFits w32 (plus (c .before .weight-of .result) (c .weight-of2 .result))
+sum-fits c = plus-fits (c .before .weight-of .result) (c .weight-of2 .result) (c .before .weight-of .ensures .1) (c .weight-of2 .ensures .1)
 
 add-weight : tie.Need-add-weight Inv-loop μ-loop
-add-weight c =
-    let here = unpacking (c .before .before) in
-    let pre = turn here .before .before .before .pre in
-    let x = here .unpack .result in
-    omega (arith, pre .left (x .left) (parts here .left), pre .right (x .right) (parts here .right))
+add-weight c = rw (toZ-ofZ (left-weight c), toZ-ofZ (right-weight c)) (sum-fits c)
 
 mul-put-final : tie.Need-mul-put-final Inv-loop μ-loop
 mul-put-final c = omega arith
@@ -96,7 +114,7 @@ add-put-final c = omega arith
 
 put-final-requires : tie.Need-put-final-requires Inv-loop μ-loop
 put-final-requires c κs =
-    let h = turn (unpacking (c .before .before .before)) in
+    let h = turn (unpacking (c .before .before .before .before .before)) in
     let pre = h .before .before .before .pre in
     omega (arith, h .loop .inv .few, h .loop .inv .kept, pre .few, pre .room)
 
@@ -122,11 +140,18 @@ loop-again c =
     let rs = x .rcodes .now in
     let key = getD (x .states .now) (h .loop .s) 0 in
     let p = here .unpack .result in
+    let both = c .before .before .before .before .before in
+    let l = both .before .weight-of in
+    let r = both .weight-of2 in
+    let weight : toZ w32 (ofZ w32 (plus (toZ w32 (ofZ w32 (l .result))) (toZ w32 (ofZ w32 (r .result))))) ≡ plus (l .result) (r .result) =
+    rw (toZ-ofZ (left-weight both), toZ-ofZ (right-weight both)) (toZ-ofZ (sum-fits both)) in
+    let value : plus (l .result) (r .result) ≡ plus (weight-of (getD ls (p .left) 0)) (weight-of (getD rs (p .right) 0)) =
+    ap₂ plus (l .ensures .0) (r .ensures .0) in
     finishing-more (key-final ls rs) (key-weight ls rs) (x .states .now) (h .loop .inv) (here .before .before .loop-test .taken) (start .pre .stored) _
-    ((getD ls (p .left) 0 - 1) + (getD rs (p .right) 0 - 1)) (c .weight-ok .result)
+    (plus (l .result) (r .result)) (c .weight-ok .result)
     (both-final ls rs key p (here .unpack .ensures) (right-final c .before .if1 .taken) (right-final c .if2 .taken))
-    (sym (both-weight ls rs key p (here .unpack .ensures))) (put .ensures) (put .kept .0)
-    (c .weight-ok .ensures)
+    (value ∙ sym (both-weight ls rs key p (here .unpack .ensures))) (rw weight at (put .ensures)) (put .kept .0)
+    (c .weight-ok .ensures ∙ ap weight-good weight)
 
 loop-less-2 : tie.Need-loop-less-2 Inv-loop μ-loop
 loop-less-2 c = omega (arith, unpacking (c .before .before) .before .before .loop-test .taken)
@@ -182,8 +207,8 @@ put-finals-spec =
     mul-b
     element-copy-out-b
     add-s
-    sub-weight
-    sub-weight-2
+    weight-of-requires
+    weight-of-requires-2
     add-weight
     mul-put-final
     add-put-final

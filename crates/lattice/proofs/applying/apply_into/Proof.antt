@@ -163,7 +163,7 @@ slice-aggregate-close c = sym (walked (c .before .before .before .before) .walk-
 close-requires : tie.Need-close-requires
 close-requires c κs =
     let else2 = c .before .before .before .before in
-    ((_, _, walked else2 .walk-all .ensures .done (else2 .before .if1 .left)), else2 .if2 .left)
+    ((_, _, walked else2 .walk-all .ensures .done (else2 .before .if1 .left)), else2 .if2 .left, c .before .before .before .final-codes .ensures .small)
 
 mul-end : tie.Need-mul-end
 mul-end c = omega (arith, coded (c .before) .before .if2 .left)

@@ -51,8 +51,12 @@ put-finals-requires c κs =
     let x = entry here .args in
     let told = entry here .pre .0 .2 in
     let room = told-room (x .codes .now) (x .last) told in
-    let count = here .final-count in
-    (room .0, room .1, part-room (x .codes .now) (x .last) told (count .result) _ (count .ensures .0) (count .ensures .1) (at .arcs-at .ensures))
+    let count = here .final-count in (
+      room .0,
+      room .1,
+      part-room (x .codes .now) (x .last) told (count .result) _ (count .ensures .0) (count .ensures .1) (at .arcs-at .ensures),
+      entry here .pre .2,
+    )
 
 cast-put-head : tie.Need-cast-put-head
 cast-put-head c = omega (arith, few (counted c) .1)

@@ -1,10 +1,18 @@
 -- A store loop over the keys, a record for each that is final. The invariant, `Putting`: the finals of the first `s` keys are written and counted.
 use borrow.Author.Needs.{needs}
-use Prim.Native.Nat.{_-_}
+use Prim.Native.Nat.{_-_, ℕ}
 use native.Mathlib.Omega.{arith}
-use Rattle.lattice.proofs.KeyFinals.{Putting, putting-first, putting-room, putting-none, putting-more, putting-stop}
+use mir.Syntax.{w32}
+use mir.Facts.{toZ-ofZ}
+use mathlib.Core.Path.{_∙_, ap}
+use mathlib.Core.List.{List}
+use lib.ListN.{getD}
+use lib.Seq.{sets}
+use Rattle.lattice.proofs.KeyFinals.{key-code-small, Putting, putting-first, putting-room, putting-none, putting-more, putting-stop}
 use Rattle.lattice.proofs.applying.put_finals.Statement.{statement}
 use Rattle.lattice.proofs.applying.put_finals.Tie as tie
+use Rattle.transducer.specs.Encode.{final-record}
+use Rattle.transducer.specs.Weight.{Weight}
 
 abbrev Inv-loop : tie.InvT-loop
 Inv-loop codes last states count table₀ finals₀ s₀ table finals s = Putting codes last states count table₀ table finals s
@@ -14,7 +22,7 @@ abbrev μ-loop : tie.MeasureT-loop
 
 -- Places to look back to.
 abbrev coded : tie.After-arcs-at Inv-loop μ-loop → tie.After-code-of Inv-loop μ-loop
-coded c = c .before .before .before
+coded c = c .before .before .before .before
 
 abbrev put : tie.After-slice-known2 Inv-loop μ-loop → tie.After-put-final Inv-loop μ-loop
 put c = c .before .before
@@ -45,11 +53,16 @@ cast-state c = omega arith
 add-s : tie.Need-add-s Inv-loop μ-loop
 add-s c = omega arith
 
-sub-t15 : tie.Need-sub-t15 Inv-loop μ-loop
-sub-t15 c = omega (arith, c .if1 .taken)
+weight-of-requires : tie.Need-weight-of-requires Inv-loop μ-loop
+weight-of-requires c κs =
+    let t = turn (c .before) in
+    let x = start t .args in
+    let key = getD (x .states .now) (t .before .loop .s) 0 in
+    let code = c .before .code-of in
+    (omega (arith, c .if1 .taken), rw (code .ensures) (key-code-small (x .codes .now) (x .last) key (start t .pre .3)))
 
 arcs-at-requires : tie.Need-arcs-at-requires Inv-loop μ-loop
-arcs-at-requires c κs = let t = turn (c .before .before) in omega (arith, t .before .loop .inv .1 .few, t .loop-test .taken, start t .pre .1)
+arcs-at-requires c κs = let t = turn (c .before .before .before) in omega (arith, t .before .loop .inv .1 .few, t .loop-test .taken, start t .pre .1)
 
 put-final-requires : tie.Need-put-final-requires Inv-loop μ-loop
 put-final-requires c κs =
@@ -60,7 +73,7 @@ put-final-requires c κs =
     let code = here .code-of in
     putting-room (x .codes .now) (x .last) (x .states .now) (x .count) (h .finals) (h .s) (code .result) (t .loop-test .taken)
     (start t .pre .0) (code .ensures)
-    (x .table .now) (h .table) (h .inv) (c .before .before .if1 .taken) (start t .pre .2) (c .arcs-at .ensures)
+    (x .table .now) (h .table) (h .inv) (c .before .before .before .if1 .taken) (start t .pre .2) (c .arcs-at .ensures)
 
 add-finals : tie.Need-add-finals Inv-loop μ-loop
 add-finals c = let t = turn (coded (put c .before)) in omega (arith, t .before .loop .inv .1 .few, t .loop-test .taken, start t .pre .1)
@@ -76,9 +89,13 @@ loop-again c =
     let h = t .before .loop in
     let x = start t .args in
     let code = here .code-of in
+    let made = at .before .before .weight-of in
+    let weight = toZ-ofZ {w = w32} (record { sfits = made .ok }) ∙ made .ensures .0 in
+    let stored : Weight → List ℕ = λ w. sets (h .table) (at .arcs-at .result) (final-record (record { state = h .s; weight = w })) in
     putting-more (x .codes .now) (x .last) (x .states .now) (x .count) (h .finals) (h .s) (code .result) (t .loop-test .taken)
     (start t .pre .0) (code .ensures)
-    (x .table .now) (h .table) (h .inv) _ (at .before .before .if1 .taken) (at .arcs-at .ensures) (put c .put-final .ensures) (put c .put-final .kept .0)
+    (x .table .now) (h .table) (h .inv) _ (at .before .before .before .if1 .taken) (at .arcs-at .ensures) (put c .put-final .ensures ∙ ap stored weight)
+    (put c .put-final .kept .0)
 
 loop-less-2 : tie.Need-loop-less-2 Inv-loop μ-loop
 loop-less-2 c = omega (arith, turn (c .before) .loop-test .taken)
@@ -115,7 +132,7 @@ put-finals-spec =
     code-of-requires
     cast-state
     add-s
-    sub-t15
+    weight-of-requires
     arcs-at-requires
     put-final-requires
     add-finals

@@ -7,9 +7,14 @@ use mathlib.Core.List.{_∷_, []}
 use Prim.Native.Nat.{ℕ, _+_, _-_, _≤_, _<_}
 use native.Mathlib.Omega.{arith}
 use lib.ListN.{length, getD}
+use mir.Syntax.{w32}
+use mir.Val.{toZ, ofZ}
+use mir.Facts.{toZ-ofZ}
 use Rattle.transducer.specs.Format.{Transducer, decode, Good, max-states, max-arcs, max-symbols}
 use Rattle.transducer.proofs.RoundTrip.{accepted-good, good-range, good-content}
-use Rattle.explore.specs.Walk.{Sofar, state-served, Walked}
+use Rattle.transducer.specs.Weight.{Weight}
+use Rattle.transducer.specs.declared.Arc.{Arc}
+use Rattle.explore.specs.Walk.{Sofar, state-served, Walked, Went, taken}
 use Rattle.explore.proofs.Walking.{Taking}
 use Rattle.lattice.specs.declared.State.{State}
 use Rattle.lattice.specs.Pack.{unpacked}
@@ -54,7 +59,7 @@ abbrev at-turn : tie.After-arc-of Inv-loop μ-loop → tie.At-loop Inv-loop μ-l
 at-turn c = c .before .before
 
 abbrev at-arc : tie.After-struct-known2 Inv-loop μ-loop → tie.After-arc-of Inv-loop μ-loop
-at-arc c = c .before .before .before
+at-arc c = c .before .before .before .before
 
 abbrev at-pack : tie.After-take-step Inv-loop μ-loop → tie.After-pack Inv-loop μ-loop
 at-pack c = c .before .before .before .before .before .before
@@ -200,13 +205,13 @@ target-lt c =
     rw (c .arc-of .ensures) (omega (arith, good-content t g .target (at-turn c .loop .i) (below (c .before)), good-range t g .states))
 
 add-pack : tie.Need-add-pack Inv-loop μ-loop
-add-pack c = omega (arith, target-le (c .before))
+add-pack c = omega (arith, target-le (c .before .before))
 
 cast-pack : tie.Need-cast-pack Inv-loop μ-loop
 cast-pack c = omega (arith, target-lt (at-arc c))
 
 pack-requires : tie.Need-pack-requires Inv-loop μ-loop
-pack-requires c κs = (omega (arith, target-le (c .before .before)), target-lt (at-arc c))
+pack-requires c κs = (omega (arith, target-le (c .before .before .before)), target-lt (at-arc c))
 
 -- The step of this turn's arc.
 taken-here : (c : tie.After-pack Inv-loop μ-loop)
@@ -226,7 +231,12 @@ taken-here c =
     (c .pack .result) (c .pack .ensures) (w .0 .taken) (w .1 .left ∙ symbol-is (at-symbol turn)) (omega (arith, same, w .2)))
     (λ w. empty-taken (s .args .string .now) (table-of s) x (turn .loop .i) (s .args .source) (at .arc-of .result) (at .arc-of .ensures) _ refl
     (c .pack .result) (c .pack .ensures) (w .0 .left) (omega (arith, same, w .1)))
-    (c .before .before .before .if1 .came)
+    (c .before .before .before .before .if1 .came)
+
+-- The weight goes over from arc to arc as it is.
+weight-is : (c : tie.After-pack Inv-loop μ-loop) →
+    toZ w32 (ofZ w32 (at-arc (c .before) .arc-of .result .weight)) ≡ at-arc (c .before) .arc-of .result .weight
+weight-is c = toZ-ofZ (record { sfits = c .before .before .before .struct-told .given .1 .1 .1 .1 .0 .1 })
 
 take-step-requires : tie.Need-take-step-requires Inv-loop μ-loop
 take-step-requires c κs =
@@ -253,9 +263,15 @@ returns c = λ b k.
     let g = turn .loop .inv .0 b k in
     let call = at .take-step in
     let out = call .last .1 .1 .1 .1 in
+    let a = read .arc-of .result in
+    let step : Weight → Arc = λ w.
+    record { source = s .args .source; input = a .input; output = a .output; target = a .target; weight = w } in
+    let went =
+    subst (λ (w : Weight). Went 1 (taken (s .args .source) (arc-keyed (step w) (turn .loop .i) (at-pack at .pack .result)) (g .sofar)) (call .result)
+    (out .0) (out .1 .0) (out .1 .1 .0) (out .1 .1 .1 .0) (out .1 .1 .1 .1 .0)) (weight-is (at-pack at)) (call .ensures (g .sofar) (g .walked)) in
     serving-full (s .args .string .now) (table-of s) (unpacked (key-of s)) g (read .before .loop-test .taken)
     (arc-keyed (leaving (s .args .source) (read .arc-of .result)) (turn .loop .i) (at-pack at .pack .result)) (taken-here (at-pack at)) (call .result)
-    (out .0) (out .1 .0) (out .1 .1 .0) (out .1 .1 .1 .0) (out .1 .1 .1 .1 .0) (call .ensures (g .sofar) (g .walked)) (c .if3 .taken)
+    (out .0) (out .1 .0) (out .1 .1 .0) (out .1 .1 .1 .0) (out .1 .1 .1 .1 .0) went (c .if3 .taken)
 
 loop-less-2 : tie.Need-loop-less-2 Inv-loop μ-loop
 loop-less-2 c = omega (arith, arc-read (at-step (c .before)) .before .loop-test .taken)
@@ -271,9 +287,15 @@ loop-again-2 c =
     let kept = call .kept .1 .1 .1 .1 in (
       λ b k.
           let g = turn .loop .inv .0 b k in
+          let a = read .arc-of .result in
+          let step : Weight → Arc = λ w.
+          record { source = s .args .source; input = a .input; output = a .output; target = a .target; weight = w } in
+          let went =
+          subst (λ (w : Weight). Went 1 (taken (s .args .source) (arc-keyed (step w) (turn .loop .i) (at-pack at .pack .result)) (g .sofar)) (call .result)
+          (out .0) (out .1 .0) (out .1 .1 .0) (out .1 .1 .1 .0) (out .1 .1 .1 .1 .0)) (weight-is (at-pack at)) (call .ensures (g .sofar) (g .walked)) in
           serving-next (s .args .string .now) (table-of s) (unpacked (key-of s)) g (read .before .loop-test .taken)
           (arc-keyed (leaving (s .args .source) (read .arc-of .result)) (turn .loop .i) (at-pack at .pack .result)) (taken-here (at-pack at)) (call .result)
-          (out .0) (out .1 .0) (out .1 .1 .0) (out .1 .1 .1 .0) (out .1 .1 .1 .1 .0) (call .ensures (g .sofar) (g .walked)) (c .if3 .left),
+          (out .0) (out .1 .0) (out .1 .1 .0) (out .1 .1 .1 .0) (out .1 .1 .1 .1 .0) went (c .if3 .left),
       kept .0 ∙ turn .loop .inv .1,
       kept .1 .0 ∙ turn .loop .inv .2,
       kept .1 .1 .0 ∙ turn .loop .inv .3,

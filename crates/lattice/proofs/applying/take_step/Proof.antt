@@ -6,6 +6,8 @@ use mathlib.Core.List.{[], _∷_}
 use Prim.Native.Nat.{_<_}
 use native.Mathlib.Omega.{arith}
 use lib.ListN.{length, length-set}
+use mir.Syntax.{w32}
+use mir.Facts.{toZ-ofZ}
 use Rattle.transducer.specs.Format.{max-states}
 use Rattle.explore.specs.Walk.{traced-by}
 use Rattle.explore.proofs.Search.{place-le}
@@ -35,7 +37,7 @@ abbrev at-record : tie.After-slice-known5 → tie.After-record-arc
 at-record c = c .before .before
 
 abbrev joined : tie.After-slice-known5 → tie.Joined2
-joined c = at-record c .before .before
+joined c = at-record c .before .before .before
 
 find-requires : tie.Need-find-requires
 find-requires c κs =
@@ -109,12 +111,13 @@ returns-2 c = λ b k.
     let find = found at .find in
     let store = at-store at .store-new in
     let put = at-record c .record-arc in
+    let weight = toZ-ofZ {w = w32} {z = a .a .weight} (record { sfits = at-record c .before .before .struct-told .given .1 .1 .1 .1 .0 .1 }) in
     let is = find .ensures (b .keys) (k .chained) (sym (k .states-are)) in
     let stored = store .ensures (b .keys) (sym (k .states-are)) is (k .chained) in
     went-done
     (walked-next 1 b (a .a .source) (find .result) (store .result) (arc-keyed (a .a) (a .i) (a .key)) (a .w) (put .result) (a .table .now) (put .last .0)
     (a .origins .now) (at .if2 .origins) (a .states .now) (store .last .0) (a .heads .now) (store .last .1 .0) (a .links .now) (store .last .1 .1 .0) k is
-    (stored .0) (stored .1) refl (traced at) (put .ensures))
+    (stored .0) (stored .1) refl (traced at) (rw weight at (put .ensures)))
 
 pub take-step-spec : {M : Type 1} → statement M
 take-step-spec =

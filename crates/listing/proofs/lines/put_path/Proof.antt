@@ -1,13 +1,17 @@
 -- `found` has the path that is walked to, and `got` what it gives the line: its cost, and its labels at the front of their buffer.
+use mathlib.Core.Path.{_≡_}
 use mathlib.Core.List.{List}
 use Prim.Native.Nat.{ℕ}
 use native.Mathlib.Omega.{arith}
 use borrow.Author.Needs.{needs}
-use lib.ListN.{replicate, length-replicate}
+use lib.ListN.{replicate, length-replicate, take}
+use mir.Syntax.{w64}
+use mir.Val.{toZ, ofZ}
+use mir.Facts.{toZ-ofZ}
 use Rattle.transducer.specs.Format.{max-path, decode}
 use Rattle.paths.proofs.Ready.{Sized, sized, prepared-ready}
 use Rattle.paths.proofs.NthSays.{Found, found}
-use Rattle.listing.proofs.NthLine.{Got, got}
+use Rattle.listing.proofs.NthLine.{Got, got, same-line}
 use Rattle.listing.proofs.lines.put_path.Statement.{statement}
 use Rattle.listing.proofs.lines.put_path.Tie as tie
 
@@ -42,6 +46,10 @@ told c =
     got (decode (x .args .table .now)) (size at) (x .pre .0 .finite) (x .pre .1) (omega (arith, length-replicate {A = ℕ} max-path 0)) (path at)
     (c .tell .ensures)
 
+-- The cost told, as it is handed on.
+cost-is : (c : tie.After-struct-told) → toZ w64 (ofZ w64 (tell-of (c .before) .tell .result .cost)) ≡ tell-of (c .before) .tell .result .cost
+cost-is c = toZ-ofZ (record { sfits = c .struct-told .given .1 .0 .1 })
+
 slice-aggregate-walk : tie.Need-slice-aggregate-walk
 slice-aggregate-walk c = search needs
 
@@ -73,15 +81,19 @@ cast-put-line c = search needs
 
 put-line-requires : tie.Need-put-line-requires
 put-line-requires c κs =
-    let at = tell-of c in
+    let at = tell-of (c .before) in
     let known = told at in
-    (known .inside, rw (known .is-line) (start (behind-walk at) .pre .2))
+    (known .inside, rw (cost-is c, known .is-line) (start (behind-walk at) .pre .2))
 
 same-length : tie.Need-same-length
 same-length c = search needs
 
 returns : tie.Need-returns
-returns c = rw (← told (tell-of (c .before .before .before)) .is-line) (c .before .before .put-line .ensures)
+returns c =
+    let handed = c .before .before .before in
+    let tell = tell-of (handed .before) in
+    let labels = take (tell .tell .result .labels) (tell .tell .last .1 .1 .1 .1 .1 .1 .0) in
+    rw (← told tell .is-line) (same-line (start (behind-walk tell) .args .k) labels (cost-is handed) (c .before .before .put-line .ensures))
 
 pub put-path-spec : {M : Type 1} → statement M
 put-path-spec =

@@ -1,19 +1,24 @@
 -- The invariant: the arcs from `i` on cost and write what is left of the path (`Telling`).
 use borrow.Author.Needs.{needs}
-use mathlib.Core.Path.{_≡_, refl, sym, _∙_}
+use mathlib.Core.Path.{_≡_, refl, sym, ap, _∙_}
 use Prim.Native.Nat.{_-_, _<_}
 use native.Mathlib.Omega.{arith}
 use lib.ListN.{length, getD, take}
 use lib.Seq.{length-take-le, getD-take}
+use mir.Syntax.{w32, w64}
+use mir.Val.{toZ, ofZ}
+use mir.Facts.{toZ-ofZ}
 use Rattle.wire.specs.Bytes.{Bytes}
 use Rattle.transducer.specs.Format.{decode}
+use Rattle.transducer.specs.Weight.{plus, weight-of}
 use Rattle.paths.proofs.Ready.{Sized, sized}
 use Rattle.paths.proofs.Telling.{Telling, Told-all, telling-first, telling-arc, telling-room, telling-past, telling-put, telling-stop, tells}
 use Rattle.paths.proofs.path.tell.Statement.{statement}
 use Rattle.paths.proofs.path.tell.Tie as tie
 
 abbrev Inv-loop : tie.InvT-loop
-Inv-loop table first start codes arcs len labels₀ s₀ cost₀ m₀ i₀ labels s cost m i = Telling (decode table) (take len arcs) (length labels₀) labels s cost m i
+Inv-loop table first start codes arcs len labels₀ s₀ cost₀ m₀ i₀ labels s cost m i =
+    Telling (decode table) (take len arcs) (length labels₀) labels s (toZ w64 cost) m i
 
 abbrev μ-loop : tie.MeasureT-loop
 μ-loop table first start codes arcs len labels₀ s₀ cost₀ m₀ i₀ labels s cost m i = len - i
@@ -48,7 +53,8 @@ is-arc : (c : Turn) → getD (entry (c .before) .before .args .arcs .now) (c .be
 is-arc c =
     let a = entry (c .before) .before .args in
     let l = c .before .loop in
-    telling-arc (decode (a .table .now)) (take (a .len) (a .arcs .now)) (length (a .labels .now)) (l .labels) (l .s) (l .cost) (l .m) (l .i) (getD (a .arcs .now) (l .i) 0) (l .inv) (inside c) (number c) .below
+    telling-arc (decode (a .table .now)) (take (a .len) (a .arcs .now)) (length (a .labels .now)) (l .labels) (l .s) (toZ w64 (l .cost)) (l .m) (l .i)
+    (getD (a .arcs .now) (l .i) 0) (l .inv) (inside c) (number c) .below
 
 loop-holds : tie.Need-loop-holds Inv-loop μ-loop
 loop-holds c =
@@ -73,63 +79,72 @@ arc-of-requires c κs = (entry (c .before .before) .before .pre .0, is-arc (c .b
 add-i : tie.Need-add-i Inv-loop μ-loop
 add-i c = omega (arith, c .before .before .loop-test .taken, entry (c .before .before .before) .before .pre .4)
 
-cast-cost : tie.Need-cast-cost Inv-loop μ-loop
-cast-cost c = search needs
-
-add-cost : tie.Need-add-cost Inv-loop μ-loop
-add-cost c =
+plus-requires : tie.Need-plus-requires Inv-loop μ-loop
+plus-requires c κs =
     let turn = c .before .before .before in
-    let l = turn .before .loop in
-    omega (arith, l .inv .low, turn .loop-test .taken, entry (turn .before) .before .pre .4, c .struct-known .given)
+    omega (arith, turn .before .loop .inv .low, turn .loop-test .taken, entry (turn .before) .before .pre .4)
+
+-- The cost with this arc's weight.
+cost-is : (c : tie.After-plus Inv-loop μ-loop) →
+    let got = c .before .before in
+    toZ w64 (ofZ w64 (c .plus .result)) ≡ plus (toZ w64 (got .before .before .before .loop .cost)) (got .arc-of .result .weight)
+cost-is c =
+    let got = c .before .before in
+    let weight = toZ-ofZ {w = w32} {z = got .arc-of .result .weight} (record { sfits = c .before .struct-told .given .1 .1 .1 .1 .0 .1 }) in
+    toZ-ofZ {w = w64} (record { sfits = c .plus .ok }) ∙ (c .plus .ensures ∙ ap (plus (toZ w64 (got .before .before .before .loop .cost))) weight)
 
 cast-s : tie.Need-cast-s Inv-loop μ-loop
 cast-s c = search needs
 
 loop-less : tie.Need-loop-less Inv-loop μ-loop
-loop-less c = omega (arith, c .before .before .before .before .before .before .loop-test .taken)
+loop-less c = omega (arith, c .before .before .before .before .before .before .before .loop-test .taken)
 
 loop-again : tie.Need-loop-again Inv-loop μ-loop
 loop-again c =
-    let got = c .before .before .before .before in
+    let summed = c .before .before .before in
+    let got = summed .before .before in
     let turn = got .before .before in
     let l = turn .before .loop in
     let known = entry (turn .before) in
     let a = known .before .args in
-    telling-past (decode (a .table .now)) (size known) (take (a .len) (a .arcs .now)) (length (a .labels .now)) (l .labels) (l .s) (l .cost) (l .m) (l .i) (getD (a .arcs .now) (l .i) 0)
-    (l .inv) (inside turn) (number turn) (got .arc-of .result) (got .arc-of .ensures) (c .if1 .taken)
+    rw (cost-is summed)
+    (telling-past (decode (a .table .now)) (size known) (take (a .len) (a .arcs .now)) (length (a .labels .now)) (l .labels) (l .s) (toZ w64 (l .cost)) (l .m)
+    (l .i) (getD (a .arcs .now) (l .i) 0) (l .inv) (inside turn) (number turn) (got .arc-of .result) (got .arc-of .ensures) (c .if1 .taken))
 
-free : (c : tie.Else1 Inv-loop μ-loop) → c .before .before .before .before .before .before .before .loop .m < 1023
+free : (c : tie.Else1 Inv-loop μ-loop) → c .before .before .before .before .before .before .before .before .loop .m < 1023
 free c =
-    let turn = c .before .before .before .before .before .before in
+    let turn = c .before .before .before .before .before .before .before in
     let l = turn .before .loop in
     let known = entry (turn .before) in
     let a = known .before .args in
-    telling-room (decode (a .table .now)) (size known) (take (a .len) (a .arcs .now)) (length (a .labels .now)) (l .labels) (l .s) (l .cost) (l .m) (l .i) (getD (a .arcs .now) (l .i) 0)
-    (l .inv) (inside turn) (number turn)
+    telling-room (decode (a .table .now)) (size known) (take (a .len) (a .arcs .now)) (length (a .labels .now)) (l .labels) (l .s) (toZ w64 (l .cost)) (l .m)
+    (l .i) (getD (a .arcs .now) (l .i) 0) (l .inv) (inside turn) (number turn)
 
 mul-labels : tie.Need-mul-labels Inv-loop μ-loop
 mul-labels c = omega (arith, free c)
 
 slice-write-labels : tie.Need-slice-write-labels Inv-loop μ-loop
 slice-write-labels c =
-    let l = c .before .before .before .before .before .before .before .loop in
+    let l = c .before .before .before .before .before .before .before .before .loop in
     omega (arith, free c, l .inv .long, l .inv .enough)
 
 add-m : tie.Need-add-m Inv-loop μ-loop
 add-m c = omega (arith, free c)
 
 loop-less-2 : tie.Need-loop-less-2 Inv-loop μ-loop
-loop-less-2 c = omega (arith, c .before .before .before .before .before .before .loop-test .taken)
+loop-less-2 c = omega (arith, c .before .before .before .before .before .before .before .loop-test .taken)
 
 loop-again-2 : tie.Need-loop-again-2 Inv-loop μ-loop
 loop-again-2 c =
-    let got = c .before .before .before .before in
+    let summed = c .before .before .before in
+    let got = summed .before .before in
     let turn = got .before .before in
     let l = turn .before .loop in
     let known = entry (turn .before) in
     let a = known .before .args in
-    telling-put (decode (a .table .now)) (size known) (take (a .len) (a .arcs .now)) (length (a .labels .now)) (l .labels) (l .s) (l .cost) (l .m) (l .i) (getD (a .arcs .now) (l .i) 0)
-    (l .inv) (inside turn) (number turn) (got .arc-of .result) (got .arc-of .ensures) (c .if1 .left)
+    rw (cost-is summed)
+    (telling-put (decode (a .table .now)) (size known) (take (a .len) (a .arcs .now)) (length (a .labels .now)) (l .labels) (l .s) (toZ w64 (l .cost)) (l .m)
+    (l .i) (getD (a .arcs .now) (l .i) 0) (l .inv) (inside turn) (number turn) (got .arc-of .result) (got .arc-of .ensures) (c .if1 .left))
 
 clear16-requires : tie.Need-clear16-requires Inv-loop μ-loop
 clear16-requires c κs =
@@ -140,12 +155,17 @@ clear16-requires c κs =
 at-state' : (c : tie.After-loop Inv-loop μ-loop) → c .before .loop .s < 1024
 at-state' c = omega (arith, c .before .loop .inv .inside, size (entry (c .before)) .states)
 
-told : (c : tie.After-loop Inv-loop μ-loop) → Told-all (decode (entry (c .before) .before .args .table .now)) (take (entry (c .before) .before .args .len) (entry (c .before) .before .args .arcs .now)) (length (entry (c .before) .before .args .labels .now)) (c .before .loop .labels) (c .before .loop .s) (c .before .loop .cost) (c .before .loop .m) (getD (entry (c .before) .before .args .codes .now) (c .before .loop .s) 0)
+told : (c : tie.After-loop Inv-loop μ-loop)
+    → Told-all (decode (entry (c .before) .before .args .table .now))
+    (take (entry (c .before) .before .args .len) (entry (c .before) .before .args .arcs .now)) (length (entry (c .before) .before .args .labels .now))
+    (c .before .loop .labels) (c .before .loop .s) (toZ w64 (c .before .loop .cost)) (c .before .loop .m)
+    (getD (entry (c .before) .before .args .codes .now) (c .before .loop .s) 0)
 told c =
     let known = entry (c .before) in
     let a = known .before .args in
     let l = c .before .loop in
-    telling-stop (decode (a .table .now)) (size known) (take (a .len) (a .arcs .now)) (length (a .labels .now)) (l .labels) (a .codes .now) (l .s) (l .cost) (l .m) (l .i) (getD (a .codes .now) (l .s) 0)
+    telling-stop (decode (a .table .now)) (size known) (take (a .len) (a .arcs .now)) (length (a .labels .now)) (l .labels) (a .codes .now) (l .s)
+    (toZ w64 (l .cost)) (l .m) (l .i) (getD (a .codes .now) (l .s) 0)
     (l .inv) (omega (arith, c .loop-test .left, long known)) (known .before .pre .2) (at-state' c) refl
 
 abbrev stop : tie.After-code Inv-loop μ-loop → tie.After-loop Inv-loop μ-loop
@@ -157,31 +177,35 @@ mul-code c = omega (arith, at-state' (c .before .before .before .before))
 element-copy-out-code : tie.Need-element-copy-out-code Inv-loop μ-loop
 element-copy-out-code c = at-state' (c .before .before .before .before)
 
-sub-t27 : tie.Need-sub-t27 Inv-loop μ-loop
-sub-t27 c = omega (arith, told (stop c) .some)
+weight-of-requires : tie.Need-weight-of-requires Inv-loop μ-loop
+weight-of-requires c κs = (told (stop c) .some, told (stop c) .code-low)
 
-cast-t28 : tie.Need-cast-t28 Inv-loop μ-loop
-cast-t28 c = omega (arith, told (stop c) .code-low)
+plus-requires-2 : tie.Need-plus-requires-2 Inv-loop μ-loop
+plus-requires-2 c κs = omega (arith, told (stop (c .before)) .low)
 
-add-t29 : tie.Need-add-t29 Inv-loop μ-loop
-add-t29 c = omega (arith, told (stop c) .code-low, told (stop c) .low)
+cast-t26 : tie.Need-cast-t26 Inv-loop μ-loop
+cast-t26 c = omega (arith, entry (stop (c .before .before) .before) .before .pre .4)
 
-cast-t30 : tie.Need-cast-t30 Inv-loop μ-loop
-cast-t30 c = omega (arith, entry (stop c .before) .before .pre .4)
-
-cast-t31 : tie.Need-cast-t31 Inv-loop μ-loop
-cast-t31 c = omega (arith, told (stop c) .few)
+cast-t29 : tie.Need-cast-t29 Inv-loop μ-loop
+cast-t29 c = omega (arith, told (stop (c .before .before)) .few)
 
 same-length : tie.Need-same-length Inv-loop μ-loop
-same-length c = c .before .before .before .clear16 .kept .0 ∙ stop c .before .loop .inv .long
+same-length c = c .before .before .before .before .before .clear16 .kept .0 ∙ stop (c .before .before) .before .loop .inv .long
 
 returns : tie.Need-returns Inv-loop μ-loop
 returns c =
-    let known = entry (stop c .before) in
+    let after = c .before .before in
+    let known = entry (stop after .before) in
     let a = known .before .args in
-    let l = stop c .before .loop in
-    tells (decode (a .table .now)) (take (a .len) (a .arcs .now)) (l .labels) (c .before .before .before .clear16 .last .0) (a .labels .now) (l .s) (l .cost) (l .m)
-    (getD (a .codes .now) (l .s) 0) (a .len) (told (stop c)) (sym (long known)) (c .before .before .before .clear16 .ensures)
+    let l = stop after .before .loop in
+    let code = getD (a .codes .now) (l .s) 0 in
+    let weight = toZ-ofZ {w = w32} (record { sfits = c .before .weight-of .ok }) ∙ c .before .weight-of .ensures .0 in
+    let cost : toZ w64 (ofZ w64 (c .plus2 .result)) ≡ plus (toZ w64 (l .cost)) (weight-of code) =
+    toZ-ofZ {w = w64} (record { sfits = c .plus2 .ok }) ∙ (c .plus2 .ensures ∙ ap (plus (toZ w64 (l .cost))) weight) in
+    rw cost
+    (tells (decode (a .table .now)) (take (a .len) (a .arcs .now)) (l .labels) (c .before .before .before .before .before .clear16 .last .0)
+    (a .labels .now) (l .s)
+    (toZ w64 (l .cost)) (l .m) code (a .len) (told (stop after)) (sym (long known)) (c .before .before .before .before .before .clear16 .ensures))
 
 pub tell-spec : {M : Type 1} → statement M
 tell-spec =
@@ -195,8 +219,7 @@ tell-spec =
     cast-j
     arc-of-requires
     add-i
-    cast-cost
-    add-cost
+    plus-requires
     cast-s
     loop-less
     loop-again
@@ -208,10 +231,9 @@ tell-spec =
     clear16-requires
     mul-code
     element-copy-out-code
-    sub-t27
-    cast-t28
-    add-t29
-    cast-t30
-    cast-t31
+    weight-of-requires
+    plus-requires-2
+    cast-t26
+    cast-t29
     same-length
     returns)

@@ -6,18 +6,18 @@ use lib.ListN.{length-replicate}
 use Rattle.wire.specs.Bytes.{Bytes}
 use Rattle.transducer.specs.Format.{Transducer, max-states, max-arcs, decode}
 use Rattle.paths.proofs.Ready.{Sized, sized}
-use Rattle.shortest.specs.Queue.{Draining, none, to-do}
+use Rattle.shortest.specs.Queue.{mark, Draining, none, to-do}
 use Rattle.shortest.proofs.Waiting.{pop-state}
-use Rattle.shortest.proofs.Draining.{draining-popped, popped-less, draining-stop}
+use Rattle.shortest.proofs.Draining.{draining-popped, popped-less, draining-stop, draining-stuck}
 use Rattle.shortest.proofs.near.drain.Statement.{statement}
 use Rattle.shortest.proofs.near.drain.Tie as tie
 
 abbrev Inv-loop : tie.InvT-loop
-Inv-loop table first states arcs costs₀ lens₀ heads into ring₀ waits₀ count₀ head₀ costs lens ring waits count head =
-    Draining (decode table) none costs lens ring waits head count
+Inv-loop table first states arcs marks costs₀ lens₀ heads into ring₀ waits₀ count₀ head₀ costs lens ring waits count head =
+    Draining (decode table) (mark marks) none costs lens ring waits head count
 
 abbrev μ-loop : tie.MeasureT-loop
-μ-loop table first states arcs costs₀ lens₀ heads into ring₀ waits₀ count₀ head₀ costs lens ring waits count head = to-do (decode table) costs lens count
+μ-loop table first states arcs marks costs₀ lens₀ heads into ring₀ waits₀ count₀ head₀ costs lens ring waits count head = to-do (decode table) costs lens count
 
 -- The entry, with what is known of the bytes.
 abbrev Entry : Type 0
@@ -43,7 +43,7 @@ abbrev Turn : Type 0
 Turn = tie.In-loop Inv-loop μ-loop
 
 abbrev by-target : Turn → tie.After-by-target Inv-loop μ-loop
-by-target c = placed (c .before .before)
+by-target c = placed (c .before .before .before)
 
 abbrev entry : Turn → Entry
 entry c = entry-of (by-target c)
@@ -67,10 +67,13 @@ by-target-requires c κs =
 relax-all-requires : tie.Need-relax-all-requires Inv-loop μ-loop
 relax-all-requires c κs =
     let pre = entry-of (c .before .before .before .before) .before .pre in
-    (pre .0, pre .2, pre .3, pre .4, length-replicate {A = ℕ} max-states 0, refl)
+    (pre .0, pre .1, pre .2, pre .3, pre .4, length-replicate {A = ℕ} max-states 0, refl)
+
+returns : tie.Need-returns Inv-loop μ-loop
+returns c = let r = c .before .relax-all .ensures in draining-stuck (r .cells) (r .nearing) (r .stays (c .if1 .taken))
 
 loop-holds : tie.Need-loop-holds Inv-loop μ-loop
-loop-holds c = c .relax-all .ensures
+loop-holds c = c .before .relax-all .ensures .draining (c .if1 .left)
 
 pop-requires : tie.Need-pop-requires Inv-loop μ-loop
 pop-requires c κs =
@@ -92,23 +95,27 @@ relax-into-requires c κs =
     let t = turn popped in
     let from = entry t in (
       from .before .pre .0,
+      from .before .pre .1,
       by-target t .by-target .ensures,
       is-state popped,
       draining-popped (size from) (t .before .loop .inv) (t .loop-test .taken) (popped .pop .result) (popped .pop .ensures .0) (popped .pop .ensures .1)
           (next .behind .ensures .0),
     )
 
+returns-2 : tie.Need-returns-2 Inv-loop μ-loop
+returns-2 c = let r = c .before .relax-into .ensures in draining-stuck (r .cells) (r .nearing) (r .stays (c .if2 .taken))
+
 loop-less : tie.Need-loop-less Inv-loop μ-loop
 loop-less c =
-    let t = turn (gone (c .before) .before) in
+    let t = turn (gone (c .before .before) .before) in
     let now' = t .before .loop in
-    popped-less (whole (entry t)) (now' .costs) (now' .lens) (now' .count) (t .loop-test .taken) (c .relax-into .ensures .1)
+    popped-less (whole (entry t)) (now' .costs) (now' .lens) (now' .count) (t .loop-test .taken) (c .before .relax-into .ensures .falls (c .if2 .left))
 
 loop-again : tie.Need-loop-again Inv-loop μ-loop
-loop-again c = c .relax-into .ensures .0
+loop-again c = c .before .relax-into .ensures .draining (c .if2 .left)
 
-returns : tie.Need-returns Inv-loop μ-loop
-returns c = draining-stop (size (entry-of (placed (c .before .before)))) (c .before .loop .inv) (c .loop-test .left)
+returns-3 : tie.Need-returns-3 Inv-loop μ-loop
+returns-3 c = draining-stop (size (entry-of (placed (c .before .before .before)))) (c .before .loop .inv) (c .loop-test .left)
 
 pub drain-spec : {M : Type 1} → statement M
 drain-spec =
@@ -118,11 +125,13 @@ drain-spec =
     μ-loop
     by-target-requires
     relax-all-requires
+    returns
     loop-holds
     pop-requires
     behind-requires
     sub-relax-into
     relax-into-requires
+    returns-2
     loop-less
     loop-again
-    returns)
+    returns-3)

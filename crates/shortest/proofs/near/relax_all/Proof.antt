@@ -4,18 +4,18 @@ use native.Mathlib.Omega.{arith}
 use Rattle.wire.specs.Bytes.{Bytes}
 use Rattle.transducer.specs.Format.{decode}
 use Rattle.paths.proofs.Ready.{Sized, sized}
-use Rattle.shortest.specs.Queue.{Draining}
+use Rattle.shortest.specs.Queue.{mark, Draining}
 use Rattle.shortest.proofs.Waiting.{queue-none}
-use Rattle.shortest.proofs.Draining.{from-on, ordered-first, ordered-next, ordered-stop, draining-joined}
+use Rattle.shortest.proofs.Draining.{from-on, ordered-first, ordered-next, ordered-stop, draining-joined, drains, drains-stuck}
 use Rattle.shortest.proofs.near.relax_all.Statement.{statement}
 use Rattle.shortest.proofs.near.relax_all.Tie as tie
 
 abbrev Inv-loop : tie.InvT-loop
-Inv-loop table first arcs costs₀ lens₀ ring₀ waits₀ count₀ i₀ costs lens ring waits count i =
-    Draining (decode table) (from-on i) costs lens ring waits 0 count
+Inv-loop table first states arcs marks costs₀ lens₀ ring₀ waits₀ count₀ i₀ costs lens ring waits count i =
+    Draining (decode table) (mark marks) (from-on i) costs lens ring waits 0 count
 
 abbrev μ-loop : tie.MeasureT-loop
-μ-loop table first arcs costs₀ lens₀ ring₀ waits₀ count₀ i₀ costs lens ring waits count i = arcs - i
+μ-loop table first states arcs marks costs₀ lens₀ ring₀ waits₀ count₀ i₀ costs lens ring waits count i = arcs - i
 
 -- A turn of the loop.
 abbrev Turn : Type 0
@@ -36,30 +36,36 @@ size c =
 loop-holds : tie.Need-loop-holds Inv-loop μ-loop
 loop-holds c =
     let pre = c .before .pre in
-    ordered-first (pre .3) (pre .2) (queue-none (decode (c .before .args .table .now) .states) (size c .states) (pre .4) (pre .5))
+    ordered-first (pre .4) (pre .3) (queue-none (decode (c .before .args .table .now) .states) (size c .states) (pre .5) (pre .6))
 
 relax-and-join-requires : tie.Need-relax-and-join-requires Inv-loop μ-loop
 relax-and-join-requires c κs =
     let t = c .before .before .before .before in
     let k = t .before .loop .inv in
     let pre = start t .pre in
-    (pre .0, omega (arith, t .loop-test .taken, pre .1), k .nearing, k .long, k .queue)
+    (pre .0, omega (arith, t .loop-test .taken, pre .2), pre .1, k .nearing, k .cells, k .queue)
+
+returns : tie.Need-returns Inv-loop μ-loop
+returns c = let r = c .before .relax-and-join .ensures in drains-stuck (r .cells) (r .nearing) (r .stays (c .if1 .taken))
 
 add-i : tie.Need-add-i Inv-loop μ-loop
-add-i c = omega (arith, turn c .loop-test .taken, start (turn c) .pre .1, size (turn c .before .before) .arcs)
+add-i c = let t = turn (c .before) in omega (arith, t .loop-test .taken, start t .pre .2, size (t .before .before) .arcs)
 
 loop-less : tie.Need-loop-less Inv-loop μ-loop
-loop-less c = omega (arith, turn c .loop-test .taken)
+loop-less c = omega (arith, turn (c .before) .loop-test .taken)
 
 loop-again : tie.Need-loop-again Inv-loop μ-loop
 loop-again c =
-    let now' = turn c .before .loop in
-    draining-joined (now' .inv) (now' .i) (c .relax-and-join .ensures) (λ x _. ordered-next (now' .i) x)
+    let now' = turn (c .before) .before .loop in
+    let r = c .before .relax-and-join .ensures in
+    draining-joined (now' .inv) (now' .i) (r .cells) (r .nearing) (r .joined (c .if1 .left)) (λ x _. ordered-next (now' .i) x)
 
-returns : tie.Need-returns Inv-loop μ-loop
-returns c = ordered-stop (c .before .loop .inv) (omega (arith, c .loop-test .left, c .before .before .before .pre .1))
+returns-2 : tie.Need-returns-2 Inv-loop μ-loop
+returns-2 c =
+    let known = c .before .before in
+    drains (size known) (ordered-stop (c .before .loop .inv) (omega (arith, c .loop-test .left, known .before .pre .2))) (omega arith)
 
 pub relax-all-spec : {M : Type 1} → statement M
 relax-all-spec =
     tie.close
-    (tie.spec Inv-loop μ-loop loop-holds relax-and-join-requires add-i loop-less loop-again returns)
+    (tie.spec Inv-loop μ-loop loop-holds relax-and-join-requires returns add-i loop-less loop-again returns-2)

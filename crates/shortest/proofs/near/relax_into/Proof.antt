@@ -7,16 +7,17 @@ use Rattle.transducer.specs.Format.{Transducer, max-states, max-arcs, decode}
 use Rattle.transducer.specs.Path.{arc}
 use Rattle.paths.proofs.Ready.{Sized, sized}
 use Rattle.reach.proofs.ByTarget.{heads-inside}
-use Rattle.shortest.proofs.Draining.{Relaxing, Stands, relaxing-first, relaxing-arc, relaxing-next, relaxing-stop}
+use Rattle.shortest.specs.Queue.{mark, to-do}
+use Rattle.shortest.proofs.Draining.{Relaxing, Stands, relaxing-first, relaxing-arc, relaxing-next, relaxing-stop, drains, drains-stuck}
 use Rattle.shortest.proofs.near.relax_into.Statement.{statement}
 use Rattle.shortest.proofs.near.relax_into.Tie as tie
 
 abbrev Inv-loop : tie.InvT-loop
-Inv-loop table first s heads into costs₀ lens₀ ring₀ waits₀ head count to at₀ waiting₀ costs lens ring waits at waiting =
-    Relaxing (decode table) s at costs₀ lens₀ count costs lens ring waits head waiting
+Inv-loop table first states s heads into marks costs₀ lens₀ ring₀ waits₀ head count to at₀ waiting₀ costs lens ring waits at waiting =
+    Relaxing (decode table) (mark marks) s at (to-do (decode table) costs₀ lens₀ count) costs lens ring waits head waiting
 
 abbrev μ-loop : tie.MeasureT-loop
-μ-loop table first s heads into costs₀ lens₀ ring₀ waits₀ head count to at₀ waiting₀ costs lens ring waits at waiting = to - at
+μ-loop table first states s heads into marks costs₀ lens₀ ring₀ waits₀ head count to at₀ waiting₀ costs lens ring waits at waiting = to - at
 
 -- The entry, with what is known of the bytes.
 abbrev Entry : Type 0
@@ -32,14 +33,14 @@ size c =
     sized bs bytes (c .before .pre .0 .accepted)
 
 is-state : (c : Entry) → c .before .args .s < max-states
-is-state c = omega (arith, c .before .pre .2, size c .states)
+is-state c = omega (arith, c .before .pre .3, size c .states)
 
 -- Where the arcs that lead to the state begin, and where those that lead to the next do.
 from-few : (c : Entry) → getD (c .before .args .heads .now) (c .before .args .s) 0 ≤ max-arcs
-from-few c = omega (arith, heads-inside (c .before .args .s) (c .before .pre .1) (omega (arith, c .before .pre .2)), size c .arcs)
+from-few c = omega (arith, heads-inside (c .before .args .s) (c .before .pre .2) (omega (arith, c .before .pre .3)), size c .arcs)
 
 to-few : (c : Entry) → getD (c .before .args .heads .now) (c .before .args .s + 1) 0 ≤ max-arcs
-to-few c = omega (arith, heads-inside (c .before .args .s + 1) (c .before .pre .1) (omega (arith, c .before .pre .2)), size c .arcs)
+to-few c = omega (arith, heads-inside (c .before .args .s + 1) (c .before .pre .2) (omega (arith, c .before .pre .3)), size c .arcs)
 
 -- A turn of the loop, and its arc.
 abbrev Turn : Type 0
@@ -57,7 +58,7 @@ number c = getD (entry c .before .args .into .now) (c .before .loop .at) 0
 stands : (c : Turn) → Stands (whole (entry c)) (entry c .before .args .s) (c .before .loop .at) (number c)
 stands c =
     let from = entry c .before in
-    relaxing-arc (from .pre .1) (from .args .s) (from .pre .2) (c .before .loop .inv .low) (c .loop-test .taken)
+    relaxing-arc (from .pre .2) (from .args .s) (from .pre .3) (c .before .loop .inv .low) (c .loop-test .taken)
 
 abbrev turn : tie.After-relax-and-join Inv-loop μ-loop → Turn
 turn c = c .before .before .before .before .before .before
@@ -86,7 +87,7 @@ cast-at c = omega (arith, from-few (c .before .before))
 loop-holds : tie.Need-loop-holds Inv-loop μ-loop
 loop-holds c =
     let from = c .before .before .before in
-    relaxing-first (from .pre .1) (from .args .s) (from .pre .2) (from .pre .3)
+    relaxing-first (from .pre .2) (from .args .s) (from .pre .3) (from .pre .4)
 
 mul-i : tie.Need-mul-i Inv-loop μ-loop
 mul-i c = omega (arith, few c)
@@ -101,22 +102,29 @@ relax-and-join-requires : tie.Need-relax-and-join-requires Inv-loop μ-loop
 relax-and-join-requires c κs =
     let t = c .before .before .before .before .before in
     let k = t .before .loop .inv .settling in
-    (entry t .before .pre .0, stands t .below, k .nearing, k .long, k .queue)
-
-add-at : tie.Need-add-at Inv-loop μ-loop
-add-at c = omega (arith, few (turn c))
-
-loop-less : tie.Need-loop-less Inv-loop μ-loop
-loop-less c = omega (arith, turn c .loop-test .taken)
-
-loop-again : tie.Need-loop-again Inv-loop μ-loop
-loop-again c = let t = turn c in relaxing-next (t .before .loop .inv) (number t) (stands t) (c .relax-and-join .ensures)
+    (entry t .before .pre .0, stands t .below, entry t .before .pre .1, k .nearing, k .cells, k .queue)
 
 returns : tie.Need-returns Inv-loop μ-loop
-returns c =
+returns c = let r = c .before .relax-and-join .ensures in drains-stuck (r .cells) (r .nearing) (r .stays (c .if1 .taken))
+
+add-at : tie.Need-add-at Inv-loop μ-loop
+add-at c = omega (arith, few (turn (c .before)))
+
+loop-less : tie.Need-loop-less Inv-loop μ-loop
+loop-less c = omega (arith, turn (c .before) .loop-test .taken)
+
+loop-again : tie.Need-loop-again Inv-loop μ-loop
+loop-again c =
+    let t = turn (c .before) in
+    let r = c .before .relax-and-join .ensures in
+    relaxing-next (t .before .loop .inv) (number t) (stands t) (r .cells) (r .nearing) (r .joined (c .if1 .left))
+
+returns-2 : tie.Need-returns-2 Inv-loop μ-loop
+returns-2 c =
     let at = c .before in
-    let from = at .before .before .before .before in
-    (relaxing-stop (from .pre .1) (from .args .s) (from .pre .2) (at .loop .inv) (c .loop-test .left), at .loop .inv .falls)
+    let known = at .before .before .before in
+    let from = known .before in
+    drains (size known) (relaxing-stop (from .pre .2) (from .args .s) (from .pre .3) (at .loop .inv) (c .loop-test .left)) (at .loop .inv .falls)
 
 pub relax-into-spec : {M : Type 1} → statement M
 relax-into-spec =
@@ -136,7 +144,8 @@ relax-into-spec =
     element-copy-out-i
     cast-i
     relax-and-join-requires
+    returns
     add-at
     loop-less
     loop-again
-    returns)
+    returns-2)

@@ -1,7 +1,6 @@
 -- The invariant: the arcs from `i` on are swept (`Sweeping`). A turn passes over the arcs of its source, or leaves its arc as no better or as better.
 use borrow.Author.Needs.{needs}
-use borrow.Author.Tests.{not-true}
-use mathlib.Core.Path.{_≡_, refl}
+use mathlib.Core.Path.{_≡_, refl, ap, _∙_}
 use Prim.Native.Nat.{ℕ, _+_, _-_, _<_}
 use native.Mathlib.Omega.{arith}
 use lib.ListN.{length, getD}
@@ -9,17 +8,20 @@ use Rattle.wire.specs.Bytes.{Bytes}
 use Rattle.transducer.specs.Format.{Transducer, max-states, decode}
 use Rattle.transducer.specs.Path.{arc}
 use Rattle.transducer.specs.Leaf.{arcs-below}
+use Rattle.transducer.specs.Weight.{Weight, no-weight}
 use Rattle.paths.proofs.Ready.{Sized, Range, sized, range}
+use Rattle.shortest.specs.Nearest.{by-state, is-nearest}
+use Rattle.shortest.proofs.Bounds.{cell-back}
 use Rattle.shortest.proofs.InPlace.{Sweeping, sweeping-first, sweeping-stop, sweeping-arc, sweeping-state, not-again}
-use Rattle.shortest.proofs.InPlace.{passed-less, sweeping-passed, sweeping-kept, sweeping-better}
+use Rattle.shortest.proofs.InPlace.{passed-less, sweeping-passed, sweeping-kept, sweeping-changed}
 use Rattle.shortest.proofs.near.sweep.Statement.{statement}
 use Rattle.shortest.proofs.near.sweep.Tie as tie
 
 abbrev Inv-loop : tie.InvT-loop
-Inv-loop table first arcs index costs₀ lens₀ again₀ low₀ i₀ costs lens again low i = Sweeping (decode table) low i costs lens again
+Inv-loop table first states arcs index plain costs₀ lens₀ again₀ low₀ i₀ costs lens again low i = Sweeping (decode table) plain low i costs lens again
 
 abbrev μ-loop : tie.MeasureT-loop
-μ-loop table first arcs index costs₀ lens₀ again₀ low₀ i₀ costs lens again low i = i
+μ-loop table first states arcs index plain costs₀ lens₀ again₀ low₀ i₀ costs lens again low i = i
 
 -- A turn of the loop.
 abbrev Turn : Type 0
@@ -40,7 +42,7 @@ size c =
 is-arc : (c : Turn) → c .before .loop .i - 1 < length (decode (start c .args .table .now) .arcs)
 is-arc c =
     let now' = c .before .loop in
-    sweeping-arc (whole c) (size c) (now' .low) (now' .i) (now' .costs) (now' .lens) (now' .again) (now' .inv) (c .loop-test .taken)
+    sweeping-arc (whole c) (size c) (start c .args .plain) (now' .low) (now' .i) (now' .costs) (now' .lens) (now' .again) (now' .inv) (c .loop-test .taken)
 
 -- The arc that was read: its two states, and the first arc of its source.
 abbrev Read : Type 0
@@ -51,7 +53,7 @@ states c =
     let t = c .before in
     let now' = t .before .loop in
     rw (c .arc-of .ensures)
-    (sweeping-state (whole t) (size t) (now' .low) (now' .i) (now' .costs) (now' .lens) (now' .again) (now' .inv) (t .loop-test .taken))
+    (sweeping-state (whole t) (size t) (start t .args .plain) (now' .low) (now' .i) (now' .costs) (now' .lens) (now' .again) (now' .inv) (t .loop-test .taken))
 
 below : (c : Read) → (c .arc-of .result .source < max-states) × (c .arc-of .result .target < max-states)
 below c =
@@ -68,7 +70,7 @@ to c = getD (start (c .before) .args .index .now) (c .arc-of .result .source + 1
 arcs : (c : Read) → Range (whole (c .before)) (c .arc-of .result .source) (from c) (to c)
 arcs c =
     let from = start (c .before) in
-    range (whole (c .before)) (from .args .index .now) (c .arc-of .result .source) _ _ (from .pre .2) (states c .0) refl refl
+    range (whole (c .before)) (from .args .index .now) (c .arc-of .result .source) _ _ (from .pre .3) (states c .0) refl refl
 
 abbrev tested : tie.After-is-nearest Inv-loop μ-loop → Read
 tested c = c .before .before .before .before
@@ -83,7 +85,7 @@ loop-holds : tie.Need-loop-holds Inv-loop μ-loop
 loop-holds c =
     let a = c .before .args in
     let pre = c .before .pre in
-    sweeping-first (decode (a .table .now)) (a .costs .now) (a .lens .now) _ (a .arcs) (pre .1) (pre .4) (pre .3)
+    sweeping-first (decode (a .table .now)) (a .plain) (a .costs .now) (a .lens .now) _ (a .arcs) (pre .2) (pre .6) (pre .5) (pre .4)
 
 sub-i : tie.Need-sub-i Inv-loop μ-loop
 sub-i c = omega (arith, c .loop-test .taken)
@@ -128,7 +130,7 @@ loop-less c =
     let got = tested (c .before .before) in
     let t = got .before in
     let now' = t .before .loop in
-    passed-less (whole t) (size t) (now' .low) (now' .i) (now' .costs) (now' .lens) (now' .again) (now' .inv) (t .loop-test .taken)
+    passed-less (whole t) (size t) (start t .args .plain) (now' .low) (now' .i) (now' .costs) (now' .lens) (now' .again) (now' .inv) (t .loop-test .taken)
     (from got) (first-of got)
 
 loop-again : tie.Need-loop-again Inv-loop μ-loop
@@ -136,8 +138,11 @@ loop-again c =
     let got = tested (c .before .before) in
     let t = got .before in
     let now' = t .before .loop in
-    sweeping-passed (whole t) (size t) (now' .low) (now' .i) (now' .costs) (now' .lens) (now' .again) (now' .inv) (t .loop-test .taken)
-    (got .arc-of .result) (got .arc-of .ensures) (c .before .before .is-nearest .ensures) (c .before .if1 .taken) (from got) (arcs got .from-is)
+    let src = got .arc-of .result .source in
+    let cell = cell-back (now' .inv .cells) src in
+    let near = c .before .before .is-nearest .ensures ∙ ap (λ (x : Weight). is-nearest no-weight x (by-state (now' .lens) src)) cell in
+    sweeping-passed (whole t) (size t) (start t .args .plain) (now' .low) (now' .i) (now' .costs) (now' .lens) (now' .again) (now' .inv) (t .loop-test .taken)
+    (got .arc-of .result) (got .arc-of .ensures) near (c .before .if1 .taken) (from got) (arcs got .from-is)
 
 lower-requires : tie.Need-lower-requires Inv-loop μ-loop
 lower-requires c κs = tt
@@ -145,7 +150,7 @@ lower-requires c κs = tt
 relax-requires : tie.Need-relax-requires Inv-loop μ-loop
 relax-requires c κs =
     let t = read (c .before .before) .before in
-    (start t .pre .0, is-arc t, t .before .loop .inv .nearing, t .before .loop .inv .long)
+    (start t .pre .0, is-arc t, start t .pre .1, t .before .loop .inv .nearing, t .before .loop .inv .cells)
 
 loop-less-2 : tie.Need-loop-less-2 Inv-loop μ-loop
 loop-less-2 c = omega (arith, read (lowered (c .before)) .before .loop-test .taken)
@@ -157,10 +162,10 @@ loop-again-2 c =
     let got = read now-low in
     let t = got .before in
     let now' = t .before .loop in
-    sweeping-kept (whole t) (size t) (now' .low) (now' .i) (now' .costs) (now' .lens) (now' .again) (now' .inv)
+    sweeping-kept (whole t) (size t) (start t .args .plain) (now' .low) (now' .i) (now' .costs) (now' .lens) (now' .again) (now' .inv)
     (t .loop-test .taken) (got .arc-of .result) (got .arc-of .ensures) (now-low .lower .result) _ _ (relaxed .relax .result)
     (omega (arith, now-low .lower .ensures)) (omega (arith, now-low .lower .ensures)) (relaxed .relax .ensures)
-    (not-true (relaxed .relax .result) (c .if2 .taken))
+    (c .if2 .taken)
 
 loop-less-3 : tie.Need-loop-less-3 Inv-loop μ-loop
 loop-less-3 c = omega (arith, read (lowered (c .before .before)) .before .loop-test .taken)
@@ -172,15 +177,16 @@ loop-again-3 c =
     let got = read now-low in
     let t = got .before in
     let now' = t .before .loop in
-    sweeping-better (whole t) (size t) (now' .low) (now' .i) (now' .costs) (now' .lens) (now' .again) (now' .inv)
+    sweeping-changed (whole t) (size t) (start t .args .plain) (now' .low) (now' .i) (now' .costs) (now' .lens) (now' .again) (now' .inv)
     (t .loop-test .taken) (got .arc-of .result) (got .arc-of .ensures) (now-low .lower .result) _ _ (relaxed .relax .result)
     (omega (arith, now-low .lower .ensures)) (omega (arith, now-low .lower .ensures)) (relaxed .relax .ensures) _
-    (not-again (now' .again) (got .arc-of .result .source) (now-low .lower .result))
+    (not-again (now' .again) (relaxed .relax .result) (got .arc-of .result .source) (now-low .lower .result))
 
 returns : tie.Need-returns Inv-loop μ-loop
 returns c =
     let now' = c .before .loop in
-    sweeping-stop (decode (c .before .before .before .args .table .now)) (now' .low) (now' .i) (now' .costs) (now' .lens) (now' .again) (now' .inv)
+    let a = c .before .before .before .args in
+    sweeping-stop (decode (a .table .now)) (a .plain) (now' .low) (now' .i) (now' .costs) (now' .lens) (now' .again) (now' .inv)
     (c .loop-test .left)
 
 pub sweep-spec : {M : Type 1} → statement M

@@ -7,7 +7,7 @@ use lib.ListN.{length, getD}
 use Rattle.wire.specs.Bytes.{Bytes}
 use Rattle.transducer.specs.Format.{max-states, decode}
 use Rattle.paths.proofs.Ready.{Sized, Range, sized, range}
-use Rattle.shortest.specs.Nearest.{by-state, first-tight}
+use Rattle.shortest.specs.Nearest.{cost-at, by-state, first-tight}
 use Rattle.shortest.proofs.Tight.{giving-tight}
 use Rattle.shortest.proofs.Along.{Walked, walked-first, walked-arc, walked-next, walked-done}
 use Rattle.shortest.proofs.near.walk.Statement.{statement}
@@ -15,14 +15,14 @@ use Rattle.shortest.proofs.near.walk.Tie as tie
 
 abbrev Inv-loop : tie.InvT-loop
 Inv-loop table first start len index costs lens out₀ s₀ n₀ out s n =
-    Walked (decode table) (first-tight (decode table) (by-state costs) (by-state lens)) start len (length out₀) out s n
+    Walked (decode table) (first-tight (decode table) (cost-at costs) (by-state lens)) start len (length out₀) out s n
 
 abbrev μ-loop : tie.MeasureT-loop
 μ-loop table first start len index costs lens out₀ s₀ n₀ out s n = len - n
 
 -- The first tight arcs, by the costs and numbers of arcs that were handed in.
 abbrev firsts : tie.Start Inv-loop μ-loop → ℕ → ℕ
-firsts x = let a = x .args in first-tight (decode (a .table .now)) (by-state (a .costs .now)) (by-state (a .lens .now))
+firsts x = let a = x .args in first-tight (decode (a .table .now)) (cost-at (a .costs .now)) (by-state (a .lens .now))
 
 -- A turn of the loop: its state, and the arcs of that.
 abbrev Turn : Type 0
@@ -57,7 +57,7 @@ is-first : (c : Sought) → c .first-giving .result ≡ firsts (start (turn c)) 
 is-first c =
     let a = start (turn c) .args in
     let s = turn c .before .loop .s in
-    giving-tight (decode (a .table .now)) (by-state (a .costs .now)) (by-state (a .lens .now)) s (getD (a .index .now) s 0) (getD (a .index .now) (s + 1) 0)
+    giving-tight (decode (a .table .now)) (cost-at (a .costs .now)) (by-state (a .lens .now)) s (getD (a .index .now) s 0) (getD (a .index .now) (s + 1) 0)
     (c .first-giving .result)
     (arcs (turn c) .from-is) (arcs (turn c) .to-is) (c .first-giving .ensures)
 
@@ -101,7 +101,7 @@ cast-to c = omega (arith, arcs (c .before .before) .inside, size (c .before .bef
 first-giving-requires : tie.Need-first-giving-requires Inv-loop μ-loop
 first-giving-requires c κs =
     let at = c .before .before in
-    (start at .pre .0, below at, arcs at .order, arcs at .inside)
+    (start at .pre .0, below at, arcs at .order, arcs at .inside, start at .pre .5)
 
 arc-of-requires : tie.Need-arc-of-requires Inv-loop μ-loop
 arc-of-requires c κs = (start (turn c) .pre .0, is-arc c)

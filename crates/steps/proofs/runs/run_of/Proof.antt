@@ -3,6 +3,8 @@ use borrow.Author.Needs.{needs}
 use borrow.Author.Tests.{eq-eqb, ne-eqb}
 use Prim.Native.Nat.{_<_}
 use native.Mathlib.Omega.{arith}
+use mir.Syntax.{w32}
+use mir.Facts.{toZ-ofZ}
 use Rattle.wire.specs.Bytes.{Bytes}
 use Rattle.steps.specs.Runs.{run-at}
 use Rattle.steps.proofs.RunCode.{opened-few}
@@ -26,7 +28,10 @@ cast-t11 c = search needs
 
 returns : tie.Need-returns
 unfolding run-at
-returns c = rw (c .before .arc-of .ensures, c .before .before .if1 .taken)
+returns c =
+    let got = c .before .before in
+    let weight = toZ-ofZ {w = w32} {z = got .arc-of .result .weight} (record { sfits = c .struct-told .given .1 .1 .1 .1 .0 .1 }) in
+    rw (weight, got .arc-of .ensures, got .before .if1 .taken)
 
 returns-2 : tie.Need-returns-2
 unfolding run-at
@@ -46,9 +51,11 @@ cast-t15 c = search needs
 returns-3 : tie.Need-returns-3
 unfolding run-at
 returns-3 c =
-    let other = c .before .before in
+    let got = c .before .before in
+    let other = got .before in
     let args = other .before .before .before .args in
-    rw (c .before .arc-of2 .ensures, other .before .if1 .left, ne-eqb (args .at .i) (args .last) (other .if2 .left))
+    let weight = toZ-ofZ {w = w32} {z = got .arc-of2 .result .weight} (record { sfits = c .struct-told2 .given .1 .1 .1 .1 .0 .1 }) in
+    rw (weight, got .arc-of2 .ensures, other .before .if1 .left, ne-eqb (args .at .i) (args .last) (other .if2 .left))
 
 pub run-of-spec : {M : Type 1} → statement M
 run-of-spec =

@@ -1,5 +1,8 @@
 -- The code is the definition, field by field.
 use borrow.Author.Needs.{needs}
+use mathlib.Core.Path.{_∙_}
+use mir.Syntax.{w32}
+use mir.Facts.{toZ-ofZ}
 use Rattle.transducer.specs.Format.{arc-at, weight-at}
 use Rattle.transducer.proofs.check.load_arc.Statement.{statement}
 use Rattle.transducer.proofs.check.load_arc.Tie as tie
@@ -28,17 +31,17 @@ add-u16-at-4 c = search needs
 u16-at-requires-4 : tie.Need-u16-at-requires-4
 u16-at-requires-4 c κs = search needs
 
-add-u32-at : tie.Need-add-u32-at
-add-u32-at c = search needs
+add-i32-at : tie.Need-add-i32-at
+add-i32-at c = search needs
 
-u32-at-requires : tie.Need-u32-at-requires
-u32-at-requires c κs = search needs
+i32-at-requires : tie.Need-i32-at-requires
+i32-at-requires c κs = search needs
 
 returns : tie.Need-returns
 unfolding arc-at weight-at
 returns c =
     rw (
-      c .u32-at .ensures,
+      toZ-ofZ {w = w32} (record { sfits = c .i32-at .ok }) ∙ c .i32-at .ensures,
       c .before .u16-at4 .ensures,
       c .before .before .u16-at3 .ensures,
       c .before .before .before .u16-at2 .ensures,
@@ -57,6 +60,6 @@ load-arc-spec =
     u16-at-requires-3
     add-u16-at-4
     u16-at-requires-4
-    add-u32-at
-    u32-at-requires
+    add-i32-at
+    i32-at-requires
     returns)

@@ -3,6 +3,8 @@ use borrow.Author.Needs.{needs}
 use Prim.Native.Nat.{_-_, _+_, _≤_, _<_}
 use native.Mathlib.Omega.{arith}
 use lib.ListN.{length}
+use mir.Syntax.{w32}
+use mir.Facts.{toZ-ofZ}
 use Rattle.wire.specs.Bytes.{Bytes}
 use Rattle.transducer.specs.Format.{head-finals}
 use Rattle.transducer.proofs.Finals.{Coded, coded-first, coded-inside, coded-state, coded-weight, coded-next, coded-stop}
@@ -34,26 +36,26 @@ load-final-requires c κs = inside c
 cast-state : tie.Need-cast-state Inv-loop μ-loop
 cast-state c = search needs
 
-add-codes : tie.Need-add-codes Inv-loop μ-loop
-add-codes c =
+code-of-requires : tie.Need-code-of-requires Inv-loop μ-loop
+code-of-requires c κs =
     let turn = c .before .before .before in
     let start = turn .before .before .before in
-    let most = coded-weight (start .args .bytes .now) (is-bytes turn) (start .pre .0) (c .before .before .load-final .result) (is-final turn)
-    (c .before .before .load-final .ensures) (turn .before .loop .inv) in
-    omega (arith, most)
+    let f = c .before .before .load-final in
+    let weight = toZ-ofZ {w = w32} {z = f .result .weight} (record { sfits = c .struct-told .given .1 .0 .1 }) in
+    rw weight (coded-weight (start .args .bytes .now) (is-bytes turn) (start .pre .0) (f .result) (is-final turn) (f .ensures) (turn .before .loop .inv))
 
 mul-codes : tie.Need-mul-codes Inv-loop μ-loop
 mul-codes c = search needs
 
 element-write-codes : tie.Need-element-write-codes Inv-loop μ-loop
 element-write-codes c =
-    let turn = c .before .before .before in
+    let turn = c .before .before .before .before in
     let start = turn .before .before .before in
-    coded-state (start .args .bytes .now) (is-bytes turn) (start .pre .0) (c .before .before .load-final .result) (is-final turn)
-    (c .before .before .load-final .ensures) (turn .before .loop .inv)
+    let f = c .before .before .before .load-final in
+    coded-state (start .args .bytes .now) (is-bytes turn) (start .pre .0) (f .result) (is-final turn) (f .ensures) (turn .before .loop .inv)
 
 add-place : tie.Need-add-place Inv-loop μ-loop
-add-place c = let turn = c .before .before .before in omega (arith, inside turn, turn .before .before .before .good)
+add-place c = let turn = c .before .before .before .before in omega (arith, inside turn, turn .before .before .before .good)
 
 add-i : tie.Need-add-i Inv-loop μ-loop
 add-i c = search needs
@@ -63,10 +65,12 @@ loop-less c = search needs
 
 loop-again : tie.Need-loop-again Inv-loop μ-loop
 loop-again c =
-    let turn = c .before .before .before in
+    let turn = c .before .before .before .before in
     let start = turn .before .before .before in
-    coded-next (start .args .bytes .now) (is-bytes turn) (start .pre .0) (c .before .before .load-final .result) (is-final turn)
-    (c .before .before .load-final .ensures) (turn .before .loop .inv)
+    let f = c .before .before .before .load-final in
+    let weight = toZ-ofZ {w = w32} {z = f .result .weight} (record { sfits = c .before .struct-told .given .1 .0 .1 }) in
+    rw (c .code-of .ensures .0, weight)
+    (coded-next (start .args .bytes .now) (is-bytes turn) (start .pre .0) (f .result) (is-final turn) (f .ensures) (turn .before .loop .inv))
 
 returns : tie.Need-returns Inv-loop μ-loop
 returns c =
@@ -83,7 +87,7 @@ put-codes-spec =
     loop-holds
     load-final-requires
     cast-state
-    add-codes
+    code-of-requires
     mul-codes
     element-write-codes
     add-place

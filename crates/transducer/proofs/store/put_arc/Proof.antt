@@ -1,5 +1,8 @@
 -- Seven stores, each right behind the one before, make the record.
 use borrow.Author.Needs.{needs}
+use mir.Syntax.{w32}
+use mir.Facts.{toZ-ofZ}
+use Rattle.transducer.specs.Encode.{weight-bytes}
 use Rattle.transducer.proofs.Encode.{sets-arc}
 use Rattle.transducer.proofs.store.put_arc.Statement.{statement}
 use Rattle.transducer.proofs.store.put_arc.Tie as tie
@@ -37,26 +40,30 @@ add-put-u16-5 c = search needs
 put-u16-requires-6 : tie.Need-put-u16-requires-6
 put-u16-requires-6 c κs = search needs
 
-add-put-u32 : tie.Need-add-put-u32
-add-put-u32 c = search needs
+add-put-i32 : tie.Need-add-put-i32
+add-put-i32 c = search needs
 
-put-u32-requires : tie.Need-put-u32-requires
-put-u32-requires c κs = search needs
+put-i32-requires : tie.Need-put-i32-requires
+put-i32-requires c κs = search needs
 
 same-length : tie.Need-same-length
 same-length c = search needs
 
 returns : tie.Need-returns
+unfolding weight-bytes
 returns c =
     let c7 = c .before .before in
-    let c6 = c7 .before .before .before .before in
+    let c6 = c7 .before .before .before .before .before in
     let c5 = c6 .before .before .before .before in
     let c4 = c5 .before .before .before .before in
     let c3 = c4 .before .before .before .before in
     let c2 = c3 .before .before .before .before in
     let c1 = c2 .before .before .before .before in
     let x = c1 .before .before .before .args in
-    sets-arc (x .out .now) (x .at) (x .a) (c1 .put-u16 .ensures) (c2 .put-u162 .ensures) (c3 .put-u163 .ensures) (c4 .put-u164 .ensures) (c5 .put-u165 .ensures) (c6 .put-u166 .ensures) (c7 .put-u32 .ensures)
+    let weight = toZ-ofZ {w = w32} {z = x .a .weight} (record { sfits = c7 .before .struct-told .given .1 .1 .1 .1 .0 .1 }) in
+    sets-arc (x .out .now) (x .at) (x .a) (c1 .put-u16 .ensures) (c2 .put-u162 .ensures) (c3 .put-u163 .ensures) (c4 .put-u164 .ensures)
+    (c5 .put-u165 .ensures) (c6 .put-u166 .ensures)
+    (rw weight at (c7 .put-i32 .ensures))
 
 pub put-arc-spec : {M : Type 1} → statement M
 put-arc-spec =
@@ -73,7 +80,7 @@ put-arc-spec =
     put-u16-requires-5
     add-put-u16-5
     put-u16-requires-6
-    add-put-u32
-    put-u32-requires
+    add-put-i32
+    put-i32-requires
     same-length
     returns)

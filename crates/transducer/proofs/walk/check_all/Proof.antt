@@ -1,6 +1,9 @@
 -- The code is the definition, by what the calls answer.
 use borrow.Author.Needs.{needs}
-use Rattle.transducer.specs.Check.{all-checked}
+use native.Mathlib.Omega.{arith}
+use mir.Syntax.{w32}
+use mir.Facts.{toZ-ofZ}
+use Rattle.transducer.specs.Check.{from-0, all-checked}
 use Rattle.transducer.proofs.walk.check_all.Statement.{statement}
 use Rattle.transducer.proofs.walk.check_all.Tie as tie
 
@@ -13,13 +16,25 @@ restart-requires c κs = search needs
 arcs-at-requires : tie.Need-arcs-at-requires
 arcs-at-requires c κs = search needs
 
+glance-at-requires : tie.Need-glance-at-requires
+glance-at-requires c κs = search needs
+
 check-arcs-requires : tie.Need-check-arcs-requires
-check-arcs-requires c κs = search needs
+unfolding from-0
+check-arcs-requires c κs =
+    let start = c .before .before .before .before .before in
+    (omega (arith, c .before .arcs-at .ensures, start .pre .0), rw (c .before .before .restart .ensures) (c .glance-at .ensures .plain))
 
 returns : tie.Need-returns
 unfolding all-checked
 returns c =
-    rw (c .check-arcs .ensures, c .before .arcs-at .ensures, c .before .before .restart .ensures, c .before .before .before .check-finals .ensures)
+    let glance = c .before .before in
+    let placed = glance .before in
+    let least = toZ-ofZ {w = w32} {z = glance .glance-at .result .least} (record { sfits = c .struct-told .given .1 .0 .1 }) in (
+      rw (c .before .check-arcs .ensures, placed .arcs-at .ensures, placed .before .restart .ensures, placed .before .before .check-finals .ensures),
+      rw (least, ← placed .arcs-at .ensures) (glance .glance-at .ensures .light),
+      rw (← placed .arcs-at .ensures) (glance .glance-at .ensures .up),
+    )
 
 pub check-all-spec : {M : Type 1} → statement M
 check-all-spec =
@@ -28,5 +43,6 @@ check-all-spec =
     check-finals-requires
     restart-requires
     arcs-at-requires
+    glance-at-requires
     check-arcs-requires
     returns)

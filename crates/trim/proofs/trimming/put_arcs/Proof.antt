@@ -1,14 +1,18 @@
 -- A loop that writes what is kept. The invariant, `Arcs-kept`: of the first `i` arcs those that are kept stand from `at` on, and their numbers
 -- at the front of the origins.
 use borrow.Author.Needs.{needs}
-use mathlib.Core.Path.{refl}
+use mathlib.Core.Path.{refl, ap, _∙_}
 use mathlib.Core.List.{List}
 use Prim.Native.Nat.{ℕ, _-_, _+_, _*_, _≤_, _<_}
 use native.Mathlib.Omega.{arith}
-use lib.ListN.{length}
+use lib.ListN.{length, getD}
+use mir.Syntax.{w32}
+use mir.Facts.{toZ-ofZ}
 use Rattle.wire.specs.Bytes.{Bytes}
 use Rattle.transducer.specs.Format.{arc-bytes, decode}
 use Rattle.transducer.proofs.Offsets.{length-arcs, accepted-within}
+use Rattle.transducer.specs.Weight.{Weight}
+use Rattle.transducer.specs.declared.Arc.{Arc}
 use Rattle.reach.proofs.Ends.{Arc-ends, arc-ends}
 use Rattle.trim.proofs.Running.{index-no, index-yes, index-arc}
 use Rattle.trim.proofs.KeptWritten.{Arcs-kept, arcs-first, arcs-skipped, arcs-more, arcs-stop, unused-source, unused-target, used-both}
@@ -41,7 +45,7 @@ abbrev turn-of : tie.Else2 Inv-loop μ-loop → tie.In-loop Inv-loop μ-loop
 turn-of c = loaded (source-kept c) .before
 
 abbrev both-kept : tie.After-put-arc Inv-loop μ-loop → tie.Else2 Inv-loop μ-loop
-both-kept c = c .before .before .before .before
+both-kept c = c .before .before .before .before .before
 
 -- In a turn: the bytes are bytes, there is an arc of this number, and its states are below the number of states.
 is-bytes : (c : tie.In-loop Inv-loop μ-loop) → Bytes (bytes-of c)
@@ -145,13 +149,13 @@ element-copy-out-origins : tie.Need-element-copy-out-origins Inv-loop μ-loop
 element-copy-out-origins c = omega (arith, ends (loaded (source-kept (c .before))))
 
 mul-put-arc : tie.Need-mul-put-arc Inv-loop μ-loop
-mul-put-arc c = let e = c .before .before .before in omega (arith, room e .0, start (turn-of e) .good)
+mul-put-arc c = let e = c .before .before .before .before in omega (arith, room e .0, start (turn-of e) .good)
 
 add-put-arc : tie.Need-add-put-arc Inv-loop μ-loop
-add-put-arc c = let e = c .before .before .before in omega (arith, room e .0, start (turn-of e) .good)
+add-put-arc c = let e = c .before .before .before .before in omega (arith, room e .0, start (turn-of e) .good)
 
 put-arc-requires : tie.Need-put-arc-requires Inv-loop μ-loop
-put-arc-requires c κs = let e = c .before .before .before in omega (arith, room e .0, turn-of e .before .loop .inv .long)
+put-arc-requires c κs = let e = c .before .before .before .before in omega (arith, room e .0, turn-of e .before .loop .inv .long)
 
 cast-origins : tie.Need-cast-origins Inv-loop μ-loop
 cast-origins c =
@@ -184,10 +188,15 @@ loop-again-3 c =
     let turn = turn-of e in
     let a = here .arc-of .result in
     let index = start turn .pre .2 in
+    let cells = start turn .args .index .now in
+    let weight = toZ-ofZ {w = w32} {z = a .weight} (record { sfits = put .before .before .struct-told .given .1 .1 .1 .1 .0 .1 }) in
+    let moved : Weight → Arc =
+    λ w. record { source = getD cells (a .source) 0; input = a .input; output = a .output; target = getD cells (a .target) 0; weight = w } in
     let used = used-both (decode (bytes-of turn)) a (index-yes index (a .source) (ends here .source-below) (source-kept e .if1 .left))
     (index-yes index (a .target) (ends here .target-below) (λ same. e .if2 .left (omega (arith, same)))) in
     arcs-more a (is-arc turn) (here .arc-of .ensures) (turn .before .loop .inv) _ _ _ used
-    (index-arc index a (ends here .source-below) (ends here .target-below)) (omega arith) (omega arith) (put .put-arc .kept .0) (put .put-arc .ensures) refl
+    (ap moved weight ∙ index-arc index a (ends here .source-below) (ends here .target-below)) (omega arith) (omega arith) (put .put-arc .kept .0)
+    (put .put-arc .ensures) refl
 
 same-length : tie.Need-same-length Inv-loop μ-loop
 same-length c = c .before .loop .inv .long

@@ -1,13 +1,16 @@
 -- A loop that writes what is kept. The invariant, `Finals-kept`: of the first `i` finals those that are kept stand behind the head.
 use borrow.Author.Needs.{needs}
-use mathlib.Core.Path.{_≡_}
+use mathlib.Core.Path.{_≡_, ap, _∙_}
 use mathlib.Core.List.{List}
 use Prim.Native.Nat.{ℕ, _-_, _+_, _≤_, _<_}
 use native.Mathlib.Omega.{arith}
 use lib.ListN.{length, getD}
+use mir.Syntax.{w32}
+use mir.Facts.{toZ-ofZ}
 use Rattle.wire.specs.Bytes.{Bytes}
 use Rattle.transducer.specs.Format.{max-states, final-bytes, arcs-at, decode, head-finals}
 use Rattle.transducer.proofs.Offsets.{length-finals, accepted-within}
+use Rattle.transducer.specs.Weight.{Weight}
 use Rattle.reach.proofs.Ends.{final-inside, final-loaded, final-state}
 use Rattle.trim.proofs.Running.{index-no, index-yes, index-final}
 use Rattle.trim.proofs.KeptWritten.{Finals-kept, finals-first, finals-skipped, finals-more, finals-stop}
@@ -34,7 +37,7 @@ abbrev at-load : tie.After-if13 Inv-loop μ-loop → tie.After-load-final Inv-lo
 at-load c = c .before .before .before
 
 abbrev kept-in : tie.After-arcs-at2 Inv-loop μ-loop → tie.Else1 Inv-loop μ-loop
-kept-in c = c .before .before .before
+kept-in c = c .before .before .before .before
 
 abbrev at-put : tie.After-slice-known2 Inv-loop μ-loop → tie.After-put-final Inv-loop μ-loop
 at-put c = c .before .before
@@ -128,7 +131,7 @@ count-small : (c : tie.Else1 Inv-loop μ-loop) → turn-of c .loop .count < max-
 count-small c = let turn = turn-of c in omega (arith, few c, start turn .pre .1, few-heads turn)
 
 arcs-at-requires-2 : tie.Need-arcs-at-requires-2 Inv-loop μ-loop
-arcs-at-requires-2 c κs = omega (arith, count-small (c .before .before))
+arcs-at-requires-2 c κs = omega (arith, count-small (c .before .before .before))
 
 put-final-requires : tie.Need-put-final-requires Inv-loop μ-loop
 put-final-requires c κs =
@@ -149,9 +152,12 @@ loop-again-2 c =
     let here = at-load (e .before) in
     let turn = turn-of e in
     let index = start turn .pre .2 in
+    let f = here .load-final .result in
+    let weight = toZ-ofZ {w = w32} {z = f .weight} (record { sfits = put .before .before .before .struct-told .given .1 .0 .1 }) in
     let used = index-yes index (here .load-final .result .state) (state-below here .0) (e .if1 .left) in
     finals-more (here .load-final .result) (is-final (here .before .before)) (loaded here) (turn .loop .inv) _ used
-    (index-final index (here .load-final .result) (state-below here .0)) (put .put-final .kept .0) (put .before .arcs-at2 .ensures) (put .put-final .ensures)
+    (ap (λ (w : Weight). record { state = getD (start turn .args .index .now) (f .state) 0; weight = w }) weight
+    ∙ index-final index f (state-below here .0)) (put .put-final .kept .0) (put .before .arcs-at2 .ensures) (put .put-final .ensures)
 
 same-length : tie.Need-same-length Inv-loop μ-loop
 same-length c = c .before .loop .inv .long

@@ -1,11 +1,11 @@
--- `limits::load::run32` is safe and ends, as `run16`.
+-- `limits::load::run_weights` is safe and ends, as `run16`.
 -- Assumes nothing.
 use borrow.Author.Needs.{needs}
 use Prim.Native.Nat.{_-_}
 use lib.ListN.{length}
 use mathlib.Core.Path.{_≡_}
-use Rattle.limits.proofs.load.run32.Statement.{statement}
-use Rattle.limits.proofs.load.run32.Tie as tie
+use Rattle.limits.proofs.load.run_weights.Statement.{statement}
+use Rattle.limits.proofs.load.run_weights.Tie as tie
 
 abbrev Inv-loop : tie.InvT-loop
 Inv-loop bytes run₀ i₀ run i = length run ≡ length run₀
@@ -25,17 +25,17 @@ same-length c = search needs
 returns : tie.Need-returns Inv-loop μ-loop
 returns c = search needs
 
-mul-u32-or-0 : tie.Need-mul-u32-or-0 Inv-loop μ-loop
-mul-u32-or-0 c = search needs
+mul-weight-or-0 : tie.Need-mul-weight-or-0 Inv-loop μ-loop
+mul-weight-or-0 c = search needs
 
-u32-or-0-requires : tie.Need-u32-or-0-requires Inv-loop μ-loop
-u32-or-0-requires c κs = search needs
+weight-or-0-requires : tie.Need-weight-or-0-requires Inv-loop μ-loop
+weight-or-0-requires c κs = search needs
 
-mul-run : tie.Need-mul-run Inv-loop μ-loop
-mul-run c = search needs
+mul-t6 : tie.Need-mul-t6 Inv-loop μ-loop
+mul-t6 c = search needs
 
-slice-write-run : tie.Need-slice-write-run Inv-loop μ-loop
-slice-write-run c = search needs
+slice-set-from-run : tie.Need-slice-set-from-run Inv-loop μ-loop
+slice-set-from-run c = search needs
 
 add-i : tie.Need-add-i Inv-loop μ-loop
 add-i c = search needs
@@ -52,8 +52,8 @@ same-length-2 c = search needs
 returns-2 : tie.Need-returns-2 Inv-loop μ-loop
 returns-2 c = search needs
 
-pub run32-spec : {M : Type 1} → statement M
-run32-spec =
+pub run-weights-spec : {M : Type 1} → statement M
+run-weights-spec =
     tie.close
     (tie.spec
     Inv-loop
@@ -62,10 +62,10 @@ run32-spec =
     mul-if1
     same-length
     returns
-    mul-u32-or-0
-    u32-or-0-requires
-    mul-run
-    slice-write-run
+    mul-weight-or-0
+    weight-or-0-requires
+    mul-t6
+    slice-set-from-run
     add-i
     loop-less
     loop-again

@@ -1,0 +1,49 @@
+-- Cycles below zero (paper 02: rings that sum below zero). Assumes nothing: these are definitions.
+use mathlib.Core.Path.{_≡_}
+use mathlib.Core.Bool.{Bool, true, false, _&&_, _||_}
+use mathlib.Core.List.{List, [], _∷_}
+use Prim.Native.Nat.{ℕ, zero, suc}
+use lib.Dec.{eqb}
+use Rattle.transducer.specs.declared.Arc.{Arc}
+use Rattle.transducer.specs.Format.{Transducer}
+use Rattle.transducer.specs.Path.{is-final, runs, ends, arcs-cost}
+use Rattle.transducer.specs.Weight.{Weight, no-weight, plus, Below, below}
+use Rattle.reach.specs.Reach.{accessible, coaccessible}
+
+-- A cycle below zero on an accepting path from a state: the path up to the cycle, the cycle, and the rest of the path.
+pub record Falling (t : Transducer) (s : ℕ) : Type 0 where
+  pub lead : List ℕ
+  pub cycle : List ℕ
+  pub rest : List ℕ
+  pub there : runs t s lead ≡ true
+  pub around : runs t (ends t s lead) cycle ≡ true
+  pub back : ends t (ends t s lead) cycle ≡ ends t s lead
+  pub on : runs t (ends t s lead) rest ≡ true
+  pub final : is-final (t .finals) (ends t (ends t s lead) rest) ≡ true
+  pub sum : Below (arcs-cost t cycle) no-weight
+
+-- Whether some arc of a run leaves a state and has a property.
+unfoldable pub some-leaving : List Arc → (s : ℕ) → (Arc → Bool) → Bool
+some-leaving [] s f = false
+some-leaving (a ∷ as') s f = (eqb (a .source) s && f a) || some-leaving as' s f
+
+-- Whether a cost and some path of at most so many arcs from a state to another sum below zero.
+unfoldable pub falls-to : (most : ℕ) → Transducer → (s to : ℕ) → (cost : Weight) → Bool
+falls-to zero t s to x = eqb s to && below x no-weight
+falls-to (suc most) t s to x =
+    (eqb s to && below x no-weight) || some-leaving (t .arcs) s (λ a. falls-to most t (a .target) to (plus x (a .weight)))
+
+-- Whether a cycle at a state sums below zero. A cycle that visits a state twice is two, and one of them sums below zero where both together do, so as
+-- many arcs as states are enough.
+unfoldable pub falls-round : Transducer → (s : ℕ) → Bool
+falls-round t s = falls-to (t .states) t s s no-weight
+
+-- Whether some number below n has a property.
+unfoldable pub some-below : (n : ℕ) → (ℕ → Bool) → Bool
+some-below zero f = false
+some-below (suc n) f = f n || some-below n f
+
+-- 19: whether a cycle below zero lies on an accepting path. Its state is accessible and coaccessible.
+unfoldable pub falling : Transducer → Bool
+falling t =
+    some-below (t .states) (λ s. accessible (t .states) t s && (coaccessible (t .states) t s && falls-round t s))

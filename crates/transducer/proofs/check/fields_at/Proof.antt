@@ -1,0 +1,43 @@
+-- Two numbers of four bytes.
+use borrow.Author.Needs.{needs}
+use Rattle.transducer.proofs.check.fields_at.Statement.{statement}
+use Rattle.transducer.proofs.check.fields_at.Tie as tie
+use Rattle.transducer.specs.Check.{eight}
+
+u32-at-requires : tie.Need-u32-at-requires
+u32-at-requires c κs = search needs
+
+wide64-requires : tie.Need-wide64-requires
+wide64-requires c κs = search needs
+
+add-u32-at : tie.Need-add-u32-at
+add-u32-at c = search needs
+
+u32-at-requires-2 : tie.Need-u32-at-requires-2
+u32-at-requires-2 c κs = search needs
+
+wide64-requires-2 : tie.Need-wide64-requires-2
+wide64-requires-2 c κs = search needs
+
+mul-result : tie.Need-mul-result
+mul-result c = search needs
+
+add-result : tie.Need-add-result
+add-result c = search needs
+
+returns : tie.Need-returns
+unfolding eight
+returns c = rw (c .wide642 .ensures, c .before .u32-at2 .ensures, c .before .before .wide64 .ensures, c .before .before .before .u32-at .ensures)
+
+pub fields-at-spec : {M : Type 1} → statement M
+fields-at-spec =
+    tie.close
+    (tie.spec
+    u32-at-requires
+    wide64-requires
+    add-u32-at
+    u32-at-requires-2
+    wide64-requires-2
+    mul-result
+    add-result
+    returns)

@@ -1,0 +1,185 @@
+-- The invariant (`Looking`): what a run leaves, with how much the least weight so far is below zero. That rises with each further run.
+use borrow.Author.Needs.{needs}
+use mathlib.Core.Path.{refl, _∙_}
+use mathlib.Core.Bool.{Bool, not}
+use Prim.Native.Nat.{_+_, _-_, _/_, _≤_}
+use native.Mathlib.Omega.{arith}
+use borrow.Author.Tests.{ltb-true, not-false}
+use lib.Bits.{bitAnd}
+use lib.Dec.{eqb}
+use lib.ListN.{length}
+use mir.Facts.{toZ-ofZ}
+use Rattle.transducer.specs.Check.{Glanced}
+use Rattle.transducer.specs.Weight.{rebate}
+use Rattle.transducer.proofs.Glance.{Looking, says-unsure, glanced-first, glanced-rows, glanced-rest, glanced-lower, glanced-under, glanced-stop}
+use Rattle.transducer.proofs.Glance.{glanced-unsure, rebate-lower}
+use Rattle.transducer.proofs.check.glance_at.Statement.{statement}
+use Rattle.transducer.proofs.check.glance_at.Tie as tie
+
+abbrev Inv-loop : tie.InvT-loop
+Inv-loop bytes at count n floor end each place₀ last₀ any₀ all₀ below₀ place last any all below = Looking bytes at count n each floor last any all below place
+
+abbrev μ-loop : tie.MeasureT-loop
+μ-loop bytes at count n floor end each place₀ last₀ any₀ all₀ below₀ place last any all below = 1000000 - below
+
+-- The first run, and the head of a further one.
+abbrev First : Type 0
+First = tie.After-run-on Inv-loop μ-loop
+
+abbrev begun : First → tie.Start Inv-loop μ-loop
+begun f = f .before .before .before
+
+abbrev each : First → Bool
+each f = not (eqb (bitAnd (begun f .args .n) (f .before .wrapping-sub-u32 .result)) 0)
+
+first : (f : First) → Glanced (begun f .args .bytes .now) (begun f .args .at) (begun f .args .count) (begun f .args .n) (each f) (begun f .args .floor)
+    (f .run-on .result .last) (f .run-on .result .any) (f .run-on .result .all) (rebate 0) (f .run-on .result .place)
+first f =
+    let a = begun f .args in
+    f .run-on .ensures (a .at) (a .count) (a .floor) refl
+    (glanced-first (a .bytes .now) (a .at) (a .count) (a .n) (each f) (a .floor) 0 18446744073709551615 (rebate 0))
+
+abbrev Turn : Type 0
+Turn = tie.In-loop Inv-loop μ-loop
+
+abbrev start : Turn → tie.Start Inv-loop μ-loop
+start t = begun (t .before .before .before)
+
+room : (t : Turn) → t .before .loop .place + 16 ≤ length (start t .args .bytes .now)
+room t = let g = t .before .loop .inv .glanced in omega (arith, t .loop-test .taken, g .there, start t .pre)
+
+-- Its weight is further below zero than any before, and good.
+abbrev Lower : Type 0
+Lower = tie.Else2 Inv-loop μ-loop
+
+abbrev turn : Lower → Turn
+turn c = c .before .before .before .before
+
+mul-end : tie.Need-mul-end Inv-loop μ-loop
+mul-end c = search needs
+
+add-end : tie.Need-add-end Inv-loop μ-loop
+add-end c = search needs
+
+wrapping-sub-u32-requires : tie.Need-wrapping-sub-u32-requires Inv-loop μ-loop
+wrapping-sub-u32-requires c κs = search needs
+
+run-on-requires : tie.Need-run-on-requires Inv-loop μ-loop
+run-on-requires c κs =
+    let a = c .before .before .args in
+    (c .before .before .pre, record { many = a .count; end-is = refl }, omega arith)
+
+lowest-before-requires : tie.Need-lowest-before-requires Inv-loop μ-loop
+lowest-before-requires c κs = (begun c .pre, glanced-rows (first c))
+
+loop-holds : tie.Need-loop-holds Inv-loop μ-loop
+loop-holds c =
+    record { glanced = glanced-under (first (c .before)) (c .lowest-before .result) (c .lowest-before .ensures); small = omega arith }
+
+add-u32-at : tie.Need-add-u32-at Inv-loop μ-loop
+add-u32-at c = search needs
+
+u32-at-requires : tie.Need-u32-at-requires Inv-loop μ-loop
+u32-at-requires c κs = omega (arith, room c)
+
+wrapping-sub-u32-requires-2 : tie.Need-wrapping-sub-u32-requires-2 Inv-loop μ-loop
+wrapping-sub-u32-requires-2 c κs = search needs
+
+not-sure-requires : tie.Need-not-sure-requires Inv-loop μ-loop
+not-sure-requires c κs = search needs
+
+returns : tie.Need-returns Inv-loop μ-loop
+returns c = let r = c .not-sure .ensures in says-unsure _ _ _ _ _ _ (r .0) (r .1) (r .2)
+
+cast-if2 : tie.Need-cast-if2 Inv-loop μ-loop
+cast-if2 c = search needs
+
+not-sure-requires-2 : tie.Need-not-sure-requires-2 Inv-loop μ-loop
+not-sure-requires-2 c κs = search needs
+
+returns-2 : tie.Need-returns-2 Inv-loop μ-loop
+returns-2 c = let r = c .not-sure2 .ensures in says-unsure _ _ _ _ _ _ (r .0) (r .1) (r .2)
+
+run-on-requires-2 : tie.Need-run-on-requires-2 Inv-loop μ-loop
+run-on-requires-2 c κs = (start (turn c) .pre, glanced-rest (turn c .before .loop .inv .glanced), omega (arith, c .if2 .left))
+
+loop-less : tie.Need-loop-less Inv-loop μ-loop
+loop-less c = omega (arith, c .before .before .if1 .left, c .before .if2 .left)
+
+loop-again : tie.Need-loop-again Inv-loop μ-loop
+loop-again c =
+    let lower = c .before in
+    let l = turn lower .before .loop in
+    let a = start (turn lower) .args in
+    let below = lower .before .before .wrapping-sub-u322 .result in
+    record {
+      glanced =
+          c .run-on2 .ensures (a .at) (a .count) (a .floor) refl
+          (glanced-lower (l .inv .glanced) (rebate below) (rebate-lower (l .below) below (omega (arith, lower .before .if1 .left))));
+      small = omega (arith, lower .if2 .left);
+    }
+
+not-sure-requires-3 : tie.Need-not-sure-requires-3 Inv-loop μ-loop
+not-sure-requires-3 c κs = search needs
+
+returns-3 : tie.Need-returns-3 Inv-loop μ-loop
+returns-3 c = let r = c .not-sure3 .ensures in says-unsure _ _ _ _ _ _ (r .0) (r .1) (r .2)
+
+good-at-a-glance-requires : tie.Need-good-at-a-glance-requires Inv-loop μ-loop
+good-at-a-glance-requires c κs = search needs
+
+minus-requires : tie.Need-minus-requires Inv-loop μ-loop
+minus-requires c κs = c .before .before .before .before .loop .inv .small
+
+returns-4 : tie.Need-returns-4 Inv-loop μ-loop
+returns-4 c =
+    let stop = c .before .before .before .before in
+    glanced-unsure (stop .before .loop .inv .glanced) (stop .loop-test .left) _ refl (toZ-ofZ (record { sfits = c .minus .ok }) ∙ c .minus .ensures) refl
+
+minus-requires-2 : tie.Need-minus-requires-2 Inv-loop μ-loop
+minus-requires-2 c κs = c .before .before .before .before .loop .inv .small
+
+wide64-requires : tie.Need-wide64-requires Inv-loop μ-loop
+wide64-requires c κs = search needs
+
+returns-5 : tie.Need-returns-5 Inv-loop μ-loop
+returns-5 c =
+    let glance = c .before .before .before in
+    let stop = glance .before .before in
+    let l = stop .before .loop in
+    glanced-stop (l .inv .glanced) (stop .loop-test .left) (glance .before .if3 .left)
+    (glance .good-at-a-glance .ensures (not-false (glance .good-at-a-glance .result) (c .before .before .if4 .left))) _ refl
+    (toZ-ofZ (record { sfits = c .before .minus2 .ok }) ∙ c .before .minus2 .ensures)
+    (λ e. omega (arith, c .wide64 .ensures, ltb-true (c .wide64 .result) (l .all / 281474976710656) e))
+
+pub glance-at-spec : {M : Type 1} → statement M
+glance-at-spec =
+    tie.close
+    (tie.spec
+    Inv-loop
+    μ-loop
+    mul-end
+    add-end
+    wrapping-sub-u32-requires
+    run-on-requires
+    lowest-before-requires
+    loop-holds
+    add-u32-at
+    u32-at-requires
+    wrapping-sub-u32-requires-2
+    not-sure-requires
+    returns
+    cast-if2
+    not-sure-requires-2
+    returns-2
+    run-on-requires-2
+    loop-less
+    loop-again
+    not-sure-requires-3
+    returns-3
+    good-at-a-glance-requires
+    minus-requires
+    returns-4
+    minus-requires-2
+    wide64-requires
+    returns-5)
