@@ -23,7 +23,7 @@ inline std::string slurp(const std::string &path) {
 }
 
 inline uint32_t u16_at(const std::string &b, size_t i) { return (uint8_t)b[i] | (uint8_t)b[i + 1] << 8; }
-inline uint32_t u32_at(const std::string &b, size_t i) { return u16_at(b, i) | u16_at(b, i + 2) << 16; }
+inline int32_t i32_at(const std::string &b, size_t i) { return (int32_t)(u16_at(b, i) | u16_at(b, i + 2) << 16); }
 
 // A transducer whose bytes are known to be sound.
 inline StdVectorFst build(const std::string &b) {
@@ -32,9 +32,9 @@ inline StdVectorFst build(const std::string &b) {
   for (uint32_t i = 0; i < n; ++i) t.AddState();
   t.SetStart(start);
   size_t at = 12;
-  for (uint32_t i = 0; i < f; ++i, at += 10) t.SetFinal(u16_at(b, at + 4), u32_at(b, at + 6));
+  for (uint32_t i = 0; i < f; ++i, at += 10) t.SetFinal(u16_at(b, at + 4), i32_at(b, at + 6));
   for (uint32_t i = 0; i < m; ++i, at += 16)
-    t.AddArc(u16_at(b, at + 4), StdArc(u16_at(b, at + 6), u16_at(b, at + 8), u32_at(b, at + 12), u16_at(b, at + 10)));
+    t.AddArc(u16_at(b, at + 4), StdArc(u16_at(b, at + 6), u16_at(b, at + 8), i32_at(b, at + 12), u16_at(b, at + 10)));
   return t;
 }
 

@@ -12,11 +12,11 @@ mod reader {
             len: usize,
             final_states: *mut u16,
             final_states_len: usize,
-            final_weights: *mut u32,
+            final_weights: *mut i32,
             final_weights_len: usize,
             fields: *mut u16,
             fields_len: usize,
-            arc_weights: *mut u32,
+            arc_weights: *mut i32,
             arc_weights_len: usize,
             head: *mut [u32; 4],
         ) -> u32;
@@ -27,11 +27,11 @@ mod reader {
             start: u32,
             final_states: *const u16,
             final_states_len: usize,
-            final_weights: *const u32,
+            final_weights: *const i32,
             final_weights_len: usize,
             fields: *const u16,
             fields_len: usize,
-            arc_weights: *const u32,
+            arc_weights: *const i32,
             arc_weights_len: usize,
             out: *mut u8,
             out_len: usize,
@@ -81,7 +81,7 @@ mod reader {
             arcs_len: usize,
             labels: *mut u16,
             labels_len: usize,
-            told: *mut [u64; 3],
+            told: *mut [i64; 3],
         ) -> u32;
         fn forthwn_shortest(
             table: *const u8,
@@ -90,7 +90,7 @@ mod reader {
             arcs_len: usize,
             labels: *mut u16,
             labels_len: usize,
-            told: *mut [u64; 3],
+            told: *mut [i64; 3],
         ) -> u32;
     }
 
@@ -98,9 +98,9 @@ mod reader {
     #[derive(Clone)]
     pub struct Parts {
         pub final_states: Vec<u16>,
-        pub final_weights: Vec<u32>,
+        pub final_weights: Vec<i32>,
         pub fields: Vec<u16>,
-        pub arc_weights: Vec<u32>,
+        pub arc_weights: Vec<i32>,
         pub head: [u32; 4],
     }
 
@@ -217,7 +217,7 @@ mod reader {
     }
 
     // The refusal and the cost.
-    pub fn nth(table: &[u8], k: u32, p: &mut Path) -> (u32, u64) {
+    pub fn nth(table: &[u8], k: u32, p: &mut Path) -> (u32, i64) {
         let (a, b) = (&mut p.arcs, &mut p.labels);
         let mut told = [0; 3];
         let refusal = unsafe {
@@ -227,7 +227,7 @@ mod reader {
     }
 
     // The refusal and the cost.
-    pub fn shortest(table: &[u8], p: &mut Path) -> (u32, u64) {
+    pub fn shortest(table: &[u8], p: &mut Path) -> (u32, i64) {
         let (a, b) = (&mut p.arcs, &mut p.labels);
         let mut told = [0; 3];
         let refusal = unsafe {
@@ -327,6 +327,53 @@ fn round_of_backwards() {
     }
 }
 
+// A table of 1,024 states and 3,072 arcs, which are given by source: (source, target, weight). State 1,023 is final, 0 the start.
+fn largest(mut arcs: Vec<(u16, u16, i32)>) -> Vec<u8> {
+    assert_eq!(arcs.len(), 3072);
+    arcs.sort_by_key(|a| a.0);
+    let mut out: Vec<u8> = [8u16, 1, 1024, 3072, 1, 0, 6, 2, 1023, 0, 0].into_iter().flat_map(u16::to_le_bytes).collect();
+    for (source, target, weight) in arcs {
+        out.extend([12, 3, source, 1, 2, target].into_iter().flat_map(u16::to_le_bytes));
+        out.extend(weight.to_le_bytes());
+    }
+    out
+}
+
+// Three places from each of a line of states, in an order that no sweep by number follows.
+fn line_of_three(last: (u16, u16, i32)) -> Vec<(u16, u16, i32)> {
+    // A permutation of the states that keeps 0 first and 1,023 last.
+    let at = |i: u16| if i == 0 || i == 1023 { i } else { (u32::from(i) * 5 % 1023) as u16 };
+    let mut arcs: Vec<(u16, u16, i32)> = Vec::new();
+    for i in 0..1023u16 {
+        for step in 1..=3 {
+            arcs.push((at(i), at((i + step).min(1023)), 1 + 51 * i32::from(step - 1)));
+        }
+    }
+    arcs.truncate(3071);
+    arcs.push(last);
+    while arcs.len() < 3072 {
+        arcs.push((0, at(1), 1000));
+    }
+    arcs
+}
+
+// Tables at both limits with a cycle below zero on an accepting path, which only the last of as many sweeps as states shows. In the first
+// one every state gets cheaper in every sweep; in the second one the cycle has all the states; in the third one it is behind a long line.
+fn round_of_cycles() {
+    let spokes = (0..1023u16).map(|s| (s, 1023, 0)).chain((0..1023).map(|s| (s, s + 1, 0))).chain((0..1023).map(|s| (s, (s * 5 + 2) % 1023, 0)));
+    let spokes: Vec<_> = spokes.chain([(1023, 1023, -1), (0, 1023, 0), (0, 1023, 0)]).collect();
+    let around = (0..1023u16).flat_map(|s| [(s, s + 1, 1), (s, s + 1, 2), (s, s + 1, 3)]);
+    let around: Vec<_> = around.chain([(1023, 0, -1024), (1023, 0, -1023), (1023, 0, -1022)]).collect();
+    for (name, table) in [("spokes", largest(spokes)), ("around", largest(around)), ("behind", largest(line_of_three((1023, 1023, -1))))] {
+        let mut path = reader::Path::new();
+        assert_eq!(reader::shortest(&table, &mut path), (19, 0), "{name}");
+        let ns = median_ns(&mut || {
+            black_box(reader::shortest(black_box(&table), &mut path));
+        });
+        println!("cycles-{name} shortest {ns:.1}");
+    }
+}
+
 // One state with as many arcs onto itself as there may be.
 fn loops(input: u16, output: u16) -> Vec<u8> {
     let head: [u16; 6] = [8, 1, 1, 3072, 0, 0];
@@ -409,4 +456,5 @@ fn main() {
     }
     round_of_loops();
     round_of_backwards();
+    round_of_cycles();
 }

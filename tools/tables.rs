@@ -14,17 +14,17 @@ const MAX_ARCS: usize = 3_072;
 const MAX_CODE: usize = 64;
 const MAX_LABEL: u16 = 65_534;
 
-/// The weights that a table holds, and the four bytes of one.
+/// The weights that a table holds, and the four bytes of one, two's complement.
 mod weights {
-    pub const LEAST: i64 = 0;
+    pub const LEAST: i64 = -1_000_000;
     pub const MOST: i64 = 1_000_000;
 
     pub fn from_bytes(bytes: [u8; 4]) -> i64 {
-        i64::from(u32::from_le_bytes(bytes))
+        i64::from(i32::from_le_bytes(bytes))
     }
 
     pub fn to_bytes(weight: i64) -> [u8; 4] {
-        (weight as u32).to_le_bytes()
+        (weight as i32).to_le_bytes()
     }
 
     pub fn fits(weight: i64) -> bool {
@@ -437,7 +437,7 @@ fn selftest() -> Result<String, String> {
             let mut small = |n: u64| below(n) as u16;
             let (source, target) = (small(n as u64), small(n as u64));
             let (input, output) = ([0, 1, 2, 65_534][small(4) as usize], small(65_535));
-            let weight = [weights::LEAST, 0, 1, 999_999, weights::MOST][small(5) as usize];
+            let weight = [weights::LEAST, -1, 0, 1, 999_999, weights::MOST][small(6) as usize];
             arcs.push(Arc { source, input, output, target, weight });
         }
         arcs.sort_by_key(|a| a.source);
@@ -490,7 +490,9 @@ fn selftest() -> Result<String, String> {
         ("-1 0 1 1", "line 1: state -1 is not a number"),
         ("0 1 1 1 1000001", "line 1: weight 1000001 is above 1000000"),
         ("0 1 1 1 2.5", "line 1: weight 2.5 is not a whole number"),
-        ("0 -1", "line 1: weight -1 is below 0"),
+        ("0 -1000001", "line 1: weight -1000001 is below -1000000"),
+        ("0 1 1 1 -1e7", "line 1: weight -1e7 is below -1000000"),
+        ("0 -Infinity", "line 1: weight -Infinity is not a number"),
         ("0 inf", "line 1: weight inf is not a number"),
         ("0 1 2", "line 1: 3 fields; an arc has 4 or 5, a final state 1 or 2"),
         ("0 1\n1 2\n0 3", "line 3: state 0 is final already, see line 1"),
@@ -503,6 +505,12 @@ fn selftest() -> Result<String, String> {
     for (text, wanted) in [
         ("0", Ok(0)),
         ("-0", Ok(0)),
+        ("-7", Ok(-7)),
+        ("-1e+06", Ok(-1_000_000)),
+        ("-5.000", Ok(-5)),
+        ("-1000000.00000000000000001", Err("not a whole number")),
+        ("-99999999999999999999999", Err("below")),
+        ("--7", Err("not a number")),
         ("+7", Ok(7)),
         ("5.000", Ok(5)),
         ("1e+06", Ok(1_000_000)),
@@ -537,6 +545,18 @@ fn selftest() -> Result<String, String> {
     let t = from_text("2 1 0 3 1e+06\n1\n", &plain)?;
     if (t.start, t.states, t.arcs[0].weight, t.finals[0]) != (2, 3, 1_000_000, (1, 0)) {
         return Err(format!("short forms: {t:?}"));
+    }
+    // The bytes of weights on either side of both ends; the last four are an arc's weight.
+    let t = from_text("0 0 1 1 -7", &plain)?;
+    let mut bytes = to_bytes(&t);
+    for (weight, wanted) in [(-7, true), (-1, true), (-1_000_000, true), (-1_000_001, false), (1_000_001, false), (i32::MIN, false)] {
+        let last = bytes.len() - 4;
+        bytes[last..].copy_from_slice(&weight.to_le_bytes());
+        let read = from_bytes(&bytes).map(|t| t.arcs[0].weight);
+        let good = if wanted { read == Ok(i64::from(weight)) } else { read == Err(format!("refused 8: arc 0 has weight {weight}")) };
+        if !good {
+            return Err(format!("the bytes of {weight} give {read:?}"));
+        }
     }
     Ok(format!("{rounds} tables, all round trips agree"))
 }

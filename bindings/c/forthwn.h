@@ -21,7 +21,7 @@
  *
  * The bytes of a table are records: the length of the body (2 bytes), a kind (2), the body. Kind 1, first and once: states, arcs, finals,
  * start (2 each). Kind 2, for each final state, rising: state (2), weight (4). Kind 3, for each arc, sources never falling: source, input
- * label, output label, target (2 each), weight (4). All numbers are little-endian. forthwn_write makes them.
+ * label, output label, target (2 each), weight (4). All numbers are little-endian, and weights two's complement. forthwn_write makes them.
  */
 #ifndef FORTHWN_H
 #define FORTHWN_H
@@ -39,7 +39,7 @@ enum {
     FORTHWN_FINALS_LEN = 1024,          /* final states, and final weights, of a table that is read */
     FORTHWN_FIELDS_LEN = 12288,         /* its arcs, four fields each: source, input label, output label, target */
     FORTHWN_WEIGHTS_LEN = 3072,         /* its arc weights */
-    FORTHWN_TEXT_LEN = 602898           /* bytes of a listing */
+    FORTHWN_TEXT_LEN = 602996           /* bytes of a listing */
 };
 
 /* Bytes of stack that a call needs at most, for whoever sizes the stack of a thread. */
@@ -48,8 +48,8 @@ enum { FORTHWN_STACK = 327680 };
 /* The side that stood still in a step of a composition, in place of an arc's number; and the count that stands for 99 or more. */
 enum { FORTHWN_STOOD_STILL = 65535, FORTHWN_MANY = 99 };
 
-typedef uint32_t forthwn_weight; /* of an arc or a final state: 0 to 1000000 */
-typedef uint64_t forthwn_cost;   /* of a path: the sum of its weights */
+typedef int32_t forthwn_weight; /* of an arc or a final state: -1000000 to 1000000 */
+typedef int64_t forthwn_cost;   /* of a path: the sum of its weights */
 
 /* The numbers at the head of a table. */
 typedef struct forthwn_head {
@@ -91,7 +91,8 @@ enum forthwn_refusals {
     FORTHWN_TOO_HEAVY = 13,
     FORTHWN_ENDLESS = 14,
     FORTHWN_NO_SUCH_PATH = 15,
-    FORTHWN_NO_PATH = 16
+    FORTHWN_NO_PATH = 16,
+    FORTHWN_NEGATIVE_CYCLE = 19
 };
 
 /* A refusal in words, for people; never null. */
@@ -105,15 +106,16 @@ static inline const char *forthwn_refusal_text(uint32_t refusal) {
     case FORTHWN_BAD_STATE: return "a state number is not below the number of states";
     case FORTHWN_BAD_ORDER: return "final states do not rise, or sources of arcs fall";
     case FORTHWN_BAD_LABEL: return "a label of 65535";
-    case FORTHWN_BAD_WEIGHT: return "a weight above 1000000";
+    case FORTHWN_BAD_WEIGHT: return "a weight below -1000000 or above 1000000";
     case FORTHWN_BAD_CODE: return "the code has more than 64 labels, half a label, or a label 0 or 65535";
     case FORTHWN_SHORT_BUFFER: return "a lent buffer is too short";
     case FORTHWN_TOO_MANY_STATES: return "more than 1024 states are reached";
     case FORTHWN_TOO_MANY_ARCS: return "more than 3072 arcs leave the reached states";
-    case FORTHWN_TOO_HEAVY: return "a composed arc or final weight above 1000000";
+    case FORTHWN_TOO_HEAVY: return "a composed arc or final weight below -1000000 or above 1000000";
     case FORTHWN_ENDLESS: return "infinitely many accepting paths";
     case FORTHWN_NO_SUCH_PATH: return "no path of that number";
     case FORTHWN_NO_PATH: return "no accepting path";
+    case FORTHWN_NEGATIVE_CYCLE: return "a cycle below 0 on an accepting path";
     default: return "no refusal of that number";
     }
 }
@@ -181,7 +183,8 @@ uint32_t forthwn_nth(const uint8_t *table, size_t table_len, uint32_t k, uint16_
                      uint16_t *labels, size_t labels_len, forthwn_path *path);
 
 /* The accepting path of least cost, then of fewest arcs, then first in path order, told as forthwn_nth does. There is one where
- * accepting paths are infinitely many, too. Lent: FORTHWN_PATH_LEN arcs, FORTHWN_PATH_LEN labels. Refusals: 1 to 8, 10, 16.
+ * accepting paths are infinitely many, too, but where a cycle on one of them sums below 0: then no cost is the least.
+ * Lent: FORTHWN_PATH_LEN arcs, FORTHWN_PATH_LEN labels. Refusals: 1 to 8, 10, 16, 19.
  * One pass over the arcs where they lead to higher states; else by a queue, at worst states times arcs, which took 10 milliseconds. */
 uint32_t forthwn_shortest(const uint8_t *table, size_t table_len, uint16_t *arcs, size_t arcs_len,
                           uint16_t *labels, size_t labels_len, forthwn_path *path);

@@ -52,25 +52,26 @@ REFUSALS = {
     5: ("BAD_STATE", "a state number is not below the number of states"),
     6: ("BAD_ORDER", "final states do not rise, or sources of arcs fall"),
     7: ("BAD_LABEL", "a label of 65535"),
-    8: ("BAD_WEIGHT", "a weight above 1000000"),
+    8: ("BAD_WEIGHT", "a weight below -1000000 or above 1000000"),
     9: ("BAD_CODE", "the code has more than 64 labels, half a label, or a label 0 or 65535"),
     10: ("SHORT_BUFFER", "a lent buffer is too short"),
     11: ("TOO_MANY_STATES", "more than 1024 states are reached"),
     12: ("TOO_MANY_ARCS", "more than 3072 arcs leave the reached states"),
-    13: ("TOO_HEAVY", "a composed arc or final weight above 1000000"),
+    13: ("TOO_HEAVY", "a composed arc or final weight below -1000000 or above 1000000"),
     14: ("ENDLESS", "infinitely many accepting paths"),
     15: ("NO_SUCH_PATH", "no path of that number"),
     16: ("NO_PATH", "no accepting path"),
+    19: ("NEGATIVE_CYCLE", "a cycle below 0 on an accepting path"),
 }
 MANY = 99
 """The count that stands for 99 or more."""
 
 # Lengths of the buffers that the library is lent, in cells.
-_TABLE, _ORIGINS, _LATTICE_ORIGINS, _STATES, _PATH, _FINALS, _FIELDS, _WEIGHTS, _TEXT = 59404, 6144, 3072, 1024, 1023, 1024, 12288, 3072, 602898
+_TABLE, _ORIGINS, _LATTICE_ORIGINS, _STATES, _PATH, _FINALS, _FIELDS, _WEIGHTS, _TEXT = 59404, 6144, 3072, 1024, 1023, 1024, 12288, 3072, 602996
 _STOOD_STILL = 65535
 
 _u8, _u16, _u32, _size = ctypes.c_uint8, ctypes.c_uint16, ctypes.c_uint32, ctypes.c_size_t
-_WEIGHT, _WEIGHT_CODE, _COST = ctypes.c_uint32, "I", ctypes.c_uint64
+_WEIGHT, _WEIGHT_CODE, _COST = ctypes.c_int32, "i", ctypes.c_int64
 
 
 class Refusal(Exception):
@@ -91,13 +92,13 @@ class Refusal(Exception):
 
 
 class Final(NamedTuple):
-    """A final state and its weight, 0 to 1,000,000."""
+    """A final state and its weight, -1,000,000 to 1,000,000."""
     state: int
     weight: int
 
 
 class Arc(NamedTuple):
-    """An arc; label 0 reads or writes nothing, 1 to 65,534 are symbols; the weight is 0 to 1,000,000."""
+    """An arc; label 0 reads or writes nothing, 1 to 65,534 are symbols; the weight is -1,000,000 to 1,000,000."""
     source: int
     input: int
     output: int
@@ -243,10 +244,12 @@ def write(table: Table) -> bytes:
 
     >>> write(Table(1, 0, [Final(0, 5)], [])).hex(" ", 2)
     '0800 0100 0100 0000 0100 0000 0600 0200 0000 0500 0000'
+    >>> write(Table(1, 0, [Final(0, -5)], [])).hex(" ", 2)
+    '0800 0100 0100 0000 0100 0000 0600 0200 0000 fbff ffff'
     >>> write(Table(1, 0, [Final(0, 1000001)], []))
     Traceback (most recent call last):
         ...
-    forthwn.Refusal: refused 8: a weight above 1000000
+    forthwn.Refusal: refused 8: a weight below -1000000 or above 1000000
     """
     finals, arcs = [Final(*x) for x in table.finals], [Arc(*x) for x in table.arcs]
     numbers = [_number(x) for x in (table.states, len(arcs), len(finals), table.start)]
@@ -311,7 +314,16 @@ def nth(table, k: int) -> Path:
 
 
 def shortest(table) -> Path:
-    """The accepting path of least cost, then of fewest arcs, then first in path order. Refusals 1 to 8, 16."""
+    """The accepting path of least cost, then of fewest arcs, then first in path order. Refusals 1 to 8, 16, 19.
+
+    >>> rebate = Table(2, 0, [Final(1, 0)], [Arc(0, 1, 2, 1, 5), Arc(0, 1, 3, 1, -7)])
+    >>> shortest(write(rebate))
+    Path(cost=-7, arcs=[1], labels=[3])
+    >>> shortest(write(Table(1, 0, [Final(0, 0)], [Arc(0, 1, 2, 0, -1)])))
+    Traceback (most recent call last):
+        ...
+    forthwn.Refusal: refused 19: a cycle below 0 on an accepting path
+    """
     return _path("forthwn_shortest", _bytes(table))
 
 

@@ -82,6 +82,27 @@ static void chain(void) {
     CHECK(said == FORTHWN_CUT_SHORT && strcmp((const char *)text, "refused 1\n") == 0 && len == 10);
 }
 
+/* Weights and costs below 0, and a cycle below 0, which refuses a shortest path and leaves the buffers. */
+static void signs(void) {
+    static const uint16_t ends[] = {1};
+    static const forthwn_weight end_weights[] = {-4}, weights[] = {-1000000, 5, -1};
+    static const uint16_t three[] = {0, 1, 2, 1, 0, 1, 3, 1, 1, 0, 0, 1};
+    forthwn_head head;
+    forthwn_path path;
+    uint32_t len;
+    CHECK(forthwn_write(2, 2, 1, 0, ends, 1, end_weights, 1, three, 8, weights, 2, table, FORTHWN_TABLE_LEN, &len) == FORTHWN_OK);
+    CHECK(forthwn_read(table, len, final_states, FORTHWN_FINALS_LEN, final_weights, FORTHWN_FINALS_LEN,
+                       fields, FORTHWN_FIELDS_LEN, arc_weights, FORTHWN_WEIGHTS_LEN, &head) == FORTHWN_OK);
+    CHECK(final_weights[0] == -4 && arc_weights[0] == -1000000 && arc_weights[1] == 5 && arc_weights[2] == 0);
+    CHECK(forthwn_shortest(table, len, arcs, FORTHWN_PATH_LEN, labels, FORTHWN_PATH_LEN, &path) == FORTHWN_OK);
+    CHECK(path.cost == -1000004 && path.arcs == 1 && arcs[0] == 0 && labels[0] == 2);
+    CHECK(forthwn_nth(table, len, 1, arcs, FORTHWN_PATH_LEN, labels, FORTHWN_PATH_LEN, &path) == FORTHWN_OK && path.cost == 1);
+    CHECK(forthwn_write(2, 3, 1, 0, ends, 1, end_weights, 1, three, 12, weights, 3, table, FORTHWN_TABLE_LEN, &len) == FORTHWN_OK);
+    memset(arcs, 7, sizeof arcs);
+    CHECK(forthwn_shortest(table, len, arcs, FORTHWN_PATH_LEN, labels, FORTHWN_PATH_LEN, &path) == FORTHWN_NEGATIVE_CYCLE);
+    CHECK(path.cost == 0 && path.arcs == 0 && path.labels == 0 && arcs[0] == 0x0707);
+}
+
 static void null_of_length_0(void) {
     uint32_t len = 1, count = 1, said = 1;
     forthwn_head head;
@@ -209,6 +230,7 @@ int main(int argc, char **argv) {
     read_and_written(left, left_len);
     read_and_written(right, right_len);
     chain();
+    signs();
     null_of_length_0();
     one_cell_short();
     return 0;

@@ -15,10 +15,10 @@ LEFT, RIGHT, CODE = ((ROOT / "examples" / "keys" / name).read_bytes() for name i
 def random_table(dice):
     states = dice.randint(1, 40)
     arcs = [
-        Arc(dice.randrange(states), dice.randrange(4), 65534, dice.randrange(states), dice.randint(0, 1000000))
+        Arc(dice.randrange(states), dice.randrange(4), 65534, dice.randrange(states), dice.randint(-1000000, 1000000))
         for _ in range(dice.randrange(90))
     ]
-    finals = [Final(s, 1000000 - s) for s in range(states) if dice.random() < 0.3]
+    finals = [Final(s, (1000000 - s) * (-1) ** s) for s in range(states) if dice.random() < 0.3]
     return Table(states, dice.randrange(states), finals, sorted(arcs, key=lambda x: x.source))
 
 
@@ -76,7 +76,7 @@ class Calls(unittest.TestCase):
         one = forthwn.write(Table(1, 0, [Final(0, 0)], []))
         ring = forthwn.write(Table(1, 0, [Final(0, 0)], [Arc(0, 0, 7, 0, 2)]))
         nothing = forthwn.write(Table(1, 0, [], []))
-        heavy = [forthwn.write(Table(1, 0, [Final(0, x)], [])) for x in (600000, 400001)]
+        heavy, light = ([forthwn.write(Table(1, 0, [Final(0, x)], [])) for x in (s * 600000, s * 400001)] for s in (1, -1))
         loops = [forthwn.write(Table(1, 0, [], [x] * n)) for n, x in ((56, Arc(0, 1, 2, 0, 0)), (55, Arc(0, 2, 3, 0, 0)))]
         line = forthwn.write(Table(513, 0, [], [Arc(s, 1, 0, s + 1, 0) for s in range(512)]))
         self.refused(1, forthwn.read, LEFT[:3])
@@ -87,14 +87,19 @@ class Calls(unittest.TestCase):
         self.refused(6, forthwn.write, Table(2, 0, [Final(1, 0), Final(0, 0)], []))
         self.refused(7, forthwn.write, Table(1, 0, [], [Arc(0, 65535, 1, 0, 0)]))
         self.refused(8, forthwn.trim, LEFT[:-1] + b"\1")
+        for weight in (1000001, -1000001, 2**31 - 1, -(2**31)):
+            self.refused(8, forthwn.write, Table(1, 0, [Final(0, weight)], []))
+            self.refused(8, forthwn.write, Table(1, 0, [], [Arc(0, 1, 2, 0, weight)]))
         self.refused(9, forthwn.apply, [0], LEFT)
         self.refused(9, forthwn.readings, LEFT, RIGHT, [7] * 65)
         self.refused(11, forthwn.compose, line, ring)
         self.refused(12, forthwn.compose, *loops)
         self.refused(13, forthwn.compose, *heavy)
+        self.refused(13, forthwn.compose, *light)
         self.refused(14, forthwn.paths, ring)
         self.refused(15, forthwn.nth, one, 2**40)
         self.refused(16, forthwn.shortest, nothing)
+        self.refused(19, forthwn.shortest, forthwn.write(Table(1, 0, [Final(0, 0)], [Arc(0, 0, 7, 0, -1)])))
         self.assertEqual(forthwn.listing(LEFT, RIGHT, b"\7").said.number, 9)
         self.assertEqual(forthwn.listing(LEFT, RIGHT[:3], b"\7").text, "refused 1\n")
 
@@ -105,7 +110,15 @@ class Calls(unittest.TestCase):
         self.assertRaises(TypeError, forthwn.readings, LEFT, RIGHT, CODE)
         self.assertRaises(OverflowError, forthwn.apply, [65536 + 7], LEFT)
         self.assertRaises(OverflowError, forthwn.write, Table(1, 0, [Final(65536, 0)], []))
+        self.assertRaises(OverflowError, forthwn.write, Table(1, 0, [Final(0, 2**31)], []))
         self.assertRaises(ValueError, forthwn.nth, LEFT, -1)
+
+    def test_costs_have_signs(self):
+        table = forthwn.write(Table(2, 0, [Final(1, -4)], [Arc(0, 1, 2, 1, 5), Arc(0, 1, 3, 1, -3)]))
+        self.assertEqual([x.cost for x in forthwn.paths(table)], [1, -7])
+        self.assertEqual(forthwn.shortest(table), forthwn.Path(-7, [1], [3]))
+        copy = forthwn.write(Table(1, 0, [Final(0, 0)], [Arc(0, 2, 2, 0, 0), Arc(0, 3, 3, 0, -1)]))
+        self.assertEqual(forthwn.listing(table, copy, b"\1\0").text, "readings 2\n0 1 2\n1 -8 3\n")
 
     def test_of_many_paths_the_first_99(self):
         for arcs, count in ((98, 98), (99, 99), (100, 99)):

@@ -1,5 +1,5 @@
 #!/usr/bin/env python3
-"""The limit cases of paper 01, with the refusal of each written out by hand: here those of reading and writing.
+"""The limit cases of papers 01 and 02, with the refusal of each written out by hand: here those of reading and writing.
 
   cases.py           writes crates/limits/stdin, the cases, and crates/limits/stdout, what the program must print
   cases.py --check   only compares these two files with what it would write
@@ -17,11 +17,13 @@ from rows import (
 )
 
 ONE_ARC = (1, 1, 1, 0)
+AT_ENDS = ((0, 1, 2, 1, 1000000), (0, 1, 2, 1, -1000000), (1, 3, 0, 2, -1), (1, 0, 4, 3, 0))
+WEIGHED = sound(n=1, start=0, finals=(), arcs=((0, 1, 2, 0, 0),))[:-4]  # one arc, without its weight
 
 
 def largest():
-    finals = tuple((s, (s * 977) % 1000001) for s in range(STATES))
-    arcs = tuple((i // 3, i % 65535, (i * 7) % 65535, (i * 5) % STATES, (i * 331) % 1000001) for i in range(ARCS))
+    finals = tuple((s, (s * 977) % 2000001 - 1000000) for s in range(STATES))
+    arcs = tuple((i // 3, i % 65535, (i * 7) % 65535, (i * 5) % STATES, (i * 331) % 2000001 - 1000000) for i in range(ARCS))
     return sound(n=STATES, start=STATES - 1, finals=finals, arcs=arcs)
 
 
@@ -68,7 +70,11 @@ def refused_rows():
     yield r(7, "a barred output", sound(arcs=((0, 1, 65535, 1, 3),)))
     yield r(8, "a final weight of 1000001", sound(finals=((0, 1000001),)))
     yield r(8, "an arc weight of 1000001", sound(arcs=((0, 1, 2, 1, 1000001),)))
-    yield r(8, "an arc weight of 4294967295", sound(arcs=((0, 1, 2, 1, 4294967295),)))
+    yield r(8, "an arc weight of 2147483647", sound(arcs=((0, 1, 2, 1, 2147483647),)))
+    yield r(8, "a final weight of -1000001", sound(finals=((0, -1000001),)))
+    yield r(8, "an arc weight of -1000001", sound(arcs=((0, 1, 2, 1, -1000001),)))
+    yield r(8, "an arc weight of -2147483648", sound(arcs=((0, 1, 2, 1, -2147483648),)))
+    yield r(8, "a final weight of -2147483648", sound(finals=((0, -2147483648),)))
 
 
 # The last value on the sound side of each limit.
@@ -76,6 +82,14 @@ def bound_rows():
     r = read_row
     yield r(0, "a final weight of 1000000", sound(finals=((0, 1000000),)))
     yield r(0, "an arc weight of 1000000", sound(arcs=((0, 1, 2, 1, 1000000),)))
+    for weight in (0, -1, -1000000):
+        yield r(0, f"a final weight of {weight}", sound(finals=((0, weight),)))
+        yield r(0, f"an arc weight of {weight}", sound(arcs=((0, 1, 2, 1, weight),)))
+    yield r(0, "weights of both signs", sound(finals=((0, -5), (2, 7)), arcs=((0, 1, 2, 1, -3), (1, 3, 0, 2, 1), (1, 0, 4, 3, -7))))
+    yield r(0, "the bytes of an arc weight of -1000000", WEIGHED + b"\xc0\xbd\xf0\xff")
+    yield r(8, "the bytes of an arc weight of -1000001", WEIGHED + b"\xbf\xbd\xf0\xff")
+    yield r(0, "the bytes of an arc weight of -1", WEIGHED + b"\xff\xff\xff\xff")
+    yield r(8, "the sign alone", WEIGHED + b"\x00\x00\x00\x80")
     yield r(0, "labels of 65534", sound(arcs=((0, 65534, 65534, 1, 0),)))
     yield r(0, "each state final", sound(finals=((0, 0), (1, 0), (2, 0), (3, 0)), start=3))
     yield r(0, "the last state throughout", sound(finals=((3, 1),), arcs=((3, 1, 1, 3, 1), (3, 1, 1, 3, 1)), start=3))
@@ -95,6 +109,7 @@ def pair_rows():
     yield r(7, "7 before 8", sound(arcs=both[:1]), also=[8])
     yield r(7, "7 in an arc before 8 in a final", sound(finals=((0, 1000001),), arcs=((0, 1, 65535, 1, 3),)), also=[8])
     yield r(8, "8 before 10", sound(finals=((0, 1000001),)), room=STATES_SHORT, also=[10])
+    yield r(8, "8 of a weight below before 10", sound(arcs=((0, 1, 2, 1, -1000001),)), room=STATES_SHORT, also=[10])
     yield r(1, "1 before 10", b"\x08", room=ARC_WEIGHTS_SHORT, also=[10])
 
 
@@ -138,6 +153,8 @@ def write_rows():
     yield w(0, "the smallest transducer", fst(n=1, start=0, finals=(), arcs=()))
     yield w(0, "a sound transducer", fst())
     yield w(0, "weights of 1000000", fst(finals=((0, 1000000),), arcs=((0, 1, 2, 1, 1000000),)))
+    yield w(0, "weights of -1000000", fst(finals=((0, -1000000),), arcs=((0, 1, 2, 1, -1000000),)))
+    yield w(0, "weights of -1 and 0", fst(finals=((0, -1), (2, 0)), arcs=((0, 1, 2, 1, 0), (1, 1, 2, 1, -1))))
     yield w(3, "no states", fst(n=0, start=0, finals=(), arcs=()))
     yield w(3, "1025 states", fst(n=1025))
     yield w(3, "65537 states", fst(n=65537))
@@ -156,6 +173,9 @@ def write_rows():
     yield w(7, "a barred output", fst(arcs=((0, 1, 65535, 1, 3),)))
     yield w(8, "a final weight of 1000001", fst(finals=((0, 1000001),)))
     yield w(8, "an arc weight of 1000001", fst(arcs=((0, 1, 2, 1, 1000001),)))
+    yield w(8, "a final weight of -1000001", fst(finals=((0, -1000001),)))
+    yield w(8, "an arc weight of -1000001", fst(arcs=((0, 1, 2, 1, -1000001),)))
+    yield w(8, "an arc weight of -2147483648", fst(arcs=((0, 1, 2, 1, -2147483648),)))
     yield w(10, "bytes one short", fst(), room=OUT_SHORT)
     yield w(0, "bytes at the least length", fst(), room=EXACT)
     yield w(3, "3 before 4", fst(start=4, f=3), also=[4])
@@ -174,7 +194,7 @@ def run_rows():
     for k, name in enumerate(("final states", "final weights", "fields", "arc weights")):
         short = [run[:-1] if i == k else run for i, run in enumerate(runs)]
         yield write_row(4, f"{name} one too few", numbers_of(t), short)
-    behind = ([0, 65535], [4294967295], [65535] * 9, [1000001, 0])
+    behind = ([0, 65535], [-2147483648], [65535] * 9, [-1000001, 0])
     longer = [run + more for run, more in zip(runs, behind)]
     yield write_row(0, "runs longer than f and m", numbers_of(t), longer)
     yield write_row(0, "runs longer by part of an arc", numbers_of(t), [*runs[:2], runs[2] + [65535], runs[3]])
@@ -184,6 +204,7 @@ def round_trip_rows():
     yield round_trip_row("the smallest transducer", SMALLEST)
     yield round_trip_row("a sound transducer", sound())
     yield round_trip_row("like arcs and any order within a source", sound(arcs=((1, 9, 9, 3, 4), (1, 1, 1, 0, 4), (1, 9, 9, 3, 4))))
+    yield round_trip_row("weights at both ends, 0 and -1", sound(finals=((0, -1000000), (1, 1000000), (2, -1), (3, 0)), arcs=AT_ENDS))
     yield round_trip_row("the largest transducer", largest())
 
 

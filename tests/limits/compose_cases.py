@@ -86,9 +86,18 @@ def size_rows():
     yield c(0, "1024 states, 3072 arcs, each state final", ring, one_state((1, 2, 3, 4), weight=5), EXACT, built=(1024, 3072, 1024))
 
 
-# 13, and the last weights below it.
+# 13 on either side, and the last weights before it.
 def weight_rows():
     c = compose_row
+    yield c(0, "an arc of -600000 - 400000", one_state((1, 1, 2, -600000)), one_state((1, 2, 3, -400000)))
+    yield c(13, "an arc of -600000 - 400001", one_state((1, 1, 2, -600000)), one_state((1, 2, 3, -400001)))
+    yield c(0, "a final weight of -600000 - 400000", one_state(weight=-600000), one_state(weight=-400000))
+    yield c(13, "a final weight of -600000 - 400001", one_state(weight=-600000), one_state(weight=-400001))
+    yield c(0, "arcs of -1000000 alone", one_state((1, 1, 0, -1000000)), one_state((1, 0, 7, -1000000)))
+    yield c(0, "an arc and a final weight of 0", one_state((1, 1, 2, -1000000), weight=1000000), one_state((1, 2, 3, 1000000), weight=-1000000))
+    yield c(0, "an arc and a final weight of -1", one_state((1, 1, 2, -1000000), weight=7), one_state((1, 2, 3, 999999), weight=-8))
+    yield c(13, "an arc and a final weight of -2000000", one_state((1, 1, 2, -1000000), weight=-1000000), one_state((1, 2, 3, -1000000), weight=-1000000))
+    yield c(0, "a ring below zero", one_state((1, 1, 2, -5)), one_state((1, 2, 3, 4), (1, 0, 7, -1)))
     yield c(0, "an arc of 600000 + 400000", one_state((1, 1, 2, 600000)), one_state((1, 2, 3, 400000)))
     yield c(13, "an arc of 600000 + 400001", one_state((1, 1, 2, 600000)), one_state((1, 2, 3, 400001)))
     yield c(0, "a final weight of 600000 + 400000", one_state(weight=600000), one_state(weight=400000))
@@ -97,6 +106,9 @@ def weight_rows():
     left = sound(n=2, start=0, finals=((0, 0),), arcs=((0, 1, 2, 1, 600000),))
     right = sound(n=2, start=0, finals=((0, 0),), arcs=((0, 2, 3, 1, 400001),))
     yield c(13, "a dear arc on no accepting path", left, right)
+    left = sound(n=2, start=0, finals=((0, 0),), arcs=((0, 1, 2, 1, -600000),))
+    right = sound(n=2, start=0, finals=((0, 0),), arcs=((0, 2, 3, 1, -400001),))
+    yield c(13, "an arc of -1000001 on no accepting path", left, right)
     apart = sound(n=2, start=0, finals=((0, 0), (1, 1000000)), arcs=((1, 1, 2, 1, 1000000),))
     yield c(0, "a dear arc and a dear final that are not reached", apart, one_state((1, 2, 3, 1), weight=1))
 
@@ -110,6 +122,8 @@ def order_rows():
     yield c(11, "12 and 13 met before 11", line(513, first=[(56, 1, 2, 600000)]), one_state((55, 2, 3, 400001), rest), also=[12, 13])
     yield c(12, "13 met before 12", one_state(dear[0], (56, 1, 4, 0)), one_state(dear[1], (55, 4, 3, 0)), also=[13])
     yield c(12, "13 met behind 12", one_state((56, 1, 4, 0), dear[0]), one_state((55, 4, 3, 0), dear[1]), also=[13])
+    less = ((1, 1, 2, -600000), (1, 2, 3, -400001))
+    yield c(12, "13 below met before 12", one_state(less[0], (56, 1, 4, 0)), one_state(less[1], (55, 4, 3, 0)), also=[13])
     yield c(12, "12 with a dear final", one_state((56, 1, 2, 0), weight=600000), one_state((55, 2, 3, 0), weight=400001), also=[13])
 
 

@@ -76,6 +76,8 @@ def apply_rows():
     yield a(0, "a string that ends too early", (1,), line(3), before=(2, 1), after=(1, 0))
     silent = sound(n=3, start=2, finals=((0, 4),), arcs=((0, 0, 8, 0, 1), (1, 1, 0, 0, 2), (2, 0, 9, 1, 3), (2, 1, 3, 2, 4)))
     yield a(0, "arcs that read nothing", (1, 1), silent, after=(4, 4))
+    less = sound(n=2, start=0, finals=((1, -1000000),), arcs=((0, 1, 3, 1, -1000000), (0, 1, 4, 1, 1000000), (1, 0, 5, 0, -1)))
+    yield a(0, "weights below 0", (1, 1), less, after=(4, 5))
     yield from apply_size_rows()
     yield from apply_room_rows()
 
@@ -124,6 +126,8 @@ def trim_rows():
     yield t(0, "a line of 1024 states numbered backwards", backwards, after=(1024, 1023), same=True)
     arcs = loops(0, [(3, 1, 2, 0)]) + [(0, 1, 1, 2, 5), (0, 9, 9, 1, 4), (0, 2, 1, 2, 5), (1, 8, 8, 0, 3)]
     yield t(0, "each second arc kept", sound(n=3, start=0, finals=((1, 0),), arcs=arcs), after=(2, 5))
+    less = sound(n=3, start=0, finals=((1, -1), (2, 9)), arcs=((0, 1, 1, 1, -1000000), (0, 1, 1, 0, -1), (2, 1, 1, 1, -7)))
+    yield t(0, "weights below 0, and a ring below 0", less, after=(2, 2))
     yield t(5, "5", sound(arcs=((0, 1, 2, 4, 3),)))
     yield t(1, "1 before 10", SMALLEST[:-1], room=TRIMMED_SHORT, also=[10])
     yield t(10, "bytes one short", SMALLEST, room=TRIMMED_SHORT)

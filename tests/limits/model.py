@@ -1,5 +1,5 @@
-"""Paper 01 in plain Python, for the limit cases: the bytes of a transducer (a table there), refusals 1 to 8, reading and writing,
-and composition (the join there) with refusals 10 to 13.
+"""Paper 01, with the weights of paper 02 (Point 8), in plain Python, for the limit cases: the bytes of a transducer (a table there),
+refusals 1 to 8, reading and writing, and composition (the join there) with refusals 10 to 13.
 
 Written from the paper alone and made to be read, not to be fast: each refusal is the sentence of the paper as a test of
 its own, so that a case can say which conditions hold together.
@@ -24,11 +24,11 @@ def head_record(n, m, f, start):
 
 
 def final_record(final):
-    return record(2, struct.pack("<HI", *final))
+    return record(2, struct.pack("<Hi", *final))
 
 
 def arc_record(arc):
-    return record(3, struct.pack("<HHHHI", *arc))
+    return record(3, struct.pack("<HHHHi", *arc))
 
 
 def encode(t):
@@ -67,9 +67,14 @@ def decode(records):
     whole = [(kind, body) for kind, body in records if SIZES.get(kind) == len(body)]
     heads = [struct.unpack("<HHHH", body) for kind, body in whole if kind == 1]
     n, m, f, start = heads[0] if heads else (0, 0, 0, 0)
-    finals = [Final(*struct.unpack("<HI", body)) for kind, body in whole if kind == 2]
-    arcs = [Arc(*struct.unpack("<HHHHI", body)) for kind, body in whole if kind == 3]
+    finals = [Final(*struct.unpack("<Hi", body)) for kind, body in whole if kind == 2]
+    arcs = [Arc(*struct.unpack("<HHHHi", body)) for kind, body in whole if kind == 3]
     return Transducer(n, m, f, start, finals, arcs)
+
+
+def beyond(weight):
+    """Both ends are guarded."""
+    return not -WEIGHT <= weight <= WEIGHT
 
 
 def head_wrong(t):
@@ -88,7 +93,7 @@ def content_conditions(t):
         held.add(6)
     if any(BARRED in (x.input, x.output) for x in t.arcs):
         held.add(7)
-    if any(x.weight > WEIGHT for x in t.finals + t.arcs):
+    if any(beyond(x.weight) for x in t.finals + t.arcs):
         held.add(8)
     return held
 
@@ -231,7 +236,7 @@ def built_conditions(t):
         held.add(11)
     if t.m > ARCS:
         held.add(12)
-    if any(x.weight > WEIGHT for x in t.finals + t.arcs):
+    if any(beyond(x.weight) for x in t.finals + t.arcs):
         held.add(13)
     return held
 

@@ -57,14 +57,44 @@ LATTICE = bytes.fromhex(LAST_LATTICE)
 LONG = line(STATES)
 
 
+PAYING = one_state((1, 0, 7, -1))
+
+
+def ring(total, start=(), finals=(), more=(), n=5):
+    """States 1, 2 and 3 in a ring that sums to `total`, and what is said beside."""
+    arcs = sorted([(1, 0, 7, 2, -4), (2, 0, 8, 3, 9), (3, 0, 9, 1, total - 5), *start, *more], key=lambda x: x[0])
+    return sound(n=n, start=0, finals=finals, arcs=arcs)
+
+
+def on_a_path(total):
+    """From 0 into the ring and from the ring to 4, which is final."""
+    return ring(total, [(0, 1, 2, 1, 3)], ((4, -2),), [(3, 1, 2, 4, 1)])
+
+
+def lead_to_a_ring(total):
+    """From 0 into the ring, which leads nowhere, and to 4."""
+    return ring(total, [(0, 1, 2, 1, 3), (0, 1, 2, 4, 3)], ((4, -2),))
+
+
+def lead_from_a_ring(total):
+    """From 0 to 4, and from the ring, which nothing leads to, to 4."""
+    return ring(total, [(0, 1, 2, 4, 3)], ((4, -2),), [(3, 1, 2, 4, 1)])
+
+
+def apart_from_a_ring(total):
+    return ring(total, [(0, 1, 2, 4, 3)], ((4, -2),))
+
+
 def count_rows():
     c = count_row
     for n, paths in ((98, 98), (99, 99), (100, 99)):
         yield c(0, f"{n} like arcs", like(n), paths)
     yield c(14, "a ring of weight 2", RING)
     yield c(14, "a ring of weight 0", FREE_RING)
+    yield c(14, "a ring of weight -1", PAYING)
     yield c(0, "an arc twice", like(2), 2)
     yield c(0, "a ring on no accepting path", ASIDE, 1)
+    yield c(0, "a ring below 0 on no accepting path", lead_to_a_ring(-1), 1)
     yield c(0, "a ring that is not reached", sound(n=3, start=0, finals=((1, 0),), arcs=((0, 1, 2, 1, 0), (2, 0, 4, 2, 0), (2, 0, 4, 1, 0))), 1)
     yield c(14, "a ring of two states on an accepting path", sound(n=3, start=0, finals=((2, 0),), arcs=((0, 1, 2, 1, 0), (1, 0, 4, 0, 0), (1, 0, 4, 2, 0))))
     yield c(0, "nothing accepts", SMALLEST, 0)
@@ -92,6 +122,10 @@ def nth_rows():
     yield p(15, "100 like arcs, k 99", 99, like(100))
     yield p(15, "k 4294967295", 4294967295, like(2))
     yield p(14, "a ring", 0, RING)
+    yield p(14, "a ring of weight -1", 0, PAYING)
+    yield p(0, "a cost below 0", 1, sound(n=2, start=0, finals=((1, -4),), arcs=((0, 1, 2, 1, 5), (0, 1, 2, 1, -3))), (-7, 1, 1))
+    yield p(0, "a cost of 0", 0, sound(n=2, start=0, finals=((1, -4),), arcs=((0, 1, 2, 1, 4),)), (0, 1, 1))
+    yield p(0, "a cost of -1", 0, sound(n=2, start=0, finals=((1, 999999),), arcs=((0, 1, 2, 1, -1000000),)), (-1, 1, 1))
     yield p(0, "the empty path", 0, one_state(weight=9), (9, 0, 0))
     yield p(0, "a path before its extensions", 1, sound(n=2, start=0, finals=((0, 3), (1, 4)), arcs=((0, 1, 0, 1, 5), (0, 2, 6, 1, 1))), (9, 1, 0))
     yield p(0, "1023 arcs", 0, LONG, (0, 1023, 0))
@@ -102,6 +136,34 @@ def nth_rows():
     yield p(10, "10 before 14", 0, RING, room=LABELS_SHORT, also=[14])
     yield p(10, "10 before 15", 9, LATTICE, room=ARCS_SHORT, also=[15])
     yield p(0, "each buffer at its least length", 0, LATTICE, room=EXACT)
+
+
+# Costs below 0; 19 where a ring below 0 is on an accepting path, and nowhere else.
+def signed_rows():
+    s = shortest_row
+    yield s(0, "the lesser of two below 0", sound(n=2, start=0, finals=((1, -4),), arcs=((0, 1, 2, 1, -3), (0, 1, 2, 1, -5))), (-9, 1, 1))
+    yield s(0, "a longer path below 0 before the empty one", sound(n=2, start=0, finals=((0, 0), (1, 0)), arcs=((0, 1, 2, 1, -1),)), (-1, 1, 1))
+    yield s(0, "a rebate behind a dear arc", sound(n=3, start=0, finals=((2, 0),), arcs=((0, 1, 1, 2, 2), (0, 2, 2, 1, 9), (1, 3, 3, 2, -8))), (1, 2, 2))
+    yield s(0, "a final weight below 0", sound(n=2, start=0, finals=((0, -3), (1, -1000000)), arcs=((0, 1, 2, 1, 999998),)), (-3, 0, 0))
+    yield s(0, "costs of 0 and fewest arcs", sound(n=3, start=0, finals=((2, -2),), arcs=((0, 1, 1, 1, -1), (0, 2, 2, 2, 2), (1, 3, 3, 2, 3))), (0, 1, 1))
+    yield s(19, "a ring of weight -1 on the start", PAYING)
+    yield s(19, "a ring of weight -1000000", one_state((1, 0, 7, -1000000)))
+    yield s(19, "a ring below 0 on an accepting path", on_a_path(-1))
+    yield s(0, "a ring of sum 0 on an accepting path", on_a_path(0), (7, 4, 4))
+    yield s(0, "a ring of sum 1 on an accepting path", on_a_path(1), (7, 4, 4))
+    yield s(0, "a ring below 0 that leads nowhere", lead_to_a_ring(-1), (1, 1, 1))
+    yield s(0, "a ring below 0 that is not reached", lead_from_a_ring(-1), (1, 1, 1))
+    yield s(0, "a ring below 0 apart", apart_from_a_ring(-1), (1, 1, 1))
+    yield s(16, "a ring below 0 that leads nowhere, and nothing accepts", ring(-1, [(0, 1, 2, 1, 3)]))
+    yield s(16, "a ring below 0 that is not reached, and nothing accepts", ring(-1, (), ((4, 0),), [(3, 1, 2, 4, 1)]))
+    # 0 to 1 for -6 and back for 5 pays, though every path without a ring costs more than 0.
+    yield s(19, "a ring below 0 aside from the cheapest path", sound(n=3, start=0, finals=((2, 9),), arcs=((0, 0, 1, 2, 1), (0, 0, 2, 1, -6), (1, 0, 3, 0, 5))))
+    for n, sum_, number, told in ((100, -1, 19, None), (STATES, -1, 19, None), (STATES, 0, 0, (STATES - 1, STATES - 1, STATES - 1))):
+        around = [(i, 0, 2, i + 1, 1) for i in range(n - 1)] + [(n - 1, 0, 2, 0, sum_ + 1 - n)]
+        yield s(number, f"a ring of {n} states of sum {sum_}", sound(n=n, start=0, finals=((n - 1, 0),), arcs=around), told)
+    yield s(8, "8 before 19", one_state((1, 0, 7, -1), (1, 0, 7, -1000001)))
+    yield s(10, "10 before 19", PAYING, room=LABELS_SHORT, also=[19])
+    yield s(19, "19 at the least lengths", PAYING, room=EXACT)
 
 
 def shortest_rows():
@@ -117,6 +179,9 @@ def shortest_rows():
     yield s(0, "a ring of weight 0 on the way", sound(n=3, start=0, finals=((2, 0),), arcs=((0, 0, 7, 1, 0), (1, 0, 7, 0, 0), (1, 0, 8, 2, 3))), (3, 2, 2))
     dear = sound(n=STATES, start=0, finals=((STATES - 1, 1000000),), arcs=[(i, 1, 2, i + 1, 1000000) for i in range(STATES - 1)])
     yield s(0, "1023 arcs of 1000000", dear, (1024000000, 1023, 1023))
+    cheap = sound(n=STATES, start=0, finals=((STATES - 1, -1000000),), arcs=[(i, 1, 2, i + 1, -1000000) for i in range(STATES - 1)])
+    yield s(0, "1023 arcs of -1000000", cheap, (-1024000000, 1023, 1023))
+    yield from signed_rows()
     yield s(16, "nothing accepts", SMALLEST)
     yield s(16, "a final state that is not reached", sound(n=2, start=0, finals=((1, 0),), arcs=()))
     yield s(16, "a ring on no accepting path", sound(n=3, start=0, finals=((2, 0),), arcs=loops(0, [(1, 1, 1, 0)]) + [(0, 1, 1, 1, 0)]))

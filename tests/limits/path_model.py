@@ -1,7 +1,8 @@
-"""Paper 01 in plain Python, for the limit cases: the path count, the k-th path (reading k there) and the shortest one (the cheapest)."""
+"""Paper 01, with refusal 19 of paper 02 (Point 8), in plain Python, for the limit cases: the path count, the k-th path (reading k there)
+and the shortest one (the cheapest)."""
 import sys
 
-from lattice_model import behind, closure, short, trimmed
+from lattice_model import behind, short, trimmed
 from model import byte_conditions, decode, split
 
 CELLS = 1023
@@ -86,26 +87,50 @@ def nth(data, k, buffers):
     return 0, *told(t, paths(t, 99)[k], buffers)
 
 
+def accepts(t):
+    """Whether any path does: what is trimmed away then is not all."""
+    return bool(trimmed(t)[0].finals)
+
+
+def ring_below_zero(t):
+    """Whether a ring of arcs on an accepting path sums below zero. What each state can save by going along arcs that lie on accepting
+    paths, one more in each round: without such a ring, what saves most passes no state twice, so that n rounds find nothing new."""
+    kept, _ = trimmed(t)
+    saved = [0] * kept.n
+    for _ in range(kept.n):
+        before = list(saved)
+        for a in kept.arcs:
+            saved[a.source] = min(saved[a.source], a.weight + before[a.target])
+        if saved == before:
+            return False
+    return True
+
+
 def shortest(t):
-    """The accepting path of least cost, then fewest arcs, then first in path order; None where nothing accepts. From each state the best
-    one known, until no arc makes a better one."""
-    best = {s: (w, 0, []) for s, w in t.finals}
+    """The accepting path of least cost, then fewest arcs, then first in path order, where something accepts and no ring below zero lies on
+    an accepting path. From each state on an accepting path the best one known, until no arc makes a better one."""
+    kept, numbers = trimmed(t)
+    best = {s: (w, 0, []) for s, w in kept.finals}
     changed = True
     while changed:
         changed = False
-        for i, a in reversed(list(enumerate(t.arcs))):
+        for i, a in reversed(list(enumerate(kept.arcs))):
             if a.target in best:
                 c, n, path = best[a.target]
-                other = (c + a.weight, n + 1, [i] + path)
+                other = (c + a.weight, n + 1, [numbers[i]] + path)
                 if a.source not in best or other < best[a.source]:
                     best[a.source], changed = other, True
-    return best[t.start][2] if t.start in best else None
+    return best[kept.start][2]
 
 
 def shortest_conditions(data, lengths):
     held = sorted(byte_conditions(data)) + short(lengths, TELL_LEAST)
-    if not byte_conditions(data) and shortest(decode(split(data)[0])) is None:
-        held.append(16)
+    if not byte_conditions(data):
+        t = decode(split(data)[0])
+        if not accepts(t):
+            held.append(16)
+        elif ring_below_zero(t):
+            held.append(19)
     return held
 
 

@@ -32,9 +32,10 @@ def lend(least, room):
 
 
 def total(cells):
+    """The sum of some cells; one below zero counts by its 32 bits."""
     h = 0
     for x in cells:
-        h = (h * 31 + x) % 65521
+        h = (h * 31 + x % 2**32) % 65521
     return h
 
 
@@ -74,7 +75,7 @@ def write_row(want, name, numbers, runs, room=NONE, also=()):
     name = f"write, {name}:"
     agree(name, want, sorted(write_conditions(numbers, runs, lent(room, OUT_SHORT, BYTES))), also)
     body = struct.pack("<8I", *numbers, *map(len, runs))
-    for run, form in zip(runs, "HIHI"):
+    for run, form in zip(runs, "HiHi"):
         body += struct.pack(f"<{len(run)}{form}", *run)
     return case(WRITE, room, name, body), f"{name} {write_words(numbers, runs, room)[0]}"
 

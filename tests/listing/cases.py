@@ -19,7 +19,7 @@ from path_model import cost, endless, paths
 from rows import sound
 
 MOST_READ = 65536
-LONGEST = 602898  # bytes of the longest text
+LONGEST = 602996  # bytes of the longest text
 
 
 def labels(*codes):
@@ -72,9 +72,9 @@ def ladder(n):
 
 
 def longest():
-    """98 paths of 1,023 arcs, each with the longest label and the greatest weight, that read nothing."""
-    arcs = [(0, 0, 65534, 1, WEIGHT)] * 98 + [(s, 0, 65534, s + 1, WEIGHT) for s in range(1, 1023)]
-    return sound(n=1024, start=0, finals=((1023, WEIGHT),), arcs=arcs)
+    """98 paths of 1,023 arcs, each with the longest label and the least weight, that read nothing."""
+    arcs = [(0, 0, 65534, 1, -WEIGHT)] * 98 + [(s, 0, 65534, s + 1, -WEIGHT) for s in range(1, 1023)]
+    return sound(n=1024, start=0, finals=((1023, -WEIGHT),), arcs=arcs)
 
 
 TURN = one_state((1, 1, 2, 0))  # turns 1 into 2
@@ -93,6 +93,11 @@ def cases():
     yield "99 readings", "readings 99+", like_arcs(99), COPY, ONE
     yield "100 readings", "readings 99+", like_arcs(100), COPY, ONE
     yield "the largest weights", "readings 1", like_arcs(1, WEIGHT), COPY, ONE
+    yield "the least weights", "readings 1", like_arcs(1, -WEIGHT), COPY, ONE
+    yield "a cost of -7", "readings 2", like_arcs(2, -7), COPY, ONE
+    yield "costs of -1 and 0", "readings 2", like_arcs(1, -1), sound(n=1, start=0, finals=((0, 0),), arcs=[(0, 2, 2, 0, 0), (0, 2, 3, 0, 1)]), ONE
+    yield "a loop below zero that reads nothing", "readings endless", COPY, one_state((1, 0, 7, -1)), b""
+    yield "a loop below zero that reads", "readings 1", one_state((1, 1, 2, -3)), one_state((1, 2, 2, -4)), ONE * 2
     yield "an empty code", "readings 1", COPY, COPY, b""
     yield "a missing code", "readings 1", COPY, COPY, None
     yield "an empty code where a symbol is wanted", "readings 0", like_arcs(1), COPY, b""
@@ -113,6 +118,9 @@ def cases():
     yield "11 before the code", "refused 11", line(513), REST, ONE[:1]
     yield "56 loops against 55", "refused 12", one_state((56, 1, 2, 0)), one_state((55, 2, 3, 0)), ONE
     yield "13 before the code", "refused 13", like_arcs(1, 600000), one_state((1, 2, 2, 400001)), labels(0)
+    yield "-1,000,000 composed", "readings 1", like_arcs(1, -600000), one_state((1, 2, 2, -400000)), ONE
+    yield "-1,000,001 composed", "refused 13", like_arcs(1, -600000), one_state((1, 2, 2, -400001)), ONE
+    yield "-1,000,001", "refused 8", like_arcs(1, -WEIGHT - 1), COPY, ONE
     yield "an odd last byte", "refused 9", COPY, COPY, ONE + b"\1"
     yield "one byte", "refused 9", COPY, COPY, b"\1"
     yield "65 labels", "refused 9", TURN, COPY, ONE * 65

@@ -6,14 +6,15 @@
 //
 // Both get the same bytes. Compared in each case, OpenFst composing with its sequence filter and with weights as doubles, which are exact:
 //   - the count of accepting paths of the applied string: 0 to 98, 99 for more, or infinitely many (14);
-//   - its least cost, by ShortestDistance and by ShortestPath, or that nothing accepts (16);
+//   - its least cost, by ShortestDistance and by ShortestPath, or that nothing accepts (16). Where a cycle below zero lies on an
+//     accepting path these two do not end: such cycles are looked for in OpenFst's result, and must be there exactly where 19 is given;
 //   - from 1 to 98 paths: the cost and the output of every path, as two sorted lists;
 //   - the states, arcs and finals of the lattice, and of the composition trimmed, each made by OpenFst from our composition;
 //   - the same numbers of OpenFst's own composition, where they must agree. OpenFst gives a left state without empty outputs no second
 //     mark, so that must be where the right side has no empty input or every left state has an empty output.
 // Left out: pairs that end in 11, 12 or 13, since OpenFst has no such limits. Bytes that are no table (1 to 8), strings that are
 // refused (9), short buffers (10), path order, origins and ties are not compared here: OpenFst has none of them.
-// PLANT is none, or a fault of OpenFst's side to show that differences are found: filter, weight or arcs.
+// PLANT is none, or a fault of OpenFst's side to show that differences are found: filter, weight, arcs or sign.
 #include <fst/arcsort.h>
 #include <fst/compose.h>
 #include <fst/connect.h>
@@ -39,7 +40,7 @@
 using Arc = fst::ArcTpl<fst::TropicalWeightTpl<double>>;
 using Weight = Arc::Weight;
 using Fst = fst::VectorFst<Arc>;
-using Reading = std::pair<uint64_t, std::vector<int>>;  // cost, output labels
+using Reading = std::pair<int64_t, std::vector<int>>;  // cost, output labels
 
 static std::string plant = "none";
 
@@ -47,6 +48,7 @@ static std::string plant = "none";
 
 static uint32_t u16_at(const Bytes &b, size_t i) { return b[i] | b[i + 1] << 8; }
 static uint32_t u32_at(const Bytes &b, size_t i) { return u16_at(b, i) | u16_at(b, i + 2) << 16; }
+static double weight_at(const Bytes &b, size_t i) { return plant == "sign" ? u32_at(b, i) : (double)(int32_t)u32_at(b, i); }
 
 // A transducer whose bytes are known to be sound.
 static Fst build(const Bytes &b) {
@@ -55,10 +57,10 @@ static Fst build(const Bytes &b) {
   for (uint32_t i = 0; i < n; ++i) t.AddState();
   t.SetStart(start);
   size_t at = 12;
-  for (uint32_t i = 0; i < f; ++i, at += 10) t.SetFinal(u16_at(b, at + 4), u32_at(b, at + 6) + (plant == "weight"));
+  for (uint32_t i = 0; i < f; ++i, at += 10) t.SetFinal(u16_at(b, at + 4), weight_at(b, at + 6) + (plant == "weight"));
   for (uint32_t i = 0; i < m; ++i, at += 16) {
     if (plant == "arcs" && i > 0 && std::equal(b.begin() + at, b.begin() + at + 16, b.begin() + at - 16)) continue;
-    t.AddArc(u16_at(b, at + 4), Arc(u16_at(b, at + 6), u16_at(b, at + 8), u32_at(b, at + 12), u16_at(b, at + 10)));
+    t.AddArc(u16_at(b, at + 4), Arc(u16_at(b, at + 6), u16_at(b, at + 8), weight_at(b, at + 12), u16_at(b, at + 10)));
   }
   return t;
 }
@@ -111,18 +113,34 @@ static int count(const Fst &t) {
 
 // Every accepting path from a state of a connected transducer without cycles.
 static void paths(const Fst &t, int s, Reading &so_far, std::vector<Reading> &found) {
-  if (t.Final(s) != Weight::Zero()) found.push_back({so_far.first + (uint64_t)t.Final(s).Value(), so_far.second});
+  if (t.Final(s) != Weight::Zero()) found.push_back({so_far.first + (int64_t)t.Final(s).Value(), so_far.second});
   for (fst::ArcIterator<Fst> it(t, s); !it.Done(); it.Next()) {
     const Arc &a = it.Value();
-    so_far.first += (uint64_t)a.weight.Value();
+    so_far.first += (int64_t)a.weight.Value();
     if (a.olabel) so_far.second.push_back(a.olabel);
     paths(t, a.nextstate, so_far, found);
     if (a.olabel) so_far.second.pop_back();
-    so_far.first -= (uint64_t)a.weight.Value();
+    so_far.first -= (int64_t)a.weight.Value();
   }
 }
 
-constexpr double NONE = -1;
+// No cost: nothing accepts, or a cycle below zero leaves none the least. Another refusal is none of ours.
+constexpr double NONE = 1e18, NO_LEAST = -1e18, REFUSED = 2e18;
+
+// Whether a connected transducer has a cycle that sums below zero: what each state can save is still growing after as many rounds as states.
+static bool cycle_below_zero(const Fst &t) {
+  std::vector<double> saved(t.NumStates(), 0);
+  for (int round = 0; round < t.NumStates(); ++round) {
+    bool changed = false;
+    for (int s = 0; s < t.NumStates(); ++s)
+      for (fst::ArcIterator<Fst> it(t, s); !it.Done(); it.Next()) {
+        const double sum = it.Value().weight.Value() + saved[it.Value().nextstate];
+        if (sum < saved[s]) saved[s] = sum, changed = true;
+      }
+    if (!changed) return false;
+  }
+  return t.NumStates() > 0;
+}
 
 // The cost of the one path that ShortestPath leaves.
 static double cost_of_path(const Fst &t) {
@@ -159,7 +177,9 @@ static double our_least(const Bytes &b) {
   forthwn_path told;
   const uint32_t refused =
       forthwn_shortest(b.data(), b.size(), path_arcs.data(), path_arcs.size(), path_labels.data(), path_labels.size(), &told);
-  return refused == FORTHWN_NO_PATH ? NONE : refused ? -100. - refused : (double)told.cost;
+  if (refused == FORTHWN_NO_PATH) return NONE;
+  if (refused == FORTHWN_NEGATIVE_CYCLE) return NO_LEAST;
+  return refused ? REFUSED : (double)told.cost;
 }
 
 static Reading our_path(const Bytes &b, uint32_t k) {
@@ -230,8 +250,11 @@ static std::string compared(const Case &c) {
   ++tally[kind_of(n)];
   if (n != count(result)) return differ("count", n, count(result));
   const double least = our_least(applied);
-  if (least != least_cost(result)) return differ("least cost", least, least_cost(result));
-  if (least != cost_of_path(result)) return differ("cost of the shortest path", least, cost_of_path(result));
+  const bool endless_saving = cycle_below_zero(result);
+  if ((least == NO_LEAST) != endless_saving) return differ("a cycle below zero", least == NO_LEAST, endless_saving);
+  ++tally[endless_saving ? "a cycle below zero" : least == NONE ? "no cost" : least < 0 ? "least cost below 0" : "least cost from 0"];
+  if (!endless_saving && least != least_cost(result)) return differ("least cost", least, least_cost(result));
+  if (!endless_saving && least != cost_of_path(result)) return differ("cost of the shortest path", least, cost_of_path(result));
   if (n >= 1 && n <= 98) {
     std::vector<Reading> ours, theirs;
     Reading none;

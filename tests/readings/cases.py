@@ -22,6 +22,7 @@ FALLING = sound(n=2, start=0, finals=((1, 0), (0, 0)), arcs=())
 HEAVY = sound(n=1, start=0, finals=((0, WEIGHT + 1),), arcs=())
 DEAR = one_state((1, 2, 2, WEIGHT))
 DEARER = one_state((1, 2, 2, 1))
+REBATE, MORE_REBATE = one_state((1, 2, 2, -WEIGHT)), one_state((1, 2, 2, -1))
 LADDER = sound(n=9, start=0, finals=((8, 0),), arcs=[x for s in range(9) for x in ((s, 2, 2, s, 0), (s, 0, 7, s + 1, 0))][:-1])
 ONE = b"\1\0"
 BOTH = "composing left.tab and right.tab"
@@ -48,6 +49,9 @@ CASES = [
     ("too many states, composing", (11, BOTH), line(513), REST, b"\1"),
     ("too many arcs, composing", (12, BOTH), one_state((56, 1, 2, 0)), one_state((55, 2, 3, 0)), ONE),
     ("weights, composing", (13, BOTH), DEAR, DEARER, ONE),
+    ("weights below, composing", (13, BOTH), REBATE, MORE_REBATE, ONE),
+    ("a weight below, in the right table", (8, "in right.tab"), COPY, one_state((1, 2, 2, -WEIGHT - 1)), ONE),
+    ("a rebate", None, COPY, REBATE, b"\2\0"),
     ("the code", (9, "in code.lab"), COPY, COPY, b"\0\0"),
     ("too many states, applying", (11, "applying code.lab"), TURN, LADDER, ONE * 64),
     ("too many arcs, applying", (12, "applying code.lab"), one_state((49, 1, 2, 0)), COPY, ONE * 64),

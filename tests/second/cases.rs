@@ -9,8 +9,8 @@ use crate::rng::Rng;
 #[derive(Clone, Debug)]
 pub struct Draft {
     pub head: [u16; 4],
-    pub finals: Vec<(u16, u32)>,
-    pub arcs: Vec<([u16; 4], u32)>,
+    pub finals: Vec<(u16, i32)>,
+    pub arcs: Vec<([u16; 4], i32)>,
 }
 
 /// Length field, kind, body.
@@ -29,7 +29,7 @@ pub struct Case {
 
 impl Draft {
     /// Arcs are given as (source, input, output, target, weight), any order.
-    pub fn new(n: usize, start: usize, finals: &[(usize, u32)], arcs: &[Given]) -> Draft {
+    pub fn new(n: usize, start: usize, finals: &[(usize, i32)], arcs: &[Given]) -> Draft {
         let mut arcs: Vec<_> = arcs
             .iter()
             .map(|a| ([a.0 as u16, a.1, a.2, a.3 as u16], a.4))
@@ -59,7 +59,7 @@ impl Draft {
     }
 }
 
-pub type Given = (usize, u16, u16, usize, u32);
+pub type Given = (usize, u16, u16, usize, i32);
 
 pub fn join_records(records: &[Record]) -> Vec<u8> {
     let mut out = Vec::new();
@@ -73,14 +73,52 @@ pub fn join_records(records: &[Record]) -> Vec<u8> {
 
 // -------------------------------------------------------- small tables
 
-fn weight(rng: &mut Rng) -> u32 {
-    match rng.below(40) {
+/// What weights a table has.
+#[derive(Clone, Copy, PartialEq)]
+enum Signs {
+    /// None below zero.
+    Plain,
+    /// Some below zero, by amounts that cancel out around every ring: each
+    /// state has one, which arcs to it lose and arcs from it gain.
+    Shifted,
+    /// Any.
+    Both,
+}
+
+fn signs(rng: &mut Rng) -> Signs {
+    rng.pick(&[Signs::Plain, Signs::Plain, Signs::Shifted, Signs::Shifted, Signs::Both])
+}
+
+fn weight(rng: &mut Rng, signs: Signs) -> i32 {
+    let size = match rng.below(40) {
         0 => 1_000_000,
         1 => 999_999,
         2 => 500_000,
         3 => 500_001,
-        4..=20 => rng.below(3) as u32,
-        _ => rng.below(8) as u32,
+        4..=20 => rng.below(3) as i32,
+        _ => rng.below(8) as i32,
+    };
+    let below = signs == Signs::Both && rng.chance(2, 5);
+    if below { -size } else { size }
+}
+
+/// Puts weights below zero into a table without changing what a ring sums to;
+/// every accepting path costs the start's amount more than before.
+fn shift(rng: &mut Rng, d: &mut Draft) {
+    let most = rng.pick(&[2, 9, 250_000, 500_000]);
+    let amounts: Vec<i32> = (0..d.head[0]).map(|_| rng.range(0, 2 * most) as i32 - most as i32).collect();
+    let of = |s: u16| amounts[s as usize];
+    let within = |w: i32| (-1_000_000..=1_000_000).contains(&w);
+    let mut moved = d.clone();
+    for (fields, w) in &mut moved.arcs {
+        *w += of(fields[0]) - of(fields[3]);
+    }
+    for (state, w) in &mut moved.finals {
+        *w += of(*state);
+    }
+    // Where some weight would leave the range, all stay.
+    if moved.arcs.iter().all(|a| within(a.1)) && moved.finals.iter().all(|x| within(x.1)) {
+        *d = moved;
     }
 }
 
@@ -101,6 +139,7 @@ pub fn small(rng: &mut Rng, most: usize, max_arcs: usize) -> Draft {
     // Going up only makes a table without rings.
     let upward = rng.chance(3, 5);
     let plain = rng.chance(1, 3);
+    let signs = signs(rng);
     let mut arcs: Vec<Given> = Vec::new();
     for _ in 0..rng.below(max_arcs + 1) {
         if !arcs.is_empty() && rng.chance(1, 8) {
@@ -120,30 +159,39 @@ pub fn small(rng: &mut Rng, most: usize, max_arcs: usize) -> Draft {
                 std::mem::swap(&mut s, &mut t);
             }
         }
-        let w = if plain { 0 } else { weight(rng) };
+        let w = if plain { 0 } else { weight(rng, signs) };
         arcs.push((s, label(rng, labels, empty), label(rng, labels, empty), t, w));
     }
     let some = rng.pick(&[1, 2, 2, 3, 6]);
     let finals: Vec<_> = (0..n).filter(|_| rng.chance(1, some)).collect();
-    let finals: Vec<_> = finals.into_iter().map(|s| (s, weight(rng))).collect();
-    Draft::new(n, start, &finals, &arcs)
+    let finals: Vec<_> = finals.into_iter().map(|s| (s, weight(rng, signs))).collect();
+    let mut d = Draft::new(n, start, &finals, &arcs);
+    if signs == Signs::Shifted {
+        shift(rng, &mut d);
+    }
+    d
 }
 
 /// A ring of states with a few arcs beside it; it may lie off every
-/// accepting path.
+/// accepting path. It sums to zero, or to one more or less, or to anything.
 pub fn ring(rng: &mut Rng) -> Draft {
     let n = rng.range(1, 6);
     let size = rng.range(1, n);
     let from = rng.below(n - size + 1);
     let empty = rng.pick(&[30, 100]);
+    let signs = signs(rng);
+    let mut weights: Vec<i32> = (0..size).map(|_| weight(rng, signs).clamp(-9, 9)).collect();
+    if rng.chance(2, 3) {
+        let rest: i32 = weights[1..].iter().sum();
+        weights[0] = rng.pick(&[0, 0, 1, -1]) - rest;
+    }
     let mut arcs: Vec<Given> = Vec::new();
-    for i in 0..size {
+    for (i, &w) in weights.iter().enumerate() {
         let to = from + (i + 1) % size;
-        let w = rng.below(3) as u32;
         arcs.push((from + i, label(rng, 2, empty), label(rng, 2, 50), to, w));
     }
     for _ in 0..rng.below(5) {
-        let w = weight(rng);
+        let w = weight(rng, signs);
         arcs.push((rng.below(n), label(rng, 2, 30), label(rng, 2, 30), rng.below(n), w));
     }
     // Arcs of one source come in any order.
@@ -154,10 +202,14 @@ pub fn ring(rng: &mut Rng) -> Draft {
     let mut finals = Vec::new();
     for s in 0..n {
         if rng.chance(1, 3) {
-            finals.push((s, weight(rng)));
+            finals.push((s, weight(rng, signs)));
         }
     }
-    Draft::new(n, rng.below(n), &finals, &arcs)
+    let mut d = Draft::new(n, rng.below(n), &finals, &arcs);
+    if signs == Signs::Shifted {
+        shift(rng, &mut d);
+    }
+    d
 }
 
 /// A line that copies a string, with corrections beside it.
@@ -179,7 +231,7 @@ fn corrections(rng: &mut Rng) -> (Draft, Draft, Vec<u16>) {
     for s in 0..n - 1 {
         for _ in 0..rng.range(1, 2) {
             let x = if s < length { code[s] } else { rng.range(0, 3) as u16 };
-            right.push((s, x, rng.range(0, 4) as u16, s + 1, rng.below(3) as u32));
+            right.push((s, x, rng.range(0, 4) as u16, s + 1, rng.below(3) as i32));
         }
     }
     let left = Draft::new(2, 0, &[(0, 0), (1, 1)], &left);
@@ -205,7 +257,7 @@ fn matched(rng: &mut Rng) -> (Draft, Draft, Vec<u16>) {
         state = fields[3];
     }
     left.finals.retain(|x| x.0 != state);
-    left.finals.push((state, rng.below(4) as u32));
+    left.finals.push((state, rng.below(4) as i32));
     left.finals.sort();
     left.head[2] = left.finals.len() as u16;
 
@@ -217,18 +269,18 @@ fn matched(rng: &mut Rng) -> (Draft, Draft, Vec<u16>) {
     for i in 0..=last {
         if rng.chance(1, 3) {
             let to = if rng.chance(3, 4) { (state + 1) % n } else { rng.below(n) };
-            arcs.push((state, 0, label(rng, 3, 30), to, rng.below(3) as u32));
+            arcs.push((state, 0, label(rng, 3, 30), to, rng.below(3) as i32));
             state = to;
         }
         if i < last {
             let to = if rng.chance(3, 4) { (state + 1) % n } else { rng.below(n) };
             for _ in 0..rng.pick(&[1, 1, 1, 2, 3]) {
-                arcs.push((state, middle[i], label(rng, 3, 30), to, rng.below(3) as u32));
+                arcs.push((state, middle[i], label(rng, 3, 30), to, rng.below(3) as i32));
             }
             state = to;
         }
     }
-    let mut finals = vec![(state, rng.below(3) as u32)];
+    let mut finals = vec![(state, rng.below(3) as i32)];
     if rng.chance(1, 3) {
         finals.push((rng.below(n), 1));
     }
@@ -237,36 +289,36 @@ fn matched(rng: &mut Rng) -> (Draft, Draft, Vec<u16>) {
 
 // ------------------------------------------------------ special tables
 
-pub fn line(n: usize, input: u16, output: u16, w: u32) -> Draft {
+pub fn line(n: usize, input: u16, output: u16, w: i32) -> Draft {
     let arcs: Vec<Given> = (1..n).map(|s| (s - 1, input, output, s, w)).collect();
     Draft::new(n, 0, &[(n - 1, 0)], &arcs)
 }
 
 /// The same line with its states numbered from the end.
-pub fn line_down(n: usize, input: u16, output: u16, w: u32) -> Draft {
+pub fn line_down(n: usize, input: u16, output: u16, w: i32) -> Draft {
     let arcs: Vec<Given> = (1..n).map(|s| (s, input, output, s - 1, w)).collect();
     Draft::new(n, n - 1, &[(0, 1)], &arcs)
 }
 
-/// 98 paths of 1,023 arcs that read nothing, of the greatest weights, each
-/// arc writing a label of five digits: no listing is longer than theirs.
+/// 98 paths of 1,023 arcs that read nothing, of the least weights, each arc
+/// writing a label of five digits: no listing is longer than theirs.
 pub fn longest() -> Draft {
-    let mut arcs = vec![(0, 0, 65_534, 1, 1_000_000); 98];
-    arcs.extend((1..1_023).map(|s| (s, 0, 65_534, s + 1, 1_000_000)));
-    Draft::new(1_024, 0, &[(1_023, 1_000_000)], &arcs)
+    let mut arcs = vec![(0, 0, 65_534, 1, -1_000_000); 98];
+    arcs.extend((1..1_023).map(|s| (s, 0, 65_534, s + 1, -1_000_000)));
+    Draft::new(1_024, 0, &[(1_023, -1_000_000)], &arcs)
 }
 
-pub fn loops(count: usize, input: u16, output: u16, w: u32) -> Draft {
+pub fn loops(count: usize, input: u16, output: u16, w: i32) -> Draft {
     let arcs = vec![(0, input, output, 0, w); count];
     Draft::new(1, 0, &[(0, 0)], &arcs)
 }
 
-pub fn like_arcs(count: usize, input: u16, output: u16, w: u32) -> Draft {
+pub fn like_arcs(count: usize, input: u16, output: u16, w: i32) -> Draft {
     let arcs = vec![(0, input, output, 1, w); count];
     Draft::new(2, 0, &[(1, 0)], &arcs)
 }
 
-pub fn one_arc(input: u16, output: u16, w: u32, last: u32) -> Draft {
+pub fn one_arc(input: u16, output: u16, w: i32, last: i32) -> Draft {
     Draft::new(2, 0, &[(1, last)], &[(0, input, output, 1, w)])
 }
 
@@ -275,7 +327,7 @@ pub fn bundles(sizes: &[usize], input: u16, output: u16) -> Draft {
     let mut arcs: Vec<Given> = Vec::new();
     for (s, &size) in sizes.iter().enumerate() {
         for i in 0..size {
-            arcs.push((s, input, output, s + 1, i as u32 % 3));
+            arcs.push((s, input, output, s + 1, i as i32 % 3));
         }
     }
     Draft::new(sizes.len() + 1, 0, &[(sizes.len(), 7)], &arcs)
@@ -284,6 +336,8 @@ pub fn bundles(sizes: &[usize], input: u16, output: u16) -> Draft {
 /// A large random table of n states and m arcs.
 pub fn large(rng: &mut Rng, n: usize, m: usize, labels: usize, empty: usize) -> Draft {
     let upward = rng.chance(1, 2) && n > 1;
+    // With weights below zero, rings below zero are everywhere.
+    let below = rng.pick(&[0, 0, 1]);
     let mut arcs: Vec<Given> = Vec::new();
     for i in 0..m {
         // A line through all states first, so that they are reached.
@@ -295,14 +349,18 @@ pub fn large(rng: &mut Rng, n: usize, m: usize, labels: usize, empty: usize) -> 
         } else {
             (rng.below(n), rng.below(n))
         };
-        let w = rng.below(4) as u32;
+        let w = rng.below(4) as i32 - below;
         arcs.push((s, label(rng, labels, empty), label(rng, labels, empty), t, w));
     }
     let mut finals = vec![(n - 1, 3)];
     for _ in 0..rng.below(4) {
-        finals.push((rng.below(n), rng.below(9) as u32));
+        finals.push((rng.below(n), rng.below(9) as i32));
     }
-    Draft::new(n, 0, &finals, &arcs)
+    let mut d = Draft::new(n, 0, &finals, &arcs);
+    if rng.chance(1, 2) {
+        shift(rng, &mut d);
+    }
+    d
 }
 
 /// A table whose lattice for the code 1 has the wanted number of states:
@@ -365,7 +423,7 @@ pub fn damage(rng: &mut Rng, d: &mut Draft, aim: u32) {
         },
         7 => d.arcs[a].0[rng.range(1, 2)] = 65_535,
         8 => {
-            let bad = rng.pick(&[1_000_001, 1_000_001, 0x0100_0000, u32::MAX]);
+            let bad = rng.pick(&[1_000_001, 1_000_001, -1_000_001, -1_000_001, 0x0100_0000, i32::MAX, i32::MIN]);
             if rng.chance(1, 2) {
                 d.finals[f].1 = bad;
             } else {
@@ -592,6 +650,13 @@ pub fn fixed() -> Vec<Case> {
         raw("weight 1,000,000", one_arc(1, 2, 1_000_000, 0).bytes(), 0),
         raw("weight 1,000,001", one_arc(1, 2, 1_000_001, 0).bytes(), 8),
         raw("final weight 1,000,001", one_arc(1, 2, 0, 1_000_001).bytes(), 8),
+        raw("weight -1", one_arc(1, 2, -1, -1).bytes(), 0),
+        raw("weight -1,000,000", one_arc(1, 2, -1_000_000, 0).bytes(), 0),
+        raw("weight -1,000,001", one_arc(1, 2, -1_000_001, 0).bytes(), 8),
+        raw("final weight -1,000,000", one_arc(1, 2, 0, -1_000_000).bytes(), 0),
+        raw("final weight -1,000,001", one_arc(1, 2, 0, -1_000_001).bytes(), 8),
+        raw("weight -2^31", one_arc(1, 2, i32::MIN, 0).bytes(), 8),
+        raw("final weight 2^31 - 1", one_arc(1, 2, 0, i32::MAX).bytes(), 8),
         raw("label 65,534", one_arc(65_534, 2, 0, 0).bytes(), 0),
         raw("label 65,535", one_arc(1, 65_535, 0, 0).bytes(), 7),
     ];
@@ -612,15 +677,28 @@ pub fn fixed() -> Vec<Case> {
     out.push(raw("kind 4", with(&[(0, 4, vec![])]), 2));
     out.push(raw("kind 4, then a cut head", [with(&[(0, 4, vec![])]), vec![8]].concat(), 1));
     out.push(raw("four zero bytes behind", with(&[(0, 0, vec![])]), 2));
-    let heavy = |w, v| (one_arc(1, 2, 600_000, w), one_arc(2, 3, v, 600_000));
-    for (w, v, answer) in [
-        (400_000, 400_000, 0),
-        (400_000, 400_001, 13),
-        (400_001, 400_000, 13),
-        (400_001, 400_001, 13),
-    ] {
-        let (l, r) = heavy(w, v);
-        out.push(given("sums at the weight limit", l, r, &[1], Some(answer)));
+    for sign in [1, -1] {
+        let heavy = |w: i32, v: i32| (one_arc(1, 2, sign * 600_000, sign * w), one_arc(2, 3, sign * v, sign * 600_000));
+        for (w, v, answer) in [
+            (400_000, 400_000, 0),
+            (400_000, 400_001, 13),
+            (400_001, 400_000, 13),
+            (400_001, 400_001, 13),
+            (-1_000_000, -1_000_000, 0),
+        ] {
+            let (l, r) = heavy(w, v);
+            out.push(given("sums at the weight limits", l, r, &[1], Some(answer)));
+        }
+        let ends = one_arc(1, 2, sign * 1_000_000, sign * 1_000_000);
+        let against = one_arc(2, 3, -sign * 1_000_000, -sign * 1_000_000);
+        out.push(given("sums of both ends", ends.clone(), against, &[1], ok));
+        out.push(given("sums of one end", ends, one_arc(2, 3, sign * 1_000_000, 0), &[1], Some(13)));
+    }
+    // The arc of one side alone, at its end and beside the other side's.
+    for w in [-1_000_000, -1, 0, 1_000_000] {
+        let l = Draft::new(2, 0, &[(1, 0)], &[(0, 1, 0, 1, w)]);
+        let r = Draft::new(2, 0, &[(1, w)], &[(0, 0, 3, 1, -w)]);
+        out.push(given("steps of one side", l, r, &[1], ok));
     }
     for n in [97, 98, 99, 100, 101] {
         out.push(given("like arcs", like_arcs(n, 1, 2, 5), copy(), &[1], ok));
@@ -662,10 +740,11 @@ pub fn fixed() -> Vec<Case> {
     let last = Draft::new(1, 0, &[(0, 100_001)], &[(0, 2, 3, 0, 0)]);
     out.push(given("final sum reached", two_finals(true), last.clone(), &[1], Some(13)));
     out.push(given("final sum not reached", two_finals(false), last, &[1], ok));
-    for w in [2, 0] {
+    for w in [2, 0, -1] {
         let right = Draft::new(1, 0, &[(0, 0)], &[]);
         out.push(given("loop 0:7", loops(1, 0, 7, w), right, &[], ok));
     }
+    out.extend(rings_below_zero());
     out.push(given("arc twice", like_arcs(2, 1, 2, 5), copy(), &[1], ok));
     let (l, r) = worked();
     out.push(given("worked pair", l, r, &[1, 3], ok));
@@ -723,6 +802,47 @@ pub fn fixed() -> Vec<Case> {
     }
     for bad in [0, 65_535] {
         out.push(given("string with a barred label", loops(1, 1, 2, 1), copy(), &[1, bad, 1], ok));
+    }
+    out
+}
+
+/// Rings that sum below zero, to zero and above, on accepting paths and off them.
+fn rings_below_zero() -> Vec<Case> {
+    let copy = || loops(1, 2, 2, 0);
+    let mut out = Vec::new();
+    for sum in [-1, 0, 1] {
+        // 0 to 1 to 2 and back to 1; 2 is final.
+        let ring = [(1, 0, 2, 2, -5), (2, 0, 0, 1, 5 + sum)];
+        let on = [&[(0, 1, 2, 1, 3)], &ring[..]].concat();
+        out.push(given("ring on a path", Draft::new(3, 0, &[(2, -4)], &on), copy(), &[1], Some(0)));
+        // The ring leads nowhere: state 3 is final.
+        let dead = [&[(0, 1, 2, 1, 3), (0, 1, 2, 3, -3)], &ring[..]].concat();
+        out.push(given("ring reached, no end behind", Draft::new(4, 0, &[(3, 0)], &dead), copy(), &[1], Some(0)));
+        // Nothing leads to the ring, and the ring leads to the end.
+        let off = [&[(0, 1, 2, 3, -3)], &ring[..], &[(2, 0, 0, 3, 0)]].concat();
+        out.push(given("ring not reached, an end behind", Draft::new(4, 0, &[(3, 0)], &off), copy(), &[1], Some(0)));
+        // Neither.
+        let apart = [&[(0, 1, 2, 3, -3)], &ring[..]].concat();
+        out.push(given("ring apart", Draft::new(4, 0, &[(3, 0)], &apart), copy(), &[1], Some(0)));
+        // Nothing accepts at all: 16, and not 19.
+        let none = [&[(0, 1, 2, 1, 3)], &ring[..]].concat();
+        out.push(given("ring and no end", Draft::new(3, 0, &[], &none), copy(), &[1], Some(0)));
+        // Two rings through one state, of which one pays.
+        let two = [&[(0, 1, 2, 1, 3), (1, 0, 2, 1, 0)], &ring[..]].concat();
+        out.push(given("two rings", Draft::new(3, 0, &[(1, 0)], &two), copy(), &[1], Some(0)));
+    }
+    // A ring of all states, whose sum its last arc decides; the others are near both ends.
+    for (n, sum) in [(5, -1), (5, 0), (1_023, -1), (1_024, -1), (1_024, 0), (1_024, 1)] {
+        let mut arcs: Vec<Given> = (1..n).map(|s| (s - 1, 0, 2, s, if s % 2 == 0 { 999_999 } else { -999_999 })).collect();
+        let rest: i32 = arcs.iter().map(|a| a.4).sum();
+        arcs.push((n - 1, 0, 2, 0, sum - rest));
+        out.push(given("ring of all states", Draft::new(n, 0, &[(n / 2, 0)], &arcs), copy(), &[], None));
+    }
+    // The costs at both ends: 1,023 arcs and a final weight.
+    for w in [-1_000_000, 1_000_000] {
+        let mut d = line(1_024, 1, 2, w);
+        d.finals[0].1 = w;
+        out.push(given("the whole cost", d, copy(), &[1; 64], Some(0)));
     }
     out
 }

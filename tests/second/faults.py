@@ -8,6 +8,7 @@ The faulty copy is a shared library with the calls of the real one under
 other names (shim.rs), so the driver is built only once, and what it hands on
 from call to call is made by the clean model. Exit code 1 if a fault is not
 found or cannot be planted, or if the copy without a fault differs.
+FORTHWN_LIB_DIR=FOLDER takes libforthwn.a from there, and builds nothing.
 """
 import argparse
 import os
@@ -28,7 +29,7 @@ FAULTS = [
      "let to = (a.target, b.target, 0);", "let to = (a.target, b.target, mark);"),
     ("right steps first", "pub fn join",
      "for (to, input, output, weight, origin) in steps {",
-     "steps.sort_by_key(|s: &((usize, usize, u8), u16, u16, u64, (u16, u16))| s.4 .0 != STILL); "
+     "steps.sort_by_key(|s: &((usize, usize, u8), u16, u16, i64, (u16, u16))| s.4 .0 != STILL); "
      "for (to, input, output, weight, origin) in steps {"),
     ("trimming keeps unreachable states", "pub fn live",
      "(0..t.states).map(|s| reached[s] && accepts[s]).collect()",
@@ -40,8 +41,7 @@ FAULTS = [
      "let behind = items.len();", "let behind = buffer.len() - if items.is_empty() { buffer.len() } else { 0 };"),
     ("cost without final weight", "pub fn path_cost",
      "arcs + t.final_weight(path_end(t, path)).unwrap()", "arcs"),
-    ("ties by path order before arcs", "pub fn cheapest",
-     "(way.0, way.1, &way.2) < (old.0, old.1, &old.2)", "(way.0, &way.2) < (old.0, &old.2)"),
+    ("ties to more arcs", "fn least_path", "layers.iter().position(", "layers.iter().take(t.states).rposition("),
     ("9 after 10", "pub fn apply",
      "if code.len() > MAX_CODE ||",
      "if out.len() >= TABLE_BYTES && origins.len() >= LATTICE_ORIGINS && pairs.len() >= WORK_STATES && code.len() > MAX_CODE ||"),
@@ -66,6 +66,18 @@ FAULTS = [
      "let mut paths = first_paths(&t, MANY); paths.sort_by(|a, b| "
      "b.starts_with(a).cmp(&a.starts_with(b)).then(a.cmp(b)));"),
     ("listing: the lines of 99 follow", "fn listed", "if n as usize == MANY {", "if n as usize > MANY {"),
+    # Signs, and rings below zero.
+    ("the sign bit read as large", "fn weight", "if bytes[at + 3] < 128 { whole } else { whole - 4_294_967_296 }", "whole"),
+    ("8 on one side only", "fn test_body", "_ => beyond(a.weight),", "_ => a.weight > MAX_WEIGHT,"),
+    ("13 on one side only", "pub fn join", "beyond(a.weight)", "a.weight > MAX_WEIGHT"),
+    ("19 for a ring that leads nowhere", "pub fn cheapest", "if ring_below_zero(t, &layers) {",
+     "let all = Table { finals: (0..t.states).map(|s| (s, 0)).collect(), ..t.clone() }; if ring_below_zero(&all, &to_come(&all)) {"),
+    ("19 for a ring that is not reached", "fn to_come", "let live = live(t);", "let live = vec![true; t.states];"),
+    ("19 before 16", "pub fn cheapest", "return Err(16)",
+     "let all = Table { finals: (0..t.states).map(|s| (s, 0)).collect(), ..t.clone() }; "
+     "return Err(if ring_below_zero(&all, &to_come(&all)) { 19 } else { 16 })"),
+    ("a ring of sum zero refused", "fn ring_below_zero", "cost < least", "cost <= least"),
+    ("cost cut to 32 bits without sign", "fn tell", "path_cost(t, path),", "path_cost(t, path) as u32 as i64,"),
 ]
 
 # More, run with --all.
@@ -80,8 +92,24 @@ MORE = [
      "let ends = reached.iter().enumerate().filter(|x| x.1 .0 == code.len()); "
      "let finals = ends.filter_map(|(i, x)| t.final_weight(x.1).map(|w| (i, w))).collect(); "
      "if trimmed(&Table { states: reached.len(), start: 0, finals, arcs: arcs.clone() }).0.arcs.len() > MAX_ARCS {"),
-    ("joined weight below 1,000,000", "pub fn join", "a.weight > MAX_WEIGHT", "a.weight >= MAX_WEIGHT"),
-    ("joined final weight not tested", "pub fn join", "x.1 > MAX_WEIGHT", "false && x.1 > MAX_WEIGHT"),
+    ("joined weight below 1,000,000", "pub fn join", "beyond(a.weight)", "(a.weight >= MAX_WEIGHT || beyond(a.weight))"),
+    ("joined weight above -1,000,000", "pub fn join", "beyond(a.weight)", "(a.weight <= MIN_WEIGHT || beyond(a.weight))"),
+    ("joined final weight not tested", "pub fn join", "beyond(x.1)", "false && beyond(x.1)"),
+    ("13 of finals on one side only", "pub fn join", "beyond(x.1)", "x.1 > MAX_WEIGHT"),
+    ("13 of finals at the other side only", "pub fn join", "beyond(x.1)", "x.1 < MIN_WEIGHT"),
+    ("8 of finals on one side only", "fn test_body", "_ => beyond(*weight),", "_ => *weight > MAX_WEIGHT,"),
+    ("weight -1,000,000 refused", "fn beyond", "weight < MIN_WEIGHT", "weight <= MIN_WEIGHT"),
+    ("weight -1,000,001 passes", "fn beyond", "weight < MIN_WEIGHT", "weight < MIN_WEIGHT - 1"),
+    ("the sign bit counts -2^31 and 2^31", "fn weight", "whole - 4_294_967_296", "whole - 4_294_967_295"),
+    ("a sign written as size", "fn put4", "if x < 0 { x + 4_294_967_296 } else { x }", "x.abs()"),
+    ("a round too few before 19", "fn to_come", "while layers.len() <= t.states {", "while layers.len() < t.states {"),
+    ("19 changes the buffers", "pub fn shortest", "Err(r) => (r, (0, 0, 0)),",
+     "Err(r) => { if r == 19 { clear(arcs); } (r, (0, 0, 0)) }"),
+    ("19 before 10", "pub fn shortest", "if arcs.len() < PATH_ARCS",
+     "if cheapest(&t) == Err(19) { return (19, (0, 0, 0)); } if arcs.len() < PATH_ARCS"),
+    ("14 not given for a ring below zero", "pub fn count", "if endless(&t) {", "if endless(&t) && cheapest(&t) != Err(19) {"),
+    ("listing: costs without their sign", "fn listed", "told.0", "told.0.abs()"),
+    ("listing: room for costs of ten", "", "\"97 -1024000000\\n\"", "\"97 1024000000\\n\""),
     ("joined final weight of the left alone", "pub fn join", "finals.push((i, x + y));", "finals.push((i, x + 0 * y));"),
     ("equal finals pass", "fn test_body", "t.finals[i - 1].0 >= *state", "t.finals[i - 1].0 > *state"),
     ("equal sources refused", "fn test_body", "t.arcs[i - 1].source > a.source", "t.arcs[i - 1].source >= a.source"),
@@ -92,7 +120,7 @@ MORE = [
     ("second head passes", "fn test_kinds", "if (*kind == 1) != (i == 0) {", "if i == 0 && *kind != 1 {"),
     ("order of kinds not tested", "fn test_kinds", "if i > 0 && records[i - 1].0 > *kind {", "if false {"),
     ("output label 65,535 passes", "fn test_body", "a.input == BARRED || a.output == BARRED", "a.input == BARRED"),
-    ("final weight not tested", "fn test_body", "_ => *weight > MAX_WEIGHT,", "_ => false,"),
+    ("final weight not tested", "fn test_body", "_ => beyond(*weight),", "_ => false,"),
     ("string of 64 refused", "pub fn apply", "code.len() > MAX_CODE", "code.len() >= MAX_CODE"),
     ("0 in a string passes", "pub fn apply", "x == 0 || x == BARRED", "x == BARRED"),
     ("join origins one short pass", "pub fn compose", "origins.len() < JOIN_ORIGINS", "origins.len() < JOIN_ORIGINS - 1"),
@@ -103,8 +131,7 @@ MORE = [
     ("lattice final before the end", "pub fn lattice", "place == code.len()", "place <= code.len()"),
     ("numbers of a lattice from the joined trim", "pub fn apply", "kept.iter().map(|&i| from[i]).collect()", "kept.clone()"),
     ("no acceptance leaves no state", "pub fn trimmed", "states: 1, start: 0", "states: t.states, start: t.start"),
-    ("ties to the later arc", "pub fn cheapest", "(way.0, way.1, &way.2) < (old.0, old.1, &old.2)",
-     "(way.0, way.1) < (old.0, old.1) || (way.0, way.1) == (old.0, old.1) && way.2 > old.2"),
+    ("ties to the later arc", "fn least_path", "t.arcs.iter().position(", "t.arcs.iter().rposition("),
     ("write tests what lies behind", "pub fn write", "if fields.len() < 4 * m || arc_weights.len() < m {",
      "if fields.len() != 4 * m || arc_weights.len() < m {"),
     ("write cuts numbers to 16 bits", "pub fn write", "let [n, m, f, start] = head;", "let [n, m, f, start] = head.map(|x| x % 65_536);"),
@@ -134,16 +161,18 @@ def main():
     faults = FAULTS + (MORE if options.all or options.only else [])
     if options.only:
         faults = [f for f in faults if options.only in f[0]]
-    made = subprocess.run(["rt", "staticlib", "forthwn"], cwd=ROOT, capture_output=True, text=True)
-    if made.returncode != 0:
-        print(made.stdout + made.stderr)
-        return 1
+    library = os.path.abspath(os.environ.get("FORTHWN_LIB_DIR") or f"{ROOT}/target/staticlib")
+    if not os.environ.get("FORTHWN_LIB_DIR"):
+        made = subprocess.run(["rt", "staticlib", "forthwn"], cwd=ROOT, capture_output=True, text=True)
+        if made.returncode != 0:
+            print(made.stdout + made.stderr)
+            return 1
     clean = text_of("model.rs")
     work = tempfile.mkdtemp(prefix="faults-")
     missed = []
     began = time.time()
     try:
-        build_driver(work, clean)
+        build_driver(work, clean, library)
         # The clean copy must agree, or a found fault says nothing.
         for number, fault in enumerate([("none", "", "", "")] + faults):
             result = try_fault(work, clean, fault, options.cases)
@@ -182,7 +211,7 @@ def rustc(work, *arguments):
         raise RuntimeError(build.stderr.strip())
 
 
-def build_driver(work, clean):
+def build_driver(work, clean, library):
     """The driver, with the static library on one side and whatever model the shared library has on the other."""
     for name in os.listdir(HERE):
         if name.endswith(".rs"):
@@ -191,7 +220,7 @@ def build_driver(work, clean):
     put(work, "planted.rs", renamed(text_of("library.rs")))
     build_faulty(work, clean)
     rustc(work, "-O", "--cfg", "have_all", "--cfg", "planted", "main.rs", "-o", "driver",
-          "-L", f"native={ROOT}/target/staticlib", "-l", "static=forthwn", "-L", f"native={work}", "-l", "dylib=planted")
+          "-L", f"native={library}", "-l", "static=forthwn", "-L", f"native={work}", "-l", "dylib=planted")
 
 
 def build_faulty(work, source):

@@ -10,6 +10,9 @@ use std::collections::HashSet;
 pub struct Done {
     pub tables: usize,
     pub paths: usize,
+    pub cheapest: usize,
+    pub below_zero: usize,
+    pub cheapest_within: usize,
     pub trims: usize,
     pub pairs_finite: usize,
     pub pairs_endless: usize,
@@ -48,6 +51,58 @@ fn count_by_length(t: &Table) -> Option<u64> {
     Some(total.min(99))
 }
 
+/// Whether a path passes some state twice with a lesser sum the second time.
+fn ring_pays(t: &Table, path: &[u16]) -> bool {
+    let (mut state, mut sum) = (t.start, 0);
+    let mut met = vec![(state, sum)];
+    for &i in path {
+        let a = &t.arcs[i as usize];
+        (state, sum) = (a.target, sum + a.weight);
+        if met.iter().any(|&(s, before)| s == state && sum < before) {
+            return true;
+        }
+        met.push((state, sum));
+    }
+    false
+}
+
+/// The cheapest by going through paths. A ring below zero on an accepting
+/// path has a simple one, of at most n arcs, with fewer than n arcs before it
+/// and behind; where there is none, the cheapest has fewer arcs than there
+/// are states.
+fn cheapest_by_paths(t: &Table, done: &mut Done) -> Check {
+    let mut budget = 20_000;
+    let Some(long) = all_paths(t, None, 3 * t.states, &mut budget) else {
+        done.skipped += 1;
+        return cheapest_within(t, done);
+    };
+    let found = cheapest(t);
+    let pays = long.iter().any(|p| ring_pays(t, p));
+    let wanted = if long.is_empty() { Err(16) } else if pays { Err(19) } else { best(t, long) };
+    expect("cheapest", found, wanted)?;
+    done.cheapest += 1;
+    done.below_zero += usize::from(pays);
+    Ok(())
+}
+
+fn best(t: &Table, paths: Vec<Vec<u16>>) -> Result<Vec<u16>, u32> {
+    paths.into_iter().min_by_key(|p| (path_cost(t, p), p.len(), p.clone())).ok_or(16)
+}
+
+/// Where so many paths are too many: those of fewer arcs than states, with
+/// which only an answer other than 19 is compared.
+fn cheapest_within(t: &Table, done: &mut Done) -> Check {
+    let mut budget = 20_000;
+    if let Some(all) = all_paths(t, None, t.states - 1, &mut budget) {
+        let found = cheapest(t);
+        if found != Err(19) {
+            expect("cheapest", found, best(t, all))?;
+            done.cheapest_within += 1;
+        }
+    }
+    Ok(())
+}
+
 fn table(t: &Table, done: &mut Done) -> Check {
     let bytes = bytes_of(t);
     expect("parsing what was written", parse(&bytes).as_ref(), Ok(t))?;
@@ -79,14 +134,7 @@ fn table(t: &Table, done: &mut Done) -> Check {
             done.paths += 1;
         }
     }
-    // The cheapest has fewer arcs than there are states.
-    let mut budget = 20_000;
-    if let Some(all) = all_paths(t, None, t.states - 1, &mut budget) {
-        let best = all.into_iter().min_by_key(|p| (path_cost(t, p), p.len(), p.clone()));
-        expect("cheapest", cheapest(t), best)?;
-    } else {
-        done.skipped += 1;
-    }
+    cheapest_by_paths(t, done)?;
     // Each live arc lies on an accepting path of fewer than 2n arcs.
     let mut budget = 20_000;
     if let Some(all) = all_paths(t, None, 2 * t.states, &mut budget) {
@@ -203,9 +251,19 @@ pub fn paper() -> Check {
     expect("three bytes", refusal(&[8, 0, 1]), 1)?;
     expect("weight", refusal(&cases::one_arc(1, 2, 1_000_000, 0).bytes()), 0)?;
     expect("weight", refusal(&cases::one_arc(1, 2, 1_000_001, 0).bytes()), 8)?;
-    let sum = |w| refuses(cases::one_arc(1, 2, 600_000, 0), cases::one_arc(2, 3, w, 0));
-    expect("600,000 + 400,000", sum(400_000), 0)?;
-    expect("600,000 + 400,001", sum(400_001), 13)?;
+    expect("weight", refusal(&cases::one_arc(1, 2, -1_000_000, 0).bytes()), 0)?;
+    expect("weight", refusal(&cases::one_arc(1, 2, -1_000_001, 0).bytes()), 8)?;
+    let sum = |w, v| refuses(cases::one_arc(1, 2, w, 0), cases::one_arc(2, 3, v, 0));
+    expect("600,000 + 400,000", sum(600_000, 400_000), 0)?;
+    expect("600,000 + 400,001", sum(600_000, 400_001), 13)?;
+    expect("-600,000 - 400,000", sum(-600_000, -400_000), 0)?;
+    expect("-600,000 - 400,001", sum(-600_000, -400_001), 13)?;
+    // Two's complement, byte by byte: the weight is the last four.
+    for (weight, four) in [(0, [0, 0, 0, 0]), (-1, [255; 4]), (-1_000_000, [0xC0, 0xBD, 0xF0, 0xFF]), (1_000_000, [0x40, 0x42, 0x0F, 0])] {
+        let bytes = bytes_of(&Table { arcs: vec![Arc { source: 0, input: 1, output: 2, target: 0, weight }], states: 1, start: 0, finals: vec![] });
+        expect("a weight's bytes", &bytes[bytes.len() - 4..], &four[..])?;
+        expect("a weight read", parse(&bytes).map(|t| t.arcs[0].weight), Ok(weight))?;
+    }
     for (n, wanted) in [(98, 98), (99, 99), (100, 99)] {
         expect("like arcs", count(&cases::like_arcs(n, 1, 2, 0).bytes()), (0, wanted))?;
     }
@@ -215,15 +273,15 @@ pub fn paper() -> Check {
     let (t, _) = whole(&cases::loops(48, 1, 2, 0), &cases::loops(64, 2, 3, 0), &[])?;
     expect("48 and 64 loops", t.arcs.len(), 3_072)?;
     expect("56 and 55 loops", refuses(cases::loops(56, 1, 2, 0), cases::loops(55, 2, 3, 0)), 12)?;
-    for w in [2, 0] {
+    for (w, refused) in [(2, 0), (0, 0), (-1, 19)] {
         let bytes = cases::loops(1, 0, 7, w).bytes();
         expect("loop 0:7", count(&bytes), (14, 0))?;
         let (mut a, mut b) = (vec![0; PATH_ARCS], vec![0; PATH_ARCS]);
-        expect("loop 0:7", shortest(&bytes, &mut a, &mut b), (0, (0, 0, 0)))?;
+        expect("loop 0:7", shortest(&bytes, &mut a, &mut b), (refused, (0, 0, 0)))?;
     }
     let twice = cases::like_arcs(2, 1, 2, 5);
     let (t, _) = lattice(&[1], &parse(&twice.bytes()).unwrap()).map_err(|r| r.to_string())?;
-    let costs: Vec<u64> = first_paths(&t, 99).iter().map(|p| path_cost(&t, p)).collect();
+    let costs: Vec<i64> = first_paths(&t, 99).iter().map(|p| path_cost(&t, p)).collect();
     expect("arc twice", costs, vec![5, 5])?;
     let (l, r) = cases::worked();
     let (t, small) = whole(&l, &r, &[1, 3])?;

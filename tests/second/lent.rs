@@ -25,6 +25,10 @@ impl Cell for u32 {
     const DIRT: u32 = 0xA5A5_A5A5;
     const ZERO: u32 = 0;
 }
+impl Cell for i32 {
+    const DIRT: i32 = -0x5A5A_5A5B;
+    const ZERO: i32 = 0;
+}
 
 fn dirty<T: Cell>(length: usize) -> Vec<T> {
     vec![T::DIRT; length]
@@ -42,9 +46,9 @@ fn state(what: &str, holds: bool) -> Stated {
 #[derive(Clone, PartialEq)]
 struct Four {
     fs: Vec<u16>,
-    fw: Vec<u32>,
+    fw: Vec<i32>,
     fields: Vec<u16>,
-    aw: Vec<u32>,
+    aw: Vec<i32>,
 }
 
 impl Four {
@@ -174,8 +178,8 @@ pub fn stated() -> Stated {
     let (left, right) = worked();
     let none = Draft::new(1, 0, &[], &[]);
     let most = large(&mut Rng::new(1, 1), 1_024, 3_072, 5, 4);
-    let all: Vec<(usize, u32)> = (0..1_024).map(|s| (s, 1_000_000 - s as u32)).collect();
-    let finals = Draft::new(1_024, 1_023, &all, &[(7, 65_534, 0, 1_023, 1_000_000)]);
+    let all: Vec<(usize, i32)> = (0..1_024).map(|s| (s, if s % 2 == 0 { 1_000_000 - s as i32 } else { s as i32 - 1_000_001 })).collect();
+    let finals = Draft::new(1_024, 1_023, &all, &[(7, 65_534, 0, 1_023, -1_000_000), (7, 0, 1, 0, 1_000_000), (8, 1, 0, 0, -1)]);
     for (name, d) in [
         ("left", left),
         ("right", right),

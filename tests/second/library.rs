@@ -25,9 +25,9 @@ pub const HAVE: [bool; 11] = [
 ];
 
 /// A path's three numbers cross the interface as an array: cost, arcs, labels.
-const UNSET: [u64; 3] = [0xA5A5; 3];
+const UNSET: [i64; 3] = [0xA5A5; 3];
 
-fn told(t: [u64; 3]) -> Told {
+fn told(t: [i64; 3]) -> Told {
     (t[0], t[1] as u32, t[2] as u32)
 }
 
@@ -38,12 +38,12 @@ const DIRTY: u32 = 0xA5A5_A5A5;
 extern "C" {
     fn forthwn_refusal(bytes: *const u8, len: usize) -> u32;
     fn forthwn_read(bytes: *const u8, len: usize,
-        final_states: *mut u16, final_states_len: usize, final_weights: *mut u32, final_weights_len: usize,
-        fields: *mut u16, fields_len: usize, arc_weights: *mut u32, arc_weights_len: usize,
+        final_states: *mut u16, final_states_len: usize, final_weights: *mut i32, final_weights_len: usize,
+        fields: *mut u16, fields_len: usize, arc_weights: *mut i32, arc_weights_len: usize,
         head: *mut [u32; 4]) -> u32;
     fn forthwn_write(n: u32, m: u32, f: u32, start: u32,
-        final_states: *const u16, final_states_len: usize, final_weights: *const u32, final_weights_len: usize,
-        fields: *const u16, fields_len: usize, arc_weights: *const u32, arc_weights_len: usize,
+        final_states: *const u16, final_states_len: usize, final_weights: *const i32, final_weights_len: usize,
+        fields: *const u16, fields_len: usize, arc_weights: *const i32, arc_weights_len: usize,
         out: *mut u8, out_cap: usize, out_len: *mut u32) -> u32;
     fn forthwn_compose(left: *const u8, left_len: usize, right: *const u8, right_len: usize,
         table: *mut u8, table_len: usize, origins: *mut u16, origins_len: usize,
@@ -55,9 +55,9 @@ extern "C" {
         pairs: *mut u32, pairs_len: usize, out_len: *mut u32) -> u32;
     fn forthwn_count(table: *const u8, table_len: usize, count: *mut u32) -> u32;
     fn forthwn_nth(table: *const u8, table_len: usize, k: u32, arcs: *mut u16, arcs_len: usize,
-        labels: *mut u16, labels_len: usize, told: *mut [u64; 3]) -> u32;
+        labels: *mut u16, labels_len: usize, told: *mut [i64; 3]) -> u32;
     fn forthwn_shortest(table: *const u8, table_len: usize, arcs: *mut u16, arcs_len: usize,
-        labels: *mut u16, labels_len: usize, told: *mut [u64; 3]) -> u32;
+        labels: *mut u16, labels_len: usize, told: *mut [i64; 3]) -> u32;
     fn forthwn_readings(left: *const u8, left_len: usize, right: *const u8, right_len: usize,
         string: *const u16, string_len: usize, count: *mut u32) -> u32;
     fn forthwn_list(left: *const u8, left_len: usize, right: *const u8, right_len: usize,
@@ -74,8 +74,8 @@ mod first {
         unsafe { forthwn_refusal(bytes.as_ptr(), bytes.len()) }
     }
 
-    pub fn read(bytes: &[u8], final_states: &mut [u16], final_weights: &mut [u32],
-        fields: &mut [u16], arc_weights: &mut [u32]) -> (u32, [u32; 4]) {
+    pub fn read(bytes: &[u8], final_states: &mut [u16], final_weights: &mut [i32],
+        fields: &mut [u16], arc_weights: &mut [i32]) -> (u32, [u32; 4]) {
         let mut head = [DIRTY; 4];
         let refused = unsafe {
             forthwn_read(bytes.as_ptr(), bytes.len(),
@@ -85,8 +85,8 @@ mod first {
         (refused, head)
     }
 
-    pub fn write(head: [u32; 4], final_states: &[u16], final_weights: &[u32],
-        fields: &[u16], arc_weights: &[u32], out: &mut [u8]) -> (u32, u32) {
+    pub fn write(head: [u32; 4], final_states: &[u16], final_weights: &[i32],
+        fields: &[u16], arc_weights: &[i32], out: &mut [u8]) -> (u32, u32) {
         let mut length = DIRTY;
         let refused = unsafe {
             forthwn_write(head[0], head[1], head[2], head[3],

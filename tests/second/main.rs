@@ -10,7 +10,7 @@
 //   --out DIR    where a failing case is written (target/second)
 //   --trace      print each case and each answer before the next one
 //   --self       check the model by brute force; needs no library
-//   --bench DIR  check the model on the workloads W1 to W4 in DIR
+//   --bench DIR  check the model on the workloads W1 to W4 and W1s to W4s in DIR
 //
 // Exit code 0 when all agree, 1 when not, 2 for a wrong option. Where a call
 // ends the program itself, running.txt in DIR names the case.
@@ -61,6 +61,9 @@ const HAVE: [bool; 11] = [true; 11];
 #[cfg(not(mock))]
 const HAVE: [bool; 11] = other::HAVE;
 
+/// Refusals are below this.
+const REFUSALS: usize = 20;
+
 /// The refusals each call can give.
 const CAN: [&[u32]; 11] = [
     &[0, 1, 2, 3, 4, 5, 6, 7, 8],
@@ -71,7 +74,7 @@ const CAN: [&[u32]; 11] = [
     &[0, 1, 2, 3, 4, 5, 6, 7, 8, 9, 10, 11, 12],
     &[0, 1, 2, 3, 4, 5, 6, 7, 8, 14],
     &[0, 1, 2, 3, 4, 5, 6, 7, 8, 10, 14, 15],
-    &[0, 1, 2, 3, 4, 5, 6, 7, 8, 10, 16],
+    &[0, 1, 2, 3, 4, 5, 6, 7, 8, 10, 16, 19],
     &[0, 1, 2, 3, 4, 5, 6, 7, 8, 9, 11, 12, 13, 14],
     &[0, 1, 2, 3, 4, 5, 6, 7, 8, 9, 10, 11, 12, 13],
 ];
@@ -101,6 +104,14 @@ impl Number for u16 {
 impl Number for u32 {
     fn of(x: u64) -> u32 {
         x as u32
+    }
+    fn bytes(self) -> Vec<u8> {
+        self.to_le_bytes().to_vec()
+    }
+}
+impl Number for i32 {
+    fn of(x: u64) -> i32 {
+        x as i32
     }
     fn bytes(self) -> Vec<u8> {
         self.to_le_bytes().to_vec()
@@ -192,7 +203,7 @@ struct Failure {
 
 struct Run {
     rng: Rng,
-    seen: [[u64; 17]; 11],
+    seen: [[u64; REFUSALS]; 11],
     trace: bool,
 }
 
@@ -203,6 +214,10 @@ fn words(x: &[u16]) -> Vec<u8> {
 }
 
 fn longs(x: &[u32]) -> Vec<u8> {
+    x.iter().flat_map(|y| y.to_le_bytes()).collect()
+}
+
+fn signed(x: &[i32]) -> Vec<u8> {
     x.iter().flat_map(|y| y.to_le_bytes()).collect()
 }
 
@@ -276,9 +291,9 @@ impl Run {
         }
         let n = self.lengths([model::READ_FINALS, model::READ_FINALS, model::READ_FIELDS, model::READ_WEIGHTS]);
         let mut fs = self.lend::<u16>("final_states", n[0]);
-        let mut fw = self.lend::<u32>("final_weights", n[1]);
+        let mut fw = self.lend::<i32>("final_weights", n[1]);
         let mut fields = self.lend::<u16>("fields", n[2]);
-        let mut aw = self.lend::<u32>("arc_weights", n[3]);
+        let mut aw = self.lend::<i32>("arc_weights", n[3]);
         let m = tried::read(bytes, fs.m(), fw.m(), fields.m(), aw.m());
         let o = other::read(bytes, fs.o(), fw.o(), fields.o(), aw.o());
         self.compare(1, m.0, (m, o), &[("table", bytes)], &[&fs, &fw, &fields, &aw])
@@ -296,9 +311,9 @@ impl Run {
         let inputs: [(&str, &[u8]); 5] = [
             ("head", &longs(&given.head)),
             ("final_states", &words(&given.fs)),
-            ("final_weights", &longs(&given.fw)),
+            ("final_weights", &signed(&given.fw)),
             ("fields", &words(&given.fields)),
-            ("arc_weights", &longs(&given.aw)),
+            ("arc_weights", &signed(&given.aw)),
         ];
         self.compare(2, m.0, (m, o), &inputs, &[&out])
     }
@@ -411,13 +426,13 @@ impl Run {
         let mut g = Given {
             head: [t.states, t.arcs.len(), t.finals.len(), t.start].map(|x| x as u32),
             fs: t.finals.iter().map(|x| x.0 as u16).collect(),
-            fw: t.finals.iter().map(|x| x.1 as u32).collect(),
+            fw: t.finals.iter().map(|x| x.1 as i32).collect(),
             fields: t
                 .arcs
                 .iter()
                 .flat_map(|a| [a.source as u16, a.input, a.output, a.target as u16])
                 .collect(),
-            aw: t.arcs.iter().map(|a| a.weight as u32).collect(),
+            aw: t.arcs.iter().map(|a| a.weight as i32).collect(),
         };
         let damages = rng.pick(&[0, 0, 1, 1, 2]);
         for _ in 0..damages {
@@ -447,11 +462,11 @@ impl Run {
                 }
                 13 if !g.fw.is_empty() => {
                     let i = rng.below(g.fw.len());
-                    g.fw[i] = rng.pick(&[1_000_000, 1_000_001, u32::MAX]);
+                    g.fw[i] = rng.pick(&EDGES);
                 }
                 14 if !g.aw.is_empty() => {
                     let i = rng.below(g.aw.len());
-                    g.aw[i] = rng.pick(&[1_000_000, 1_000_001, u32::MAX]);
+                    g.aw[i] = rng.pick(&EDGES);
                 }
                 15 if g.fields.len() > 4 => {
                     let last = g.fields.len() / 4 * 4 - 4;
@@ -464,10 +479,10 @@ impl Run {
         if rng.chance(1, 2) {
             for _ in 0..rng.below(6) {
                 g.fs.push(rng.next() as u16);
-                g.aw.push(rng.next() as u32);
+                g.aw.push(rng.next() as i32);
             }
             for _ in 0..rng.below(6) {
-                g.fw.push(rng.next() as u32);
+                g.fw.push(rng.next() as i32);
                 g.fields.push(rng.next() as u16);
             }
         }
@@ -530,10 +545,13 @@ impl Run {
 struct Given {
     head: [u32; 4],
     fs: Vec<u16>,
-    fw: Vec<u32>,
+    fw: Vec<i32>,
     fields: Vec<u16>,
-    aw: Vec<u32>,
+    aw: Vec<i32>,
 }
+
+/// Weights to be written on either side of both ends.
+const EDGES: [i32; 8] = [1_000_000, 1_000_001, -1_000_000, -1_000_001, -1, 0, i32::MAX, i32::MIN];
 
 // ---------------------------------------------------------------- driver
 
@@ -550,7 +568,7 @@ fn save(dir: &Path, case: &Case, failure: &Failure, command: &str) -> std::io::R
 }
 
 fn bench(dir: &str) -> Result<(), String> {
-    for w in ["W1", "W2", "W3", "W4"] {
+    for w in ["W1", "W2", "W3", "W4", "W1s", "W2s", "W3s", "W4s"] {
         let file = |name: &str| {
             let path = Path::new(dir).join(w).join(name);
             std::fs::read(&path).map_err(|e| format!("{}: {e}", path.display()))
@@ -634,12 +652,12 @@ fn usage(message: &str) -> ! {
 /// byte; with one byte less the call is refused and the buffer kept.
 fn longest_text() -> Result<(), String> {
     let (left, right) = (cases::Draft::new(1, 0, &[(0, 0)], &[]).bytes(), cases::longest().bytes());
-    let mut text = vec![1; 602_898];
+    let mut text = vec![1; 602_996];
     let told = other::list(&left, &right, &[], &mut text);
-    if told != (0, 602_898, 0) || text != model::listing(&left, &right, &[]).as_bytes() {
+    if told != (0, 602_996, 0) || text != model::listing(&left, &right, &[]).as_bytes() {
         return Err(format!("in the least room {told:?}"));
     }
-    let mut short = vec![1; 602_897];
+    let mut short = vec![1; 602_995];
     let told = other::list(&left, &right, &[], &mut short);
     if told != (10, 0, 0) || short.iter().any(|&x| x != 1) {
         return Err(format!("in a byte less {told:?}"));
@@ -667,7 +685,7 @@ fn check_library(seed: u64, range: std::ops::Range<usize>, trace: bool, out: &Pa
     }
     let mut fixed: Vec<_> = cases::fixed().into_iter().map(Some).collect();
     let single = range.len() == 1;
-    let mut run = Run { rng: Rng::new(seed, 0), seen: [[0; 17]; 11], trace };
+    let mut run = Run { rng: Rng::new(seed, 0), seen: [[0; REFUSALS]; 11], trace };
     let program = std::env::args().next().unwrap_or_default();
     // Names the case being run; it is left behind if a call ends the program.
     let running = out.join("running.txt");

@@ -1,4 +1,4 @@
-// Naive model of the transducer reader, written from paper 01 alone.
+// Naive model of the transducer reader, written from papers 01 and 02 alone.
 // Plain vectors and hash maps; nothing here is meant to be quick.
 //
 // Every call takes the lent buffers as slices and leaves them as the paper
@@ -10,7 +10,9 @@ use std::collections::HashMap;
 
 pub const MAX_STATES: usize = 1_024;
 pub const MAX_ARCS: usize = 3_072;
-pub const MAX_WEIGHT: u64 = 1_000_000;
+/// A weight is a whole number from -1,000,000 to 1,000,000 (02, Point 8).
+pub const MAX_WEIGHT: i64 = 1_000_000;
+pub const MIN_WEIGHT: i64 = -1_000_000;
 pub const MAX_CODE: usize = 64;
 pub const BARRED: u16 = 65_535;
 pub const STILL: u16 = 65_535;
@@ -32,19 +34,19 @@ pub struct Arc {
     pub input: u16,
     pub output: u16,
     pub target: usize,
-    pub weight: u64,
+    pub weight: i64,
 }
 
 #[derive(Clone, Debug, PartialEq)]
 pub struct Table {
     pub states: usize,
     pub start: usize,
-    pub finals: Vec<(usize, u64)>,
+    pub finals: Vec<(usize, i64)>,
     pub arcs: Vec<Arc>,
 }
 
 impl Table {
-    pub fn final_weight(&self, state: usize) -> Option<u64> {
+    pub fn final_weight(&self, state: usize) -> Option<i64> {
         self.finals.iter().find(|x| x.0 == state).map(|x| x.1)
     }
 
@@ -64,8 +66,15 @@ fn two(bytes: &[u8], at: usize) -> u16 {
     bytes[at] as u16 + 256 * bytes[at + 1] as u16
 }
 
-fn four(bytes: &[u8], at: usize) -> u64 {
-    two(bytes, at) as u64 + 65_536 * two(bytes, at + 2) as u64
+/// Four bytes as a two's complement number: the highest bit counts -2^31.
+fn weight(bytes: &[u8], at: usize) -> i64 {
+    let whole = two(bytes, at) as i64 + 65_536 * two(bytes, at + 2) as i64;
+    if bytes[at + 3] < 128 { whole } else { whole - 4_294_967_296 }
+}
+
+/// Whether 8, or 13, refuses a weight: both ends are guarded.
+fn beyond(weight: i64) -> bool {
+    weight < MIN_WEIGHT || weight > MAX_WEIGHT
 }
 
 /// Splits the bytes into records (kind, body). Refusal 1 looks at lengths
@@ -135,7 +144,7 @@ fn test_body(t: &Table) -> Result<(), u32> {
                 5 => *state >= t.states,
                 6 => i > 0 && t.finals[i - 1].0 >= *state,
                 7 => false,
-                _ => *weight > MAX_WEIGHT,
+                _ => beyond(*weight),
             };
             if bad {
                 return Err(refusal);
@@ -146,7 +155,7 @@ fn test_body(t: &Table) -> Result<(), u32> {
                 5 => a.source >= t.states || a.target >= t.states,
                 6 => i > 0 && t.arcs[i - 1].source > a.source,
                 7 => a.input == BARRED || a.output == BARRED,
-                _ => a.weight > MAX_WEIGHT,
+                _ => beyond(a.weight),
             };
             if bad {
                 return Err(refusal);
@@ -170,7 +179,7 @@ pub fn parse(bytes: &[u8]) -> Result<Table, u32> {
     let t = Table {
         states: n as usize,
         start: start as usize,
-        finals: finals.iter().map(|r| (two(&r.1, 0) as usize, four(&r.1, 2))).collect(),
+        finals: finals.iter().map(|r| (two(&r.1, 0) as usize, weight(&r.1, 2))).collect(),
         arcs: arcs
             .iter()
             .map(|r| Arc {
@@ -178,7 +187,7 @@ pub fn parse(bytes: &[u8]) -> Result<Table, u32> {
                 input: two(&r.1, 2),
                 output: two(&r.1, 4),
                 target: two(&r.1, 6) as usize,
-                weight: four(&r.1, 8),
+                weight: weight(&r.1, 8),
             })
             .collect(),
     };
@@ -190,8 +199,9 @@ pub fn bytes_of(t: &Table) -> Vec<u8> {
     fn put2(out: &mut Vec<u8>, x: usize) {
         out.extend((x as u16).to_le_bytes());
     }
-    fn put4(out: &mut Vec<u8>, x: u64) {
-        out.extend((x as u32).to_le_bytes());
+    fn put4(out: &mut Vec<u8>, x: i64) {
+        let bits = if x < 0 { x + 4_294_967_296 } else { x };
+        out.extend((0..4).map(|i| (bits >> (8 * i)) as u8));
     }
     let mut out = Vec::new();
     for x in [8, 1, t.states, t.arcs.len(), t.finals.len(), t.start] {
@@ -243,9 +253,9 @@ pub fn refusal(bytes: &[u8]) -> u32 {
 pub fn read(
     bytes: &[u8],
     final_states: &mut [u16],
-    final_weights: &mut [u32],
+    final_weights: &mut [i32],
     fields: &mut [u16],
-    arc_weights: &mut [u32],
+    arc_weights: &mut [i32],
 ) -> (u32, [u32; 4]) {
     let t = match parse(bytes) {
         Ok(t) => t,
@@ -259,12 +269,12 @@ pub fn read(
         return (10, [0; 4]);
     }
     let states: Vec<u16> = t.finals.iter().map(|x| x.0 as u16).collect();
-    let weights: Vec<u32> = t.finals.iter().map(|x| x.1 as u32).collect();
+    let weights: Vec<i32> = t.finals.iter().map(|x| x.1 as i32).collect();
     let mut four_each: Vec<u16> = Vec::new();
     for a in &t.arcs {
         four_each.extend([a.source as u16, a.input, a.output, a.target as u16]);
     }
-    let costs: Vec<u32> = t.arcs.iter().map(|a| a.weight as u32).collect();
+    let costs: Vec<i32> = t.arcs.iter().map(|a| a.weight as i32).collect();
     fill(final_states, &states);
     fill(final_weights, &weights);
     fill(fields, &four_each);
@@ -276,9 +286,9 @@ pub fn read(
 pub fn write(
     head: [u32; 4],
     final_states: &[u16],
-    final_weights: &[u32],
+    final_weights: &[i32],
     fields: &[u16],
-    arc_weights: &[u32],
+    arc_weights: &[i32],
     out: &mut [u8],
 ) -> (u32, u32) {
     let [n, m, f, start] = head;
@@ -296,14 +306,14 @@ pub fn write(
     let t = Table {
         states: n as usize,
         start: start as usize,
-        finals: (0..f).map(|i| (final_states[i] as usize, final_weights[i] as u64)).collect(),
+        finals: (0..f).map(|i| (final_states[i] as usize, final_weights[i] as i64)).collect(),
         arcs: (0..m)
             .map(|i| Arc {
                 source: fields[4 * i] as usize,
                 input: fields[4 * i + 1],
                 output: fields[4 * i + 2],
                 target: fields[4 * i + 3] as usize,
-                weight: arc_weights[i] as u64,
+                weight: arc_weights[i] as i64,
             })
             .collect(),
     };
@@ -391,8 +401,7 @@ pub fn join(left: &Table, right: &Table) -> Result<Joined, u32> {
             finals.push((i, x + y));
         }
     }
-    let too_heavy = arcs.iter().any(|a| a.weight > MAX_WEIGHT);
-    if too_heavy || finals.iter().any(|x| x.1 > MAX_WEIGHT) {
+    if arcs.iter().any(|a| beyond(a.weight)) || finals.iter().any(|x| beyond(x.1)) {
         return Err(13);
     }
     let table = Table { states: triples.len(), start: 0, finals, arcs };
@@ -668,8 +677,8 @@ pub fn path_end(t: &Table, path: &[u16]) -> usize {
     path.last().map_or(t.start, |&i| t.arcs[i as usize].target)
 }
 
-pub fn path_cost(t: &Table, path: &[u16]) -> u64 {
-    let arcs: u64 = path.iter().map(|&i| t.arcs[i as usize].weight).sum();
+pub fn path_cost(t: &Table, path: &[u16]) -> i64 {
+    let arcs: i64 = path.iter().map(|&i| t.arcs[i as usize].weight).sum();
     arcs + t.final_weight(path_end(t, path)).unwrap()
 }
 
@@ -684,7 +693,7 @@ pub fn path_reads(t: &Table, path: &[u16]) -> Vec<u16> {
 }
 
 /// Cost, number of arcs, number of labels.
-pub type Told = (u64, u32, u32);
+pub type Told = (i64, u32, u32);
 
 fn tell(t: &Table, path: &[u16], arcs: &mut [u16], labels: &mut [u16]) -> (u32, Told) {
     let written = path_writes(t, path);
@@ -711,34 +720,69 @@ pub fn nth(bytes: &[u8], k: u32, arcs: &mut [u16], labels: &mut [u16]) -> (u32, 
     tell(&t, &paths[k as usize], arcs, labels)
 }
 
-/// The accepting path of least (cost, arcs, path order): one round for each
-/// state, each round lengthening the best paths to acceptance by one arc.
-pub fn cheapest(t: &Table) -> Option<Vec<u16>> {
-    type Way = (u64, usize, Vec<u16>);
-    let mut best: Vec<Option<Way>> = vec![None; t.states];
-    for (state, weight) in &t.finals {
-        best[*state] = Some((*weight, 0, vec![]));
-    }
-    for _ in 0..t.states {
-        let mut changed = false;
-        for (i, a) in t.arcs.iter().enumerate().rev() {
-            let Some((cost, arcs, path)) = &best[a.target] else { continue };
-            let longer = [&[i as u16], path.as_slice()].concat();
-            let way = (cost + a.weight, arcs + 1, longer);
-            let better = match &best[a.source] {
-                None => true,
-                Some(old) => (way.0, way.1, &way.2) < (old.0, old.1, &old.2),
-            };
-            if better {
-                best[a.source] = Some(way);
-                changed = true;
-            }
+/// To come: by number of arcs k and then by state, the least cost of going on
+/// by exactly k arcs and accepting there. Only states and arcs that lie on an
+/// accepting path are in it; it stops where k arcs are too many for all, and
+/// at k = n.
+fn to_come(t: &Table) -> Vec<Vec<Option<i64>>> {
+    let live = live(t);
+    let at_once = |s: usize| if live[s] { t.final_weight(s) } else { None };
+    let mut layers = vec![(0..t.states).map(at_once).collect::<Vec<_>>()];
+    while layers.len() <= t.states {
+        let last = &layers[layers.len() - 1];
+        let mut next = vec![None; t.states];
+        for a in t.arcs.iter().filter(|a| live[a.source]) {
+            let Some(rest) = last[a.target] else { continue };
+            let sum = a.weight + rest;
+            next[a.source] = Some(next[a.source].map_or(sum, |old: i64| old.min(sum)));
         }
-        if !changed {
+        if next.iter().all(|x| x.is_none()) {
             break;
         }
+        layers.push(next);
     }
-    best[t.start].take().map(|way| way.2)
+    layers
+}
+
+/// The least cost to come of a state by fewer arcs than there are states.
+fn least_below(t: &Table, layers: &[Vec<Option<i64>>], state: usize) -> Option<i64> {
+    layers.iter().take(t.states).filter_map(|layer| layer[state]).min()
+}
+
+/// Whether some accepting path has on it a ring of arcs that sums below zero.
+/// Going on by n arcs passes some state twice. Where no ring pays, cutting it
+/// out costs no more, so n arcs are never better than fewer; and where they
+/// are better for no state, nor are more of them, ever.
+fn ring_below_zero(t: &Table, layers: &[Vec<Option<i64>>]) -> bool {
+    let Some(by_n) = layers.get(t.states) else { return false };
+    (0..t.states).any(|s| by_n[s].is_some_and(|cost| least_below(t, layers, s).map_or(true, |least| cost < least)))
+}
+
+/// The accepting path of least cost, then fewest arcs, then first in path
+/// order: at each state the first arc that keeps to that cost and number.
+/// Only for tables without a ring below zero.
+fn least_path(t: &Table, layers: &[Vec<Option<i64>>]) -> Option<Vec<u16>> {
+    let least = least_below(t, layers, t.start)?;
+    let mut left = layers.iter().position(|layer| layer[t.start] == Some(least))?;
+    let (mut state, mut cost, mut path) = (t.start, least, Vec::new());
+    while left > 0 {
+        left -= 1;
+        let keeps = |a: &Arc| a.source == state && layers[left][a.target] == Some(cost - a.weight);
+        let i = t.arcs.iter().position(keeps)?;
+        path.push(i as u16);
+        (state, cost) = (t.arcs[i].target, cost - t.arcs[i].weight);
+    }
+    Some(path)
+}
+
+/// 16 where nothing accepts, then 19, else the cheapest reading.
+pub fn cheapest(t: &Table) -> Result<Vec<u16>, u32> {
+    let layers = to_come(t);
+    let Some(path) = least_path(t, &layers) else { return Err(16) };
+    if ring_below_zero(t, &layers) {
+        return Err(19);
+    }
+    Ok(path)
 }
 
 pub fn shortest(bytes: &[u8], arcs: &mut [u16], labels: &mut [u16]) -> (u32, Told) {
@@ -750,8 +794,8 @@ pub fn shortest(bytes: &[u8], arcs: &mut [u16], labels: &mut [u16]) -> (u32, Tol
         return (10, (0, 0, 0));
     }
     match cheapest(&t) {
-        Some(path) => tell(&t, &path, arcs, labels),
-        None => (16, (0, 0, 0)),
+        Ok(path) => tell(&t, &path, arcs, labels),
+        Err(r) => (r, (0, 0, 0)),
     }
 }
 
@@ -777,8 +821,8 @@ pub fn readings(left: &[u8], right: &[u8], code: &[u16]) -> (u32, u32) {
 // -------------------------------------------------------------- listing
 
 /// The longest text: its first line, and 98 lines of a number of one digit in
-/// ten of them and two in the others, a cost of ten and 1,023 labels of five.
-pub const TEXT_BYTES: usize = "readings 98\n".len() + 98 * ("97 1024000000\n".len() + 1_023 * " 65534".len()) - 10;
+/// ten of them and two in the others, a cost of eleven and 1,023 labels of five.
+pub const TEXT_BYTES: usize = "readings 98\n".len() + 98 * ("97 -1024000000\n".len() + 1_023 * " 65534".len()) - 10;
 
 /// The refusal of a listing and its text, a code being the bytes of its file.
 fn listed(left: &[u8], right: &[u8], code: &[u8]) -> (u32, String) {

@@ -63,13 +63,13 @@ fn aimed(rng: &mut Rng) -> (Draft, Vec<u16>) {
         let mut arcs: Vec<Given> = Vec::new();
         for s in 0..n {
             for _ in 0..rng.range(1, most) {
-                let w = rng.below(4) as u32;
+                let w = rng.below(4) as i32;
                 arcs.push((s, label(rng, labels, empty), rng.below(5) as u16, rng.below(n), w));
             }
         }
-        let mut finals = vec![(rng.below(n), rng.below(9) as u32)];
+        let mut finals = vec![(rng.below(n), rng.below(9) as i32)];
         for _ in 0..rng.below(n) {
-            finals.push((rng.below(n), rng.below(9) as u32));
+            finals.push((rng.below(n), rng.below(9) as i32));
         }
         let base = Draft::new(n, 0, &finals, &arcs);
         let (states, used) = lattice_size(&base, &code);
@@ -88,7 +88,7 @@ fn aimed(rng: &mut Rng) -> (Draft, Vec<u16>) {
         }
         for _ in 0..again {
             let i = rng.below(before);
-            arcs.push((n + i, 0, rng.below(5) as u16, step(i), rng.below(3) as u32));
+            arcs.push((n + i, 0, rng.below(5) as u16, step(i), rng.below(3) as i32));
         }
         let whole = Draft::new(n + before, n, &finals, &arcs);
         let order = if rng.chance(1, 2) { shuffled(rng, n + before) } else { (0..n + before).collect() };
@@ -135,7 +135,7 @@ pub fn near_limit(rng: &mut Rng) -> Case {
         }
         6 => {
             let n = rng.range(900, 1_024);
-            let mut d = line(n, 0, 1, rng.below(3) as u32);
+            let mut d = line(n, 0, 1, rng.below(3) as i32);
             for _ in 0..rng.below(4) {
                 let like = rng.pick(&d.arcs);
                 d.arcs.push(([rng.below(n) as u16, rng.below(2) as u16, like.0[2], like.0[3]], like.1));

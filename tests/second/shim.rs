@@ -24,7 +24,7 @@ pub unsafe extern "C" fn forthwn_refusal(bytes: *const u8, n: usize) -> u32 {
 #[no_mangle]
 #[rustfmt::skip]
 pub unsafe extern "C" fn forthwn_read(bytes: *const u8, n: usize, a: *mut u16, a_n: usize,
-    b: *mut u32, b_n: usize, c: *mut u16, c_n: usize, d: *mut u32, d_n: usize, head: *mut [u32; 4]) -> u32 {
+    b: *mut i32, b_n: usize, c: *mut u16, c_n: usize, d: *mut i32, d_n: usize, head: *mut [u32; 4]) -> u32 {
     let (r, x) = model::read(view(bytes, n), lent(a, a_n), lent(b, b_n), lent(c, c_n), lent(d, d_n));
     *head = x;
     r
@@ -33,7 +33,7 @@ pub unsafe extern "C" fn forthwn_read(bytes: *const u8, n: usize, a: *mut u16, a
 #[no_mangle]
 #[rustfmt::skip]
 pub unsafe extern "C" fn forthwn_write(n: u32, m: u32, f: u32, start: u32, a: *const u16, a_n: usize,
-    b: *const u32, b_n: usize, c: *const u16, c_n: usize, d: *const u32, d_n: usize,
+    b: *const i32, b_n: usize, c: *const u16, c_n: usize, d: *const i32, d_n: usize,
     out: *mut u8, out_n: usize, length: *mut u32) -> u32 {
     let head = [n, m, f, start];
     let (r, x) = model::write(head, view(a, a_n), view(b, b_n), view(c, c_n), view(d, d_n), lent(out, out_n));
@@ -79,18 +79,18 @@ pub unsafe extern "C" fn forthwn_count(bytes: *const u8, n: usize, count: *mut u
 #[no_mangle]
 #[rustfmt::skip]
 pub unsafe extern "C" fn forthwn_nth(bytes: *const u8, n: usize, k: u32, a: *mut u16, a_n: usize,
-    l: *mut u16, l_n: usize, told: *mut [u64; 3]) -> u32 {
+    l: *mut u16, l_n: usize, told: *mut [i64; 3]) -> u32 {
     let (r, (cost, arcs, labels)) = model::nth(view(bytes, n), k, lent(a, a_n), lent(l, l_n));
-    *told = [cost, arcs as u64, labels as u64];
+    *told = [cost, arcs as i64, labels as i64];
     r
 }
 
 #[no_mangle]
 #[rustfmt::skip]
 pub unsafe extern "C" fn forthwn_shortest(bytes: *const u8, n: usize, a: *mut u16, a_n: usize,
-    l: *mut u16, l_n: usize, told: *mut [u64; 3]) -> u32 {
+    l: *mut u16, l_n: usize, told: *mut [i64; 3]) -> u32 {
     let (r, (cost, arcs, labels)) = model::shortest(view(bytes, n), lent(a, a_n), lent(l, l_n));
-    *told = [cost, arcs as u64, labels as u64];
+    *told = [cost, arcs as i64, labels as i64];
     r
 }
 

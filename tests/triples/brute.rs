@@ -14,7 +14,7 @@ pub struct Triple {
     pub paths: [Vec<usize>; 3],
     pub input: Vec<u16>,
     pub output: Vec<u16>,
-    pub cost: u64,
+    pub cost: i64,
 }
 
 /// All triples, or those whose arcs are at most the budget where there is one;
@@ -29,7 +29,7 @@ struct Way {
     arcs: Vec<usize>,
     input: Vec<u16>,
     output: Vec<u16>,
-    cost: u64,
+    cost: i64,
 }
 
 /// The accepting paths of a table of at most so many arcs that read the word,

@@ -24,6 +24,9 @@ fn label(rng: &mut Rng, labels: usize, empty: usize) -> u16 {
 
 fn draw(rng: &mut Rng, shape: &Shape) -> Table {
     let n = shape.states;
+    // Weights of one table in three go as far below 0 as above.
+    let least = if rng.chance(1, 3) { -(shape.heaviest as i64) / 2 } else { 0 };
+    let weight = |rng: &mut Rng| least + rng.below(shape.heaviest + 1) as i64;
     let mut arcs: Vec<Arc> = Vec::new();
     for i in 0..shape.arcs {
         // A line through all states first; then anywhere, or to higher states where there are to be no cycles.
@@ -37,14 +40,14 @@ fn draw(rng: &mut Rng, shape: &Shape) -> Table {
         };
         let input = label(rng, shape.labels, shape.empty[0]);
         let output = label(rng, shape.labels, shape.empty[1]);
-        arcs.push(Arc { source, input, output, target, weight: rng.below(shape.heaviest + 1) as u64 });
+        arcs.push(Arc { source, input, output, target, weight: weight(rng) });
     }
     arcs.sort_by_key(|a| a.source);
     let ends = |rng: &mut Rng, s: usize| s == n - 1 || rng.chance(1, 3);
     let mut finals = Vec::new();
     for s in 0..n {
         if ends(rng, s) && !rng.chance(1, 20) {
-            finals.push((s, rng.below(shape.heaviest + 1) as u64));
+            finals.push((s, weight(rng)));
         }
     }
     Table { states: n, start: 0, finals, arcs }
@@ -53,14 +56,14 @@ fn draw(rng: &mut Rng, shape: &Shape) -> Table {
 /// A line of states with bundles of arcs: many like paths.
 fn bundle(rng: &mut Rng, states: usize, each: usize) -> Table {
     let arc = |source, weight| Arc { source, input: 1, output: 1, target: source + 1, weight };
-    let arcs = (0..(states - 1) * each).map(|i| arc(i / each, rng.below(4) as u64)).collect();
+    let arcs = (0..(states - 1) * each).map(|i| arc(i / each, rng.below(4) as i64)).collect();
     Table { states, start: 0, finals: vec![(states - 1, 0)], arcs }
 }
 
 /// One state with loops that pass label 1 on.
 fn loops(rng: &mut Rng, arcs: usize) -> Table {
     let arc = |weight| Arc { source: 0, input: 1, output: 1, target: 0, weight };
-    Table { states: 1, start: 0, finals: vec![(0, 0)], arcs: (0..arcs).map(|_| arc(rng.below(4) as u64)).collect() }
+    Table { states: 1, start: 0, finals: vec![(0, 0)], arcs: (0..arcs).map(|_| arc(rng.below(4) as i64)).collect() }
 }
 
 /// A line of states that writes nothing, or reads nothing.

@@ -23,7 +23,7 @@ pub const FIELDS: usize = 12288;
 /// Least length for its arc weights.
 pub const WEIGHTS: usize = 3072;
 /// Least length of a buffer for a listing, in bytes.
-pub const TEXT: usize = 602898;
+pub const TEXT: usize = 602996;
 
 /// Bytes of stack that a call needs at most, for whoever sizes the stack of a thread.
 pub const STACK: usize = 327680;
@@ -212,7 +212,7 @@ pub fn nth(table: &[u8], k: u32, arcs: &mut [u16], labels: &mut [u16]) -> Result
     answer(refusal, told)
 }
 
-/// The accepting path of least cost, then of fewest arcs, then first in path order. Lent: [`PATH`] twice. Refusals 1 to 8, 10, 16.
+/// The accepting path of least cost, then of fewest arcs, then first in path order. Lent: [`PATH`] twice. Refusals 1 to 8, 10, 16, 19.
 pub fn shortest(table: &[u8], arcs: &mut [u16], labels: &mut [u16]) -> Result<Told, Refusal> {
     let mut told = Told::default();
     // SAFETY: each pointer and length are those of one slice, mutable ones overlap nothing, `told` is three numbers of 64 bits.

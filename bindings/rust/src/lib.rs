@@ -49,11 +49,11 @@ pub use lent::Head;
 pub use refusal::Refusal;
 pub use table::{Arc, Composed, Final, Lattice, Origin, Path, Paths, Table, Trimmed};
 
-/// The weight of an arc or a final state: 0 to 1,000,000.
-pub type Weight = u32;
+/// The weight of an arc or a final state: -1,000,000 to 1,000,000.
+pub type Weight = i32;
 
 /// The cost of a path: the sum of its weights.
-pub type Cost = u64;
+pub type Cost = i64;
 
 /// The count that stands for 99 or more.
 pub const MANY: u32 = 99;

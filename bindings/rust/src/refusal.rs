@@ -53,15 +53,16 @@ refusals! {
     5 BAD_STATE "a state number is not below the number of states"
     6 BAD_ORDER "final states do not rise, or sources of arcs fall"
     7 BAD_LABEL "a label of 65535"
-    8 BAD_WEIGHT "a weight above 1000000"
+    8 BAD_WEIGHT "a weight below -1000000 or above 1000000"
     9 BAD_CODE "the code has more than 64 labels, half a label, or a label 0 or 65535"
     10 SHORT_BUFFER "a lent buffer is too short"
     11 TOO_MANY_STATES "more than 1024 states are reached"
     12 TOO_MANY_ARCS "more than 3072 arcs leave the reached states"
-    13 TOO_HEAVY "a composed arc or final weight above 1000000"
+    13 TOO_HEAVY "a composed arc or final weight below -1000000 or above 1000000"
     14 ENDLESS "infinitely many accepting paths"
     15 NO_SUCH_PATH "no path of that number"
     16 NO_PATH "no accepting path"
+    19 NEGATIVE_CYCLE "a cycle below 0 on an accepting path"
 }
 
 impl Refusal {

@@ -202,7 +202,17 @@ impl Table {
     }
 
     /// The accepting path of least cost, then of fewest arcs, then first in path order; there is one where accepting paths are infinitely
-    /// many, too. Refusal 16.
+    /// many, too, but where a cycle on one of them sums below 0: then no cost is the least. Refusals 16 and 19.
+    ///
+    /// ```
+    /// use forthwn::{Arc, Final, Refusal, Table};
+    ///
+    /// let arc = |source, output, target, weight| Arc { source, input: 1, output, target, weight };
+    /// let end = [Final { state: 1, weight: 0 }];
+    /// assert_eq!(Table::new(2, 0, &end, &[arc(0, 2, 1, 5), arc(0, 3, 1, -7)])?.shortest()?.cost, -7);
+    /// assert_eq!(Table::new(2, 0, &end, &[arc(0, 2, 1, 5), arc(1, 3, 1, -1)])?.shortest(), Err(Refusal::NEGATIVE_CYCLE));
+    /// # Ok::<(), Refusal>(())
+    /// ```
     pub fn shortest(&self) -> Result<Path, Refusal> {
         path(|arcs, labels| lent::shortest(&self.bytes, arcs, labels))
     }

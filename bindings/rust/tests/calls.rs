@@ -26,9 +26,18 @@ impl Dice {
 /// A table of up to 40 states whose arcs may lead anywhere.
 fn random_table(dice: &mut Dice) -> Table {
     let states = 1 + dice.below(40);
-    let finals: Vec<Final> = (0..states).filter(|_| dice.below(3) == 0).map(|s| end(s as u16, 1_000_000 - s as Weight)).collect();
+    let near_an_end = |s: u64| (1_000_000 - s as Weight) * if s % 2 == 0 { 1 } else { -1 };
+    let finals: Vec<Final> = (0..states).filter(|_| dice.below(3) == 0).map(|s| end(s as u16, near_an_end(s))).collect();
     let mut arcs: Vec<Arc> = (0..dice.below(90))
-        .map(|_| arc(dice.below(states) as u16, dice.below(4) as u16, 65_534, dice.below(states) as u16, dice.below(1_000_001) as Weight))
+        .map(|_| {
+            arc(
+                dice.below(states) as u16,
+                dice.below(4) as u16,
+                65_534,
+                dice.below(states) as u16,
+                dice.below(2_000_001) as Weight - 1_000_000,
+            )
+        })
         .collect();
     arcs.sort_by_key(|x| x.source);
     Table::new(states as u32, dice.below(states) as u32, &finals, &arcs).expect("a table")
@@ -105,7 +114,13 @@ fn bad_numbers_are_refused() {
     assert_eq!(table(1, 0, &[end(1, 0)], &[]), Err(Refusal::BAD_STATE));
     assert_eq!(table(2, 0, &[end(1, 0), end(0, 0)], &[]), Err(Refusal::BAD_ORDER));
     assert_eq!(table(1, 0, &[], &[arc(0, 65_535, 1, 0, 0)]), Err(Refusal::BAD_LABEL));
-    assert_eq!(table(1, 0, &[], &[arc(0, 1, 1, 0, 1_000_001)]), Err(Refusal::BAD_WEIGHT));
+    for weight in [1_000_001, -1_000_001, Weight::MAX, Weight::MIN] {
+        assert_eq!(table(1, 0, &[], &[arc(0, 1, 1, 0, weight)]), Err(Refusal::BAD_WEIGHT));
+        assert_eq!(table(1, 0, &[end(0, weight)], &[]), Err(Refusal::BAD_WEIGHT));
+    }
+    for weight in [1_000_000, 0, -1, -1_000_000] {
+        assert!(table(1, 0, &[end(0, weight)], &[arc(0, 1, 1, 0, weight)]).is_ok());
+    }
 }
 
 #[test]
@@ -118,7 +133,7 @@ fn bad_bytes_are_refused() {
     *heavy.last_mut().expect("a byte") = 1;
     assert_eq!(read(&heavy), Err(Refusal::BAD_WEIGHT));
     let error: Box<dyn std::error::Error> = Refusal::BAD_WEIGHT.into();
-    assert_eq!(error.to_string(), "refused 8: a weight above 1000000");
+    assert_eq!(error.to_string(), "refused 8: a weight below -1000000 or above 1000000");
 }
 
 #[test]
@@ -157,11 +172,50 @@ fn refusals_of_the_chain_come_in_their_order() {
     let heavy = |weight| Table::new(1, 0, &[end(0, weight)], &[]).expect("a table");
     assert!(heavy(600_000).compose(&heavy(400_000)).is_ok());
     assert_eq!(heavy(600_000).compose(&heavy(400_001)), Err(Refusal::TOO_HEAVY));
+    assert!(heavy(-600_000).compose(&heavy(-400_000)).is_ok());
+    assert_eq!(heavy(-600_000).compose(&heavy(-400_001)), Err(Refusal::TOO_HEAVY));
     let loops = |count, input, output| Table::new(1, 0, &[], &vec![arc(0, input, output, 0, 0); count]).expect("a table");
     assert_eq!(loops(56, 1, 2).compose(&loops(55, 2, 3)), Err(Refusal::TOO_MANY_ARCS));
     let line: Vec<Arc> = (0..512).map(|s| arc(s, 1, 0, s + 1, 0)).collect();
     let (line, still) = (Table::new(513, 0, &[], &line).expect("a table"), loops(1, 0, 7));
     assert_eq!(line.compose(&still), Err(Refusal::TOO_MANY_STATES));
+}
+
+#[test]
+fn costs_have_signs() {
+    let table = Table::new(2, 0, &[end(1, -4)], &[arc(0, 1, 2, 1, 5), arc(0, 1, 3, 1, -3)]).expect("a table");
+    assert_eq!(table.paths().expect("paths").map(|x| x.cost).collect::<Vec<_>>(), [1, -7]);
+    assert_eq!(table.shortest(), Ok(Path { cost: -7, arcs: vec![1], labels: vec![3] }));
+    let still = Table::new(1, 0, &[end(0, 0)], &[arc(0, 2, 2, 0, 0), arc(0, 3, 3, 0, -1)]).expect("a table");
+    assert_eq!(list(&table, &still, &[1, 0]).text, "readings 2\n0 1 2\n1 -8 3\n");
+    let least: Vec<Arc> = (0..1023).map(|s| arc(s, 1, 2, s + 1, -1_000_000)).collect();
+    let least = Table::new(1024, 0, &[end(1023, -1_000_000)], &least).expect("a table");
+    assert_eq!(least.shortest().map(|x| x.cost), Ok(-1_024_000_000));
+}
+
+#[test]
+fn a_cycle_below_zero_refuses_where_a_path_has_it() {
+    // 1 and 2 are a cycle; 3 is final.
+    let table = |sum: Weight, into: bool, out: bool| {
+        let mut arcs = vec![arc(0, 1, 2, 3, 3), arc(1, 0, 0, 2, -5), arc(2, 0, 0, 1, 5 + sum)];
+        if into {
+            arcs.insert(1, arc(0, 1, 2, 1, 0));
+        }
+        if out {
+            arcs.push(arc(2, 0, 0, 3, 9));
+        }
+        Table::new(4, 0, &[end(3, 0)], &arcs).expect("a table")
+    };
+    assert_eq!(table(-1, true, true).shortest(), Err(Refusal::NEGATIVE_CYCLE));
+    assert_eq!(table(-1, true, true).count(), Err(Refusal::ENDLESS));
+    for (sum, into, out) in [(0, true, true), (-1, true, false), (-1, false, true), (-1, false, false)] {
+        assert_eq!(table(sum, into, out).shortest().map(|x| x.cost), Ok(3));
+    }
+    let mut b = sevens();
+    let ring = Table::new(1, 0, &[end(0, 0)], &[arc(0, 1, 2, 0, -1)]).expect("a table");
+    assert_eq!(lent::shortest(ring.as_bytes(), &mut b.path.0, &mut b.path.1), Err(Refusal::NEGATIVE_CYCLE));
+    assert_eq!(lent::shortest(ring.as_bytes(), &mut b.path.0[1..], &mut b.path.1), Err(Refusal::SHORT_BUFFER));
+    assert!(b.path.0.iter().chain(&b.path.1).all(|&x| x == 7));
 }
 
 #[test]
