@@ -8,6 +8,7 @@ ghost use Rattle.compose.specs.Entry.{Compose-says, compose-refusal};
 ghost use Rattle.lattice.specs.ApplyEntry.{Apply-says, apply-refusal};
 ghost use Rattle.trim.specs.TrimEntry.{Trim-says, trim-refusal};
 ghost use Rattle.paths.specs.Entry.{Count-says, count-refusal, Nth-says, nth-refusal};
+ghost use Rattle.distance.specs.Entry.{Costs-say, costs-refusal};
 ghost use Rattle.shortest.specs.Entry.{Shortest-says, shortest-refusal};
 ghost use Rattle.claim.specs.Entry.{Readings-says};
 ghost use Rattle.listing.specs.Entry.{Listing-says, text-room};
@@ -183,6 +184,15 @@ pub extern "C" fn forthwn_shortest(
     let answer = shortest::shortest_path(table, arcs, labels);
     *numbers = [answer.cost, answer.arcs as i64, answer.labels as i64];
     answer.refusal
+}
+
+// The least cost still to come from each state into 1,024 lent cells, 1,000,000,000,001 where no path leads to a final state. Time as for the shortest path.
+#[no_mangle]
+pub extern "C" fn forthwn_distance(table: &[u8], cells: &mut [i64]) -> u32
+    ensures { λ r. ⌜ Costs-say (now (table .entry)) (costs-refusal (now (table .entry)) (length (now (cells .entry)))) r
+        (now (cells .entry)) (now (cells .exit)) ⌝ }
+{
+    distance::costs_to_come(table, cells)
 }
 
 // The whole chain in one call: composes two transducers, applies a string and puts the number of accepting paths into `count`. Nothing is

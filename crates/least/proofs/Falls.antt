@@ -1,4 +1,5 @@
--- Refusal 19 as the relation in words: `falling` holds exactly where a cycle below zero lies on some accepting path. Assumes nothing.
+-- Refusal 19 as the relation in words: `falling` holds exactly where a cycle below zero lies on some accepting path, `falling-anywhere` exactly where one
+-- lies on some path from any state to a final one. Assumes nothing.
 use mathlib.Core.Path.{_≡_, refl, sym, ap, _∙_}
 use mathlib.Core.Bool.{Bool, true, false, _&&_, _||_}
 use mathlib.Core.Logic.{_⊎_, inl, inr, _↔_}
@@ -20,10 +21,13 @@ use Rattle.transducer.proofs.Runs.{Accepting, append-accepting, runs-append, en
 use Rattle.transducer.proofs.Rings.{Ring, long-has-ring}
 use Rattle.reach.specs.Reach.{accessible, coaccessible}
 use Rattle.reach.proofs.Counted.{last-or-below}
-use Rattle.reach.proofs.Reach.{PathTo, accessible-path, path-accessible, coaccessible-path, path-coaccessible}
-use Rattle.least.specs.Cycles.{Falling, some-leaving, falls-to, falls-round, some-below, falling}
+use Rattle.reach.specs.Marks.{Passes}
+use Rattle.reach.proofs.Closure.{accessible-passes}
+use Rattle.reach.proofs.Reach.{PathTo, accessible-start, accessible-path, coaccessible-path, path-coaccessible}
+use Rattle.least.specs.Cycles.{Falling, some-leaving, falls-to, falls-round, some-below}
+use Rattle.least.specs.Cycles.{falling-among, falling, anywhere, falling-anywhere, Falls}
 use Rattle.least.proofs.Costs.{arcs-cost-append}
-use Rattle.least.proofs.Cycles.{falling-rest}
+use Rattle.least.proofs.Cycles.{falling-rest, falling-behind}
 
 -- Some arc that leaves a state, and some number below n.
 
@@ -281,47 +285,110 @@ short-by t w s (suc fuel) f h = on (λ g l. short-by t w s fuel g l) (leb (lengt
 pub short-falling : (t : Transducer) → Within t → (s : ℕ) → Falling t s → Short t s
 short-falling t w s f = short-by t w s (length (f .cycle)) f (omega arith)
 
--- Both ways.
+-- Both ways, whichever states count, as long as those count to which arcs lead from one that does.
+
+-- The state itself is one of the transducer's.
+pub falling-below : (t : Transducer) → Within t → (s : ℕ) → Falling t s → s < t .states
+unfolding ends arcs-cost
+falling-below t w s f = on (f .lead) (f .cycle) (f .there) (f .around) (f .sum)
+  where
+    leaves : (i : ℕ) (p : List ℕ) → runs t s (i ∷ p) ≡ true → s < t .states
+    leaves i p h = let r : Runs t s i p = runs-cons t s i p h in rw (r .leaves) at (w .leaves i (r .below))
+
+    on : (lead cycle : List ℕ) → runs t s lead ≡ true → runs t (ends t s lead) cycle ≡ true → Below (arcs-cost t cycle) no-weight → s < t .states
+    on (i ∷ p) c h g low = leaves i p h
+    on [] (i ∷ p) h g low = leaves i p g
+    on [] [] h g low = absurd (omega (arith, sums, low))
+
+module _ (t : Transducer) (counts : ℕ → Bool) where
+  -- Marks go along with paths.
+  pub passes-along : Passes t false counts → (s : ℕ) (p : List ℕ) → counts s ≡ true → runs t s p ≡ true → counts (ends t s p) ≡ true
+  unfolding ends
+  passes-along m s [] c h = c
+  passes-along m s (i ∷ p) c h =
+      let r : Runs t s i p = runs-cons t s i p h in
+      passes-along m (arc t i .target) p (m i (r .below) (rw (r .leaves) c)) (r .rest)
+
+  pub falls-among : Within t → Passes t false counts → Falls t counts → falling-among t counts ≡ true
+  unfolding falling-among falls-round
+  falls-among w m f =
+      let g : Short t (f .state) = short-falling t w (f .state) (f .falling) in
+      let o = g .falls in
+      let n : ℕ = t .states in
+      let s : ℕ = ends t (f .state) (g .falls .lead) in
+      let a : counts s ≡ true = passes-along m (f .state) (g .falls .lead) (f .marked) (o .there) in
+      let b : coaccessible n t s ≡ true = path-coaccessible t w s (g .falls .rest) (falling-rest t (f .state) o) in
+      let c : falls-to n t s s no-weight ≡ true =
+      path-falls-to n t s s no-weight (g .falls .cycle) (o .around) (o .back) (g .few) (omega (arith, sums, g .falls .sum)) in
+      has-some-below n (λ s. counts s && (coaccessible n t s && falls-to n t s s no-weight)) s
+      (ends-below t w (f .state) (g .falls .lead) (falling-below t w (f .state) (f .falling)) (o .there))
+      (true-and (counts s) (coaccessible n t s && falls-to n t s s no-weight) a (true-and (coaccessible n t s) (falls-to n t s s no-weight) b c))
+
+  pub among-falls : falling-among t counts ≡ true → Falls t counts
+  unfolding falling-among falls-round runs ends
+  among-falls h =
+      let n : ℕ = t .states in
+      let r : Found-below n (λ s. counts s && (coaccessible n t s && falls-to n t s s no-weight)) =
+      some-below-has n (λ s. counts s && (coaccessible n t s && falls-to n t s s no-weight)) h in
+      let s : ℕ = r .number in
+      let one = and-true (counts s) (coaccessible n t s && falls-to n t s s no-weight) (r .for) in
+      let two = and-true (coaccessible n t s) (falls-to n t s s no-weight) (one .1) in
+      let rest = coaccessible-path n t s (two .0) in
+      let round : FallsTo n t s s no-weight = falls-to-path n t s s no-weight (two .1) in
+      record {
+        state = s;
+        marked = one .0;
+        falling =
+            record {
+              lead = [];
+              cycle = round .path;
+              rest = rest .0;
+              there = refl;
+              around = round .goes;
+              back = round .there;
+              on = rest .1 .goes;
+              final = rest .1 .final;
+              sum = omega (arith, sums, round .sum);
+            };
+      }
+
+  pub falling-among-is : Within t → Passes t false counts → (falling-among t counts ≡ true) ↔ Falls t counts
+  falling-among-is w m = (among-falls, falls-among w m)
+
+-- Where those count that the start reaches, it is a cycle on an accepting path.
+
+pub falls-start : (t : Transducer) → Falls t (accessible (t .states) t) → Falling t (t .start)
+falls-start t f =
+    let to : PathTo t (f .state) = accessible-path (t .states) t (f .state) (f .marked) .0 in
+    let there : ends t (t .start) (to .path) ≡ f .state = to .there in
+    falling-behind t (t .start) (to .path) (to .goes) (rw there (f .falling))
 
 pub falling-true : (t : Transducer) → Within t → Falling t (t .start) → falling t ≡ true
-unfolding falling falls-round
+unfolding falling
 falling-true t w f =
-    let g : Short t (t .start) = short-falling t w (t .start) f in
-    let o = g .falls in
-    let n : ℕ = t .states in
-    let s : ℕ = ends t (t .start) (g .falls .lead) in
-    let a : accessible n t s ≡ true = path-accessible t w s (record { path = g .falls .lead; goes = o .there; there = refl }) in
-    let b : coaccessible n t s ≡ true = path-coaccessible t w s (g .falls .rest) (falling-rest t (t .start) o) in
-    let c : falls-to n t s s no-weight ≡ true =
-    path-falls-to n t s s no-weight (g .falls .cycle) (o .around) (o .back) (g .few) (omega (arith, sums, g .falls .sum)) in
-    has-some-below n (λ s. accessible n t s && (coaccessible n t s && falls-to n t s s no-weight)) s
-    (ends-below t w (t .start) (g .falls .lead) (w .starts) (o .there))
-    (true-and (accessible n t s) (coaccessible n t s && falls-to n t s s no-weight) a (true-and (coaccessible n t s) (falls-to n t s s no-weight) b c))
+    falls-among t (accessible (t .states) t) w (accessible-passes t w)
+    (record { state = t .start; marked = accessible-start (t .states) t; falling = f })
 
 pub true-falling : (t : Transducer) → falling t ≡ true → Falling t (t .start)
-unfolding falling falls-round
-true-falling t h =
-    let n : ℕ = t .states in
-    let r : Found-below n (λ s. accessible n t s && (coaccessible n t s && falls-to n t s s no-weight)) =
-    some-below-has n (λ s. accessible n t s && (coaccessible n t s && falls-to n t s s no-weight)) h in
-    let s : ℕ = r .number in
-    let one = and-true (accessible n t s) (coaccessible n t s && falls-to n t s s no-weight) (r .for) in
-    let two = and-true (coaccessible n t s) (falls-to n t s s no-weight) (one .1) in
-    let to : PathTo t s = accessible-path n t s (one .0) .0 in
-    let rest = coaccessible-path n t s (two .0) in
-    let round : FallsTo n t s s no-weight = falls-to-path n t s s no-weight (two .1) in
-    let there : ends t (t .start) (to .path) ≡ s = to .there in
-    record {
-      lead = to .path;
-      cycle = round .path;
-      rest = rest .0;
-      there = to .goes;
-      around = rw there (round .goes);
-      back = rw there (round .there);
-      on = rw there (rest .1 .goes);
-      final = rw there (rest .1 .final);
-      sum = omega (arith, sums, round .sum);
-    }
+unfolding falling
+true-falling t h = falls-start t (among-falls t (accessible (t .states) t) h)
 
 pub falling-is : (t : Transducer) → Within t → (falling t ≡ true) ↔ Falling t (t .start)
 falling-is t w = (true-falling t, falling-true t w)
+
+-- Where all count, it may be a cycle that the start does not reach.
+
+pub anywhere-true : (t : Transducer) → Within t → Falls t anywhere → falling-anywhere t ≡ true
+unfolding falling-anywhere
+anywhere-true t w f = falls-among t anywhere w (λ i b c. refl) f
+
+pub true-anywhere : (t : Transducer) → falling-anywhere t ≡ true → Falls t anywhere
+unfolding falling-anywhere
+true-anywhere t h = among-falls t anywhere h
+
+pub falling-anywhere-is : (t : Transducer) → Within t → (falling-anywhere t ≡ true) ↔ Falls t anywhere
+falling-anywhere-is t w = (true-anywhere t, anywhere-true t w)
+
+-- A cycle on an accepting path is one of them.
+pub falling-some : (t : Transducer) → Within t → falling t ≡ true → falling-anywhere t ≡ true
+falling-some t w h = anywhere-true t w (record { state = t .start; marked = refl; falling = true-falling t h })

@@ -43,7 +43,24 @@ unfoldable pub some-below : (n : ℕ) → (ℕ → Bool) → Bool
 some-below zero f = false
 some-below (suc n) f = f n || some-below n f
 
--- 19: whether a cycle below zero lies on an accepting path. Its state is accessible and coaccessible.
+-- 19, by which states count: whether a cycle below zero passes one of them and a final state can be reached from it.
+unfoldable pub falling-among : Transducer → (counts : ℕ → Bool) → Bool
+falling-among t counts =
+    some-below (t .states) (λ s. counts s && (coaccessible (t .states) t s && falls-round t s))
+
+-- The shortest path: those count that the start reaches, so that the cycle lies on an accepting path.
 unfoldable pub falling : Transducer → Bool
-falling t =
-    some-below (t .states) (λ s. accessible (t .states) t s && (coaccessible (t .states) t s && falls-round t s))
+falling t = falling-among t (accessible (t .states) t)
+
+-- Costs to come: all count.
+abbrev pub anywhere : (s : ℕ) → Bool
+anywhere s = true
+
+unfoldable pub falling-anywhere : Transducer → Bool
+falling-anywhere t = falling-among t anywhere
+
+-- The same in words: the state that counts, and the cycle on an accepting path from there.
+pub record Falls (t : Transducer) (counts : ℕ → Bool) : Type 0 where
+  pub state : ℕ
+  pub marked : counts state ≡ true
+  pub falling : Falling t state

@@ -12,6 +12,8 @@ pub const DIRTY32: u32 = 1515870810;
 
 pub const DIRTY_WEIGHT: i32 = 1515870810;
 
+pub const DIRTY_COST: i64 = 6510615555426900570;
+
 // At this room each buffer is lent at its least length; at a buffer's number that one is one short; otherwise all is lent.
 const EXACT: u8 = 9;
 

@@ -96,3 +96,25 @@ pub fn sum_weights(cells: &[i32]) -> u64 {
     }
     sum
 }
+
+// What a cost leaves by the prime, one below zero too.
+fn wide_cost(x: i64) -> u64
+    ensures { λ r. ⌜ r < 65521 ⌝ }
+{
+    if 0 <= x {
+        return x as u64 % PRIME;
+    }
+    let m = (-1 - x) as u64 % PRIME;
+    PRIME - 1 - m
+}
+
+// The same of costs.
+pub fn sum_costs(cells: &[i64]) -> u64 {
+    let mut sum: u64 = 0;
+    let mut i = 0;
+    while i < cells.len() {
+        sum = (sum * 31 + wide_cost(cells[i])) % PRIME;
+        i += 1;
+    }
+    sum
+}

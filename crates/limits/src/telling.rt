@@ -1,4 +1,4 @@
-// The cases of the path count, the k-th path and the shortest path. Buffers are dirty before the call, and shown to their ends after it.
+// The cases of the path count, the k-th path, the shortest path and costs to come. Buffers are dirty before the call, and shown to their ends after it.
 use crate::lent;
 use crate::load;
 use crate::show;
@@ -6,6 +6,9 @@ use paths::Told;
 
 // The least length of paper 01.
 const CELLS: usize = 1023;
+
+// That of costs to come.
+const COSTS: usize = 1024;
 
 // Counts the accepting paths of a transducer.
 pub fn count(table: &[u8]) {
@@ -59,4 +62,29 @@ pub fn shortest(table: &[u8], room: u8) {
     let mut labels = [lent::DIRTY16; CELLS + lent::SPARE];
     let told = shortest_into(table, room, &mut arcs, &mut labels);
     show_told(told, &arcs, &labels);
+}
+
+// Costs to come into cells that the case may shorten.
+fn distance_into(table: &[u8], room: u8, cells: &mut [i64]) -> u32 {
+    let n = lent::cells(room, 17, cells.len());
+    distance::costs_to_come(table, &mut cells[0..n])
+}
+
+// Prints the first five cells and the last one.
+fn show_cells(cells: &[i64; COSTS + lent::SPARE]) {
+    show::cost(b" cells ", cells[0]);
+    show::cost(b" ", cells[1]);
+    show::cost(b" ", cells[2]);
+    show::cost(b" ", cells[3]);
+    show::cost(b" ", cells[4]);
+    show::cost(b" last ", cells[COSTS - 1]);
+}
+
+// Costs to come of a transducer.
+pub fn distance(table: &[u8], room: u8) {
+    let mut cells = [lent::DIRTY_COST; COSTS + lent::SPARE];
+    let refusal = distance_into(table, room, &mut cells);
+    show::number(b" refusal ", refusal as u64);
+    show_cells(&cells);
+    show::number(b" sum ", show::sum_costs(&cells));
 }

@@ -13,7 +13,7 @@ use Rattle.transducer.specs.Format.{Transducer}
 use Rattle.transducer.specs.Path.{arc, runs}
 use Rattle.transducer.proofs.Paths.{Runs, runs-cons}
 use Rattle.transducer.proofs.Runs.{Within}
-use Rattle.shortest.specs.Nearest.{follow}
+use Rattle.shortest.specs.Tight.{follow}
 
 pub length-follow : (n : ℕ) (t : Transducer) (v : ℕ → ℕ) (s : ℕ) → length (follow n t v s) ≡ n
 unfolding follow

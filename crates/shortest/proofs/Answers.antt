@@ -16,18 +16,20 @@ use Rattle.transducer.specs.Entry.{or-else}
 use Rattle.transducer.specs.Weight.{Weight, At-most, Below}
 use Rattle.transducer.proofs.Runs.{accepting-accepts}
 use Rattle.paths.specs.declared.Told.{Told}
-use Rattle.reach.specs.Reach.{coaccessible}
-use Rattle.reach.proofs.Reach.{path-coaccessible}
+use Rattle.reach.specs.Reach.{accessible, coaccessible}
+use Rattle.reach.proofs.Reach.{accessible-start, path-coaccessible}
 use Rattle.least.specs.Cycles.{Falling, falling}
 use Rattle.least.proofs.Cycles.{falling-accepting}
-use Rattle.least.proofs.Falls.{falling-true}
+use Rattle.least.proofs.Falls.{falls-start, falling-true}
 use Rattle.paths.specs.Entry.{Tells}
 use Rattle.paths.proofs.PathTold.{refused-told, told-refused, told-found}
 use Rattle.paths.proofs.Ready.{Sized}
+use Rattle.distance.specs.Nearest.{unreached, cost-at, by-state, Settled, Distances-say}
+use Rattle.distance.proofs.Settled.{few-arcs, reached-accepting, no-path-none}
 use Rattle.shortest.specs.Shortest.{shortest}
-use Rattle.shortest.specs.Nearest.{unreached, cost-at, by-state, Settled, Distances-say, first-tight, follow}
+use Rattle.shortest.specs.Tight.{first-tight, follow}
 use Rattle.shortest.specs.Entry.{shortest-refusal, Shortest-says}
-use Rattle.shortest.proofs.Distances.{Followed, followed, follow-shortest, few-arcs, settled-rises, reached-accepting, no-path-none}
+use Rattle.shortest.proofs.Followed.{Followed, followed, rises, follow-shortest}
 
 -- The shortest path along an arc for each state.
 pub record Found (t : Transducer) (v : ℕ → ℕ) (start len : ℕ) : Type 0 where
@@ -39,22 +41,22 @@ pub record Found (t : Transducer) (v : ℕ → ℕ) (start len : ℕ) : Type 0 w
   pub is : follow len t v start ≡ shortest t
   pub accepted : accepts t (follow len t v start) ≡ true
 
-pub found : (t : Transducer) → Sized t → (cs : List Weight) (ls : List ℕ) (start len : ℕ) {r : Bool} → Distances-say t cs ls r → r ≡ true → start ≡ t .start
-    → Below (cost-at cs start) unreached → len ≡ by-state ls start → Found t (first-tight t (cost-at cs) (by-state ls)) start len
+pub found : (t : Transducer) → Sized t → (cs : List Weight) (ls : List ℕ) (start len : ℕ) {r : Bool} → Distances-say t (accessible (t .states) t) cs ls r
+    → r ≡ true → start ≡ t .start → Below (cost-at cs start) unreached → len ≡ by-state ls start → Found t (first-tight t (cost-at cs) (by-state ls)) start len
 found t z cs ls start len says on e there l =
     let c : ℕ → Weight = cost-at cs in
     let m : ℕ → ℕ = by-state ls in
     let v : ℕ → ℕ = first-tight t c m in
-    let k : Settled t c m = says .settled on in
+    let k : Settled t (accessible (t .states) t) c m = says .settled on in
     let s : ℕ = t .start in
     let below : s < t .states = z .within .starts in
     let some : Below (c s) unreached = rw e at there in
-    let few : m s < t .states = few-arcs t z c m k s below some in
-    let f : Followed t z c m k s (m s) = followed t z c m k (m s) s below (k .start) some refl in
+    let few : m s < t .states = few-arcs t z (accessible (t .states) t) c m k s below some in
+    let f : Followed t z c m k s (m s) = followed t z c m k (m s) s below (accessible-start (t .states) t) some refl in
     let most : t .states ≤ max-states = z .states in
     rw (l, e) (record {
-      some = reached-accepting t z c m k s below some;
-      rises = settled-rises t z c m k;
+      some = reached-accepting t z (accessible (t .states) t) c m k s below some;
+      rises = rises t z c m k;
       goes = f .accepting .goes;
       few = omega arith;
       many = f .arcs;
@@ -110,27 +112,30 @@ module _ (bs : List ℕ) {a b : List ℕ} {n : ℕ} {r : Told} where
 
   module _ (e : n ≡ refusal bs) (z : n ≡ 0) (la : max-path ≤ length a) (lb : max-path ≤ length b) where
     -- 16
-    pub shortest-none : {cs : List Weight} {ls : List ℕ} {start : ℕ} {d : Bool} → Sized (decode bs) → Distances-say (decode bs) cs ls d → d ≡ true
+    pub shortest-none : {cs : List Weight} {ls : List ℕ} {start : ℕ} {d : Bool} → Sized (decode bs)
+        → Distances-say (decode bs) (accessible (decode bs .states) (decode bs)) cs ls d → d ≡ true
         → start ≡ decode bs .start → At-most unreached (cost-at cs start)
         → r ≡ refused-told 16 → Shortest-says bs (shortest-refusal bs (length a) (length b)) r a a b b
     unfolding shortest-refusal or-else
     shortest-none {cs} {ls} {start} size says on s q h =
         let ok : refusal bs ≡ 0 = sym e ∙ z in
         let t : Transducer = decode bs in
-        let k : Settled t (cost-at cs) (by-state ls) = says .settled on in
+        let k : Settled t (accessible (t .states) t) (cost-at cs) (by-state ls) = says .settled on in
         let none : coaccessible (t .states) t (t .start) ≡ false =
-        no-path-none t size (cost-at cs) (by-state ls) k (t .start) (size .within .starts) (k .start) (rw s at q) in
+        no-path-none t size (accessible (t .states) t) (cost-at cs) (by-state ls) k (t .start) (size .within .starts) (accessible-start (t .states) t)
+        (rw s at q) in
         told-refused (decode bs) (shortest (decode bs)) (shortest-refusal bs (length a) (length b)) 16 r a b
         (rw (ok, le-ltb (length a) max-path la, le-ltb (length b) max-path lb, none)) (λ q'. omega arith) h
 
     -- 19: some path accepts, and a cycle below zero lies on it.
-    pub shortest-falls : {cs : List Weight} {ls : List ℕ} {d : Bool} → Sized (decode bs) → Distances-say (decode bs) cs ls d → d ≡ false
+    pub shortest-falls : {cs : List Weight} {ls : List ℕ} {d : Bool} → Sized (decode bs)
+        → Distances-say (decode bs) (accessible (decode bs .states) (decode bs)) cs ls d → d ≡ false
         → r ≡ refused-told 19 → Shortest-says bs (shortest-refusal bs (length a) (length b)) r a a b b
     unfolding shortest-refusal or-else
     shortest-falls {cs} {ls} size says off h =
         let ok : refusal bs ≡ 0 = sym e ∙ z in
         let t : Transducer = decode bs in
-        let f : Falling t (t .start) = says .falling off in
+        let f : Falling t (t .start) = falls-start t (says .falls off) in
         let some : coaccessible (t .states) t (t .start) ≡ true =
         path-coaccessible t (size .within) (t .start) (f .lead ++ (f .cycle ++ f .rest)) (falling-accepting t (t .start) f) in
         told-refused (decode bs) (shortest (decode bs)) (shortest-refusal bs (length a) (length b)) 19 r a b

@@ -20,12 +20,13 @@ use Rattle.reach.specs.Reach.{coaccessible}
 use Rattle.reach.proofs.Reach.{coaccessible-path, path-coaccessible}
 use Rattle.paths.specs.Count.{paths-from}
 use Rattle.paths.proofs.Listed.{in-paths-from, paths-from-has}
+use Rattle.distance.proofs.Nearer.{no-worse-through}
 use Rattle.shortest.specs.Shortest.{better, shortest}
 use Rattle.least.specs.Cycles.{Falling, falling}
 use Rattle.least.proofs.Costs.{cost-start}
 use Rattle.least.proofs.Cycles.{Shorter, shorter}
 use Rattle.least.proofs.Falls.{falling-true}
-use Rattle.shortest.proofs.Best.{Near, no-worse-through, Not-better, better-false, not-better, neither-better-same, best-in, best-least}
+use Rattle.shortest.proofs.Best.{Near, Not-better, better-false, not-better, neither-better-same, best-in, best-least}
 
 module _ (t : Transducer) (w : Within t) (rises : falling t ≡ false) (p : List ℕ) (a : accepts t p ≡ true) where
   -- An accepting path that is listed, no dearer and no longer.

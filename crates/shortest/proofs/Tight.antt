@@ -14,9 +14,10 @@ use Rattle.transducer.specs.Weight.{Weight}
 use Rattle.transducer.specs.Leaf.{arcs-below}
 use Rattle.transducer.proofs.Good.{Content}
 use Rattle.transducer.proofs.Index.{arcs-of-state, state-of-arcs}
-use Rattle.shortest.specs.Shortest.{nearer}
-use Rattle.shortest.specs.Nearest.{No-worse, cost-by, arcs-by, Tight, First, gives, first-giving, first-tight}
-use Rattle.shortest.proofs.Best.{no-worse-same, no-worse-both, nearer-false, false-nearer}
+use Rattle.distance.specs.Distance.{nearer}
+use Rattle.distance.specs.Nearest.{No-worse, cost-by, arcs-by}
+use Rattle.distance.proofs.Nearer.{no-worse-same, no-worse-both, nearer-false, false-nearer}
+use Rattle.shortest.specs.Tight.{Tight, First, gives, first-giving, first-tight}
 
 module _ (t : Transducer) (c : ℕ → Weight) (l : ℕ → ℕ) (s : ℕ) where
   -- The first arc that gives them, no later than any other.

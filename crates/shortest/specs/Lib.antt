@@ -1,5 +1,5 @@
 pub mod Shortest
-pub mod Nearest
-pub mod Queue
+pub mod Tight
 pub mod Entry
 pub mod Claim
+pub mod Agree

@@ -1,7 +1,7 @@
 // The shortest path of a transducer.
 ghost use lib.ListN.{length};
 ghost use Rattle.shortest.specs.Entry.{Shortest-says, shortest-refusal};
-use crate::near;
+use crate::walk;
 use paths::Told;
 
 // The shortest path: its arc numbers and the labels that it writes go into two lent buffers. Linear in states and arcs where one sweep settles
@@ -27,16 +27,17 @@ pub fn shortest_path(table: &[u8], arcs: &mut [u16], labels: &mut [u16]) -> Told
     let shape = transducer::prepare(table, &mut index, &mut codes);
     let start = shape.start;
     let mut costs = [0i32; transducer::MAX_STATES];
-    near::own_costs(shape.states, &codes, &mut costs);
-    let plain = near::is_plain(shape.states, shape.arcs, seen.least, &costs);
-    let forward = near::by_states(shape.states, shape.arcs, seen.least, seen.up);
+    distance::own_costs(shape.states, &codes, &mut costs);
+    let plain = distance::is_plain(shape.states, shape.arcs, seen.least, &costs);
+    let forward = distance::by_states(shape.states, shape.arcs, seen.least, seen.up);
     let mut lens = [0u16; transducer::MAX_STATES];
-    let settled = near::distances(
+    let settled = distance::distances(
         table,
         shape.first,
         shape.states,
         shape.arcs,
         start,
+        false,
         &index,
         plain,
         forward,
@@ -47,10 +48,10 @@ pub fn shortest_path(table: &[u8], arcs: &mut [u16], labels: &mut [u16]) -> Told
     if !settled {
         return paths::refused(19);
     }
-    if near::UNREACHED <= costs[start] {
+    if distance::UNREACHED <= costs[start] {
         return paths::refused(16);
     }
     let len = lens[start] as usize;
-    near::walk(table, shape.first, start, len, &index, &costs, &lens, arcs);
+    walk::walk(table, shape.first, start, len, &index, &costs, &lens, arcs);
     paths::tell(table, shape.first, start, &codes, arcs, len, labels)
 }

@@ -1,6 +1,5 @@
 // The shortest path: the accepting path of least cost, then fewest arcs, then first in path order.
 mod entry;
-mod near;
-mod queue;
+mod walk;
 
 pub use entry::shortest_path;

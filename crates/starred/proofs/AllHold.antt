@@ -32,8 +32,9 @@ use Rattle.lattice.specs.Lattice.{lattice, lattice-origins}
 use Rattle.lattice.specs.ApplyEntry.{apply-room, apply-refusal}
 use Rattle.paths.specs.Count.{before, paths-from, paths, goes-on, endless, path-count, nth-path}
 use Rattle.paths.specs.Entry.{count-refusal, nth-refusal}
-use Rattle.least.specs.Cycles.{some-leaving, falls-to, falls-round, some-below, falling}
-use Rattle.shortest.specs.Shortest.{nearer, nearer-path, better, best-of, best, shortest}
+use Rattle.least.specs.Cycles.{some-leaving, falls-to, falls-round, some-below, falling-among, falling}
+use Rattle.distance.specs.Distance.{nearer}
+use Rattle.shortest.specs.Shortest.{nearer-path, better, best-of, best, shortest}
 use Rattle.shortest.specs.Entry.{shortest-refusal}
 use Rattle.listing.specs.Code.{labels-in}
 use Rattle.listing.specs.Text.{digits, decimal, cost-text, readings-word, labels-text, line, line-of, lines, counted-text, listing-text}
@@ -87,7 +88,7 @@ unfolding two four low signed-four signed-low places every framed-from framed re
     arc-useful renumbered kept-arcs kept-finals kept-numbers trimmed origins-kept lattice lattice-origins apply-room apply-refusal before paths-from
     paths
     goes-on endless path-count nth-path count-refusal nth-refusal nearer nearer-path better best-of best shortest some-leaving falls-to falls-round
-    some-below falling shortest-refusal labels-in digits
+    some-below falling-among falling shortest-refusal labels-in digits
     decimal cost-text readings-word labels-text line line-of lines counted-text listing-text code-refusal applied-refusal text-unless listing-refusal text-of
     or-refused read-answer write-answer path-answer defined repeated
 all-hold x y z =

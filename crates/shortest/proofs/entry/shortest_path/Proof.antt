@@ -16,9 +16,10 @@ use Rattle.wire.proofs.Ints.{bits}
 use Rattle.transducer.specs.Weight.{Weight, At-most, Below}
 use Rattle.transducer.specs.Format.{max-states, refusal, decode}
 use Rattle.paths.proofs.Ready.{Sized, sized}
-use Rattle.shortest.specs.Nearest.{unreached, cost-at, by-state, first-tight}
-use Rattle.shortest.proofs.Bounds.{cell-fits}
-use Rattle.shortest.proofs.EmptyPaths.{nearing-first, getD-zeros, plain-rising}
+use Rattle.distance.specs.Nearest.{unreached, cost-at, by-state}
+use Rattle.distance.proofs.Bounds.{cell-fits}
+use Rattle.distance.proofs.EmptyPaths.{nearing-first, getD-zeros, plain-rising}
+use Rattle.shortest.specs.Tight.{first-tight}
 use Rattle.shortest.proofs.Answers.{Found, found, Stored, stored, shortest-bad, shortest-short-arcs, shortest-short-labels}
 use Rattle.shortest.proofs.Answers.{shortest-none, shortest-falls, shortest-told}
 use Rattle.shortest.proofs.entry.shortest_path.Statement.{statement}
@@ -64,10 +65,10 @@ size c = sized (start c .args .table .now) (is-bytes c) (accepted c)
 
 -- What is settled, and the path along the first tight arcs.
 abbrev costs : tie.After-distances → List Weight
-costs c = c .distances .last .1 .1 .1 .1 .1 .1 .1 .1 .1 .0
+costs c = c .distances .last .1 .1 .1 .1 .1 .1 .1 .1 .1 .1 .0
 
 abbrev lens : tie.After-distances → List ℕ
-lens c = c .distances .last .1 .1 .1 .1 .1 .1 .1 .1 .1 .1 .0
+lens c = c .distances .last .1 .1 .1 .1 .1 .1 .1 .1 .1 .1 .1 .0
 
 abbrev firsts : tie.After-distances → ℕ → ℕ
 firsts c = first-tight (decode (start-of c .args .table .now)) (cost-at (costs c)) (by-state (lens c))

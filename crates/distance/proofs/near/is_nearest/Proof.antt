@@ -1,0 +1,13 @@
+-- The two tests of `is-nearest`.
+use mathlib.Core.Path.{refl}
+use mir.Facts.{toZ-ofZ}
+use Rattle.distance.specs.Nearest.{is-nearest}
+use Rattle.distance.proofs.near.is_nearest.Statement.{statement}
+use Rattle.distance.proofs.near.is_nearest.Tie as tie
+
+returns : tie.Need-returns
+unfolding is-nearest
+returns c = rw (toZ-ofZ (c .fits .bar), toZ-ofZ (c .fits .cost)) refl
+
+pub is-nearest-spec : {M : Type 1} → statement M
+is-nearest-spec = tie.close (tie.spec returns)

@@ -1,0 +1,189 @@
+-- The arc as it was read; it leaves its source as it was, makes it better, or would by a path of too many arcs (`relaxes`).
+use borrow.Author.Needs.{needs}
+use borrow.Author.Tests.{not-true, not-false}
+use mathlib.Core.Path.{_≡_, refl, ap, _∙_}
+use Prim.Native.Nat.{ℕ, _+_, _≤_, _<_}
+use native.Mathlib.Omega.{arith}
+use mir.Syntax.{w32}
+use mir.Val.{toZ, ofZ}
+use mir.Facts.{toZ-ofZ}
+use Rattle.wire.specs.Bytes.{Bytes}
+use Rattle.transducer.specs.Format.{max-states, decode}
+use Rattle.transducer.specs.Weight.{Weight}
+use Rattle.paths.proofs.Ready.{Sized, sized}
+use Rattle.distance.specs.Distance.{nearer}
+use Rattle.distance.specs.Nearest.{by-state}
+use Rattle.distance.proofs.Bounds.{cell-back, weight-back, read-good, onward-back}
+use Rattle.distance.proofs.Relaxed.{relaxed-states, Relaxes, relaxes}
+use Rattle.distance.proofs.near.relax.Statement.{statement}
+use Rattle.distance.proofs.near.relax.Tie as tie
+
+-- The arc that was read, and the sums made of it.
+abbrev Read : Type 0
+Read = tie.After-arc-of
+
+abbrev start : Read → tie.Start
+start c = c .before .before
+
+size : (c : Read) → Sized (decode (start c .args .table .now))
+size c =
+    let bs = start c .args .table .now in
+    let bytes : Bytes bs = λ i. omega (arith, c .before .shared-slice-known .given i) in
+    sized bs bytes (start c .pre .0 .accepted)
+
+below : (c : Read) → (c .arc-of .result .source < max-states) × (c .arc-of .result .target < max-states)
+below c =
+    let a = start c .args in
+    let pre = start c .pre in
+    relaxed-states (decode (a .table .now)) (size c) (a .costs .now) (a .lens .now) (pre .4) (pre .3) (a .i) (pre .1) (c .arc-of .result) (c .arc-of .ensures)
+
+few : (c : Read) → by-state (start c .args .lens .now) (c .arc-of .result .target) ≤ max-states
+few c = start c .pre .4 .few (c .arc-of .result .target)
+
+abbrev Summed : Type 0
+Summed = tie.After-sum
+
+abbrev read : Summed → Read
+read c = c .before .before .before .before .before
+
+abbrev Compared : Type 0
+Compared = tie.After-comes-first
+
+abbrev summed : Compared → Summed
+summed c = c .before .before .before .before
+
+abbrev got : Compared → Read
+got c = read (summed c)
+
+abbrev from : Compared → tie.Start
+from c = start (got c)
+
+-- The cost and the number of arcs by way of the arc.
+abbrev cost : Compared → Weight
+cost c = toZ w32 (ofZ w32 (summed c .sum .result))
+
+abbrev len : Compared → ℕ
+len c = by-state (from c .args .lens .now) (got c .arc-of .result .target) + 1
+
+-- What is left in each case.
+both : (c : Compared)
+    → Relaxes (decode (from c .args .table .now)) (from c .args .i) (from c .args .costs .now) (from c .args .lens .now)
+    (got c .arc-of .result .source) (cost c) (len c) (c .comes-first .result)
+both c =
+    let a = from c .args in
+    let pre = from c .pre in
+    let t = decode (a .table .now) in
+    let arc' = got c .arc-of .result in
+    let is = got c .arc-of .ensures in
+    let made = summed c .sum in
+    relaxes t (size (got c)) (a .costs .now) (a .lens .now) (pre .4) (pre .3) (a .i) (pre .1) arc' is (cost c) (len c)
+    (toZ-ofZ (record { sfits = made .ok }) ∙ onward-back t (size (got c)) (pre .4) (a .i) (pre .1) arc' is (made .ensures))
+    refl
+    (c .comes-first .ensures
+    ∙ ap (λ (x : Weight). nearer (cost c) (len c) x (by-state (a .lens .now) (arc' .source))) (cell-back (pre .4) (arc' .source)))
+
+arc-of-requires : tie.Need-arc-of-requires
+arc-of-requires c κs = (c .before .pre .0, c .before .pre .1)
+
+cast-s : tie.Need-cast-s
+cast-s c = search needs
+
+cast-to : tie.Need-cast-to
+cast-to c = search needs
+
+mul-sum : tie.Need-mul-sum
+mul-sum c = omega (arith, below (c .before .before) .1)
+
+element-copy-out-sum : tie.Need-element-copy-out-sum
+element-copy-out-sum c = below (c .before .before) .1
+
+sum-requires : tie.Need-sum-requires
+sum-requires c κs =
+    let at = c .before .before .before .before in
+    let cells = start at .pre .4 in
+    let t = decode (start at .args .table .now) in
+    let i = start at .args .i in
+    let arc' = at .arc-of .result in
+    let is = at .arc-of .ensures in (
+      rw (weight-back t (size at) i (start at .pre .1) arc' is) (read-good t (size at) i (start at .pre .1) arc' is),
+      rw (cell-back cells (arc' .target)) (cells .low (arc' .target)),
+    )
+
+mul-len : tie.Need-mul-len
+mul-len c = omega (arith, below (read c) .1)
+
+element-copy-out-len : tie.Need-element-copy-out-len
+element-copy-out-len c = below (read c) .1
+
+add-len : tie.Need-add-len
+add-len c = omega (arith, few (read (c .before)))
+
+mul-comes-first : tie.Need-mul-comes-first
+mul-comes-first c = omega (arith, below (read (c .before)) .0)
+
+element-copy-out-comes-first : tie.Need-element-copy-out-comes-first
+element-copy-out-comes-first c = below (read (c .before)) .0
+
+mul-comes-first-2 : tie.Need-mul-comes-first-2
+mul-comes-first-2 c = omega (arith, below (read (c .before .before)) .0)
+
+element-copy-out-comes-first-2 : tie.Need-element-copy-out-comes-first-2
+element-copy-out-comes-first-2 c = below (read (c .before .before)) .0
+
+comes-first-requires : tie.Need-comes-first-requires
+comes-first-requires c κs = tt
+
+returns : tie.Need-returns
+returns c = both (c .before) .same (not-true (c .before .comes-first .result) (c .if1 .taken))
+
+cast-if2 : tie.Need-cast-if2
+cast-if2 c = omega (arith, few (got (c .before)))
+
+returns-2 : tie.Need-returns-2
+returns-2 c =
+    let at = c .before .before in
+    both at .long (not-false (at .comes-first .result) (c .before .if1 .left)) (omega (arith, from at .pre .2, c .if2 .taken))
+
+mul-cost : tie.Need-mul-cost
+mul-cost c = omega (arith, below (got (c .before .before)) .0)
+
+element-set-from-cost : tie.Need-element-set-from-cost
+element-set-from-cost c = below (got (c .before .before)) .0
+
+mul-lens : tie.Need-mul-lens
+mul-lens c = omega (arith, below (got (c .before .before)) .0)
+
+element-write-lens : tie.Need-element-write-lens
+element-write-lens c = below (got (c .before .before)) .0
+
+returns-3 : tie.Need-returns-3
+returns-3 c =
+    let at = c .before .before in
+    both at .put (not-false (at .comes-first .result) (c .before .if1 .left)) (omega (arith, from at .pre .2, c .if2 .left))
+
+pub relax-spec : {M : Type 1} → statement M
+relax-spec =
+    tie.close
+    (tie.spec
+    arc-of-requires
+    cast-s
+    cast-to
+    mul-sum
+    element-copy-out-sum
+    sum-requires
+    mul-len
+    element-copy-out-len
+    add-len
+    mul-comes-first
+    element-copy-out-comes-first
+    mul-comes-first-2
+    element-copy-out-comes-first-2
+    comes-first-requires
+    returns
+    cast-if2
+    returns-2
+    mul-cost
+    element-set-from-cost
+    mul-lens
+    element-write-lens
+    returns-3)

@@ -1,0 +1,5 @@
+pub mod Distance
+pub mod Nearest
+pub mod Queue
+pub mod Entry
+pub mod Claim

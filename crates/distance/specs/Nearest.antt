@@ -1,0 +1,204 @@
+-- By state, the least cost to come and the fewest arcs at that cost: on their way, and settled.
+-- Assumes nothing: these are definitions.
+use mathlib.Core.Path.{_≡_}
+use mathlib.Core.Bool.{Bool, true, false, _&&_, cond}
+use mathlib.Core.Logic.{_⊎_}
+use mathlib.Core.List.{List, _++_}
+use Prim.Native.Nat.{ℕ, _+_, _*_, _≤_, _<_}
+use lib.Dec.{eqb, leb}
+use lib.ListN.{length, getD}
+use Rattle.transducer.specs.Format.{Transducer, max-states, weight-good}
+use Rattle.transducer.specs.Path.{arc, is-final, final-weight, runs, ends, arcs-cost}
+use Rattle.transducer.specs.Weight.{Weight, no-weight, amount, rebate, plus, At-most, Below, at-most, below, magnitude, weight-of}
+use Rattle.reach.specs.Marks.{Passes}
+use Rattle.reach.specs.Reach.{accessible}
+use Rattle.paths.specs.Sweep.{total}
+use Rattle.least.specs.Costs.{cost-from}
+use Rattle.least.specs.Cycles.{Falling, anywhere, Falls}
+use Rattle.distance.specs.Distance.{no-path, least-to-come}
+
+-- The cost of a state from which no path is known, in an array: above that of every path of fewer arcs than there are states.
+abbrev pub unreached : Weight
+unreached = amount 2000000000
+
+-- A state's cost, and its number, in an array.
+abbrev pub cost-at : List Weight → (s : ℕ) → Weight
+cost-at cs s = getD cs s no-weight
+
+abbrev pub by-state : List ℕ → (s : ℕ) → ℕ
+by-state xs s = getD xs s 0
+
+-- No dearer, and where it costs the same, no more arcs.
+pub record No-worse (x : Weight) (l : ℕ) (y : Weight) (k : ℕ) : Type 0 where
+  pub cost : At-most x y
+  pub arcs : At-most y x → l ≤ k
+
+-- The same, with fewer arcs where it costs the same.
+pub record Nearer (x : Weight) (l : ℕ) (y : Weight) (k : ℕ) : Type 0 where
+  pub cost : At-most x y
+  pub arcs : At-most y x → l < k
+
+-- A weight and the cost to come behind it.
+unfoldable pub onward : (weight cost : Weight) → Weight
+onward w x = cond (below x unreached) (plus w x) unreached
+
+-- Cost and number of arcs from an arc's source by way of the arc, by those from its target.
+unfoldable pub cost-by : Transducer → (costs : ℕ → Weight) → (i : ℕ) → Weight
+cost-by t c i = onward (arc t i .weight) (c (arc t i .target))
+
+unfoldable pub arcs-by : Transducer → (lens : ℕ → ℕ) → (i : ℕ) → ℕ
+arcs-by t l i = l (arc t i .target) + 1
+
+-- No weight is below zero.
+pub record Rising (t : Transducer) : Type 0 where
+  pub arcs : (i : ℕ) → i < length (t .arcs) → At-most no-weight (arc t i .weight)
+  pub finals : (s : ℕ) → s < t .states → is-final (t .finals) s ≡ true → At-most no-weight (final-weight (t .finals) s)
+
+-- The same by a weight that none of the arcs is below, and the costs of the empty paths from so many states.
+pub record Plain-costs (least : Weight) (states : ℕ) (cs : List Weight) : Type 0 where
+  pub arcs : At-most no-weight least
+  pub costs : (s : ℕ) → s < states → At-most no-weight (cost-at cs s)
+
+-- A cost and a number of arcs that no arc makes better where none gives a cost below the bar: each arc is one more. Where no weight is below zero the bar is 0.
+unfoldable pub is-nearest : (bar cost : Weight) → (arcs : ℕ) → Bool
+is-nearest bar x k = at-most x bar && leb k 1
+
+-- The cost of the empty path from a state, and the same by its final code.
+unfoldable pub own-cost : Transducer → (s : ℕ) → Weight
+own-cost t s = cond (is-final (t .finals) s) (final-weight (t .finals) s) unreached
+
+unfoldable pub code-cost : (code : ℕ) → Weight
+code-cost code = cond (eqb code 0) unreached (weight-of code)
+
+-- The path behind a state's cost and number of arcs. The states along it are by now no worse than by that path, and each cycle on it sums below zero: it was
+-- gone round because that made its state better.
+pub record Reached (t : Transducer) (c : ℕ → Weight) (l : ℕ → ℕ) (s : ℕ) : Type 0 where
+  pub path : List ℕ
+  pub goes : runs t s path ≡ true
+  pub final : is-final (t .finals) (ends t s path) ≡ true
+  pub costs : cost-from t s path ≡ c s
+  pub arcs : length path ≡ l s
+  pub few : length path < t .states
+  pub along : (lead rest : List ℕ) → path ≡ lead ++ rest
+      → No-worse (c (ends t s lead)) (l (ends t s lead)) (cost-from t (ends t s lead) rest) (length rest)
+  pub cycles : (lead cycle rest : List ℕ) → path ≡ lead ++ (cycle ++ rest) → 0 < length cycle → ends t s (lead ++ cycle) ≡ ends t s lead
+      → Below (arcs-cost t cycle) no-weight
+
+-- Costs and numbers of arcs on their way: each is that of some accepting path, and none is worse than the empty path.
+pub record Nearing (t : Transducer) (c : ℕ → Weight) (l : ℕ → ℕ) : Type 0 where
+  pub high : (s : ℕ) → s < t .states → At-most (c s) unreached
+  pub reached : (s : ℕ) → s < t .states → Below (c s) unreached → Reached t c l s
+  pub empty : (s : ℕ) → s < t .states → No-worse (c s) (l s) (own-cost t s) 0
+
+-- The states that count: all, or those that the start reaches.
+abbrev pub counted : (everywhere : Bool) → Transducer → (s : ℕ) → Bool
+counted everywhere t = cond everywhere anywhere (accessible (t .states) t)
+
+-- Costs and numbers of arcs that no arc makes better, at the states that count, from which arcs lead only to such states.
+pub record Settled (t : Transducer) (counts : ℕ → Bool) (c : ℕ → Weight) (l : ℕ → ℕ) : Type 0 where
+  pub nearing : Nearing t c l
+  pub onwards : Passes t false counts
+  pub by-arc : (i : ℕ) → i < length (t .arcs) → counts (arc t i .source) ≡ true
+      → No-worse (c (arc t i .source)) (l (arc t i .source)) (cost-by t c i) (arcs-by t l i)
+
+-- No cost that is kept is below this: a path behind one has fewer arcs than there are states.
+abbrev pub least-cost : Weight
+least-cost = rebate 2000000000
+
+-- Cost and number of arcs as one number, which falls where they get better.
+unfoldable pub height : (c : ℕ → Weight) → (l : ℕ → ℕ) → (s : ℕ) → ℕ
+height c l s = 65536 * magnitude (plus (c s) (amount 2000000000)) + l s
+
+-- Arrays with a cost and a number for each state.
+pub record Cells (cs : List Weight) (ls : List ℕ) : Type 0 where
+  pub costs : length cs ≡ max-states
+  pub lens : length ls ≡ max-states
+  pub low : (s : ℕ) → At-most least-cost (cost-at cs s)
+  pub high : (s : ℕ) → At-most (cost-at cs s) unreached
+  pub few : (s : ℕ) → by-state ls s ≤ max-states
+
+-- An arc that does not make its source better.
+abbrev pub No-better : Transducer → (cs : List Weight) → (ls : List ℕ) → (i : ℕ) → Type 0
+No-better t cs ls i =
+    No-worse (cost-at cs (arc t i .source)) (by-state ls (arc t i .source)) (cost-by t (cost-at cs) i) (arcs-by t (by-state ls) i)
+
+-- What relaxing an arc comes to: its source is kept as it is, gets better, or would get better by a path of too many arcs and is kept.
+abbrev pub kept : ℕ
+kept = 0
+
+abbrev pub better : ℕ
+better = 1
+
+abbrev pub too-long : ℕ
+too-long = 2
+
+-- What relaxing arc i leaves: neither it nor an arc that did not before makes its source better now, unless it leads to what got better. A path of as many
+-- arcs as states comes back to a state, and only round cycles below zero.
+pub record Relaxed (t : Transducer) (i : ℕ) (cs : List Weight) (ls : List ℕ) (cs' : List Weight) (ls' : List ℕ) (change : ℕ) : Type 0 where
+  pub known : change ≤ too-long
+  pub cells : Cells cs' ls'
+  pub nearing : Nearing t (cost-at cs') (by-state ls')
+  pub nearest : Rising t → (s : ℕ) → is-nearest no-weight (cost-at cs s) (by-state ls s) ≡ true
+      → is-nearest no-weight (cost-at cs' s) (by-state ls' s) ≡ true
+  pub others : (u : ℕ) → (u ≡ arc t i .source → ⊥) → cost-at cs' u ≡ cost-at cs u
+  pub settles : (x : ℕ) → (x ≡ i) ⊎ No-better t cs ls x → (change ≡ too-long → ⊥) → (change ≡ better → arc t x .target ≡ arc t i .source → ⊥)
+      → No-better t cs' ls' x
+  pub falls : total (t .states) (height (cost-at cs') (by-state ls')) + cond (eqb change better) 1 0 ≤ total (t .states) (height (cost-at cs) (by-state ls))
+  pub falling : change ≡ too-long → Falling t (arc t i .source)
+
+-- A weight that none of the arcs is below.
+abbrev pub Light : Transducer → (least : Weight) → Type 0
+Light t least = (i : ℕ) → i < length (t .arcs) → At-most least (arc t i .weight)
+
+-- Each arc leads to a higher state.
+abbrev pub Leads-up : Transducer → Type 0
+Leads-up t = (i : ℕ) → i < length (t .arcs) → arc t i .source < arc t i .target
+
+-- The same, with a weight of at most zero that none of the arcs is below.
+pub record Forward (t : Transducer) (least : Weight) : Type 0 where
+  pub up : Leads-up t
+  pub good : weight-good least ≡ true
+  pub negative : At-most least no-weight
+  pub light : Light t least
+
+-- The arcs from one to below another are those of state s.
+pub record Leave (t : Transducer) (s from to : ℕ) : Type 0 where
+  pub state : s < t .states
+  pub inside : to ≤ length (t .arcs)
+  pub here : (i : ℕ) → from ≤ i → i < to → arc t i .source ≡ s
+  pub behind : (i : ℕ) → to ≤ i → i < length (t .arcs) → s ≤ arc t i .source
+
+-- None of them gives a cost below the bar.
+abbrev pub Barred : Transducer → (from to : ℕ) → (bar : Weight) → List Weight → Type 0
+Barred t from to bar cs = (i : ℕ) → from ≤ i → i < to → At-most bar (cost-by t (cost-at cs) i)
+
+-- No arc from i on makes its source better.
+pub record Swept-from (t : Transducer) (i : ℕ) (cs : List Weight) (ls : List ℕ) : Type 0 where
+  pub cells : Cells cs ls
+  pub nearing : Nearing t (cost-at cs) (by-state ls)
+  pub settled : (x : ℕ) → i ≤ x → x < length (t .arcs) → No-better t cs ls x
+
+-- What a sweep over the arcs of state s, from one on, leaves.
+pub record State-swept (t : Transducer) (s from : ℕ) (cs cs' : List Weight) (ls' : List ℕ) (again : Bool) : Type 0 where
+  pub cells : Cells cs' ls'
+  pub nearing : Nearing t (cost-at cs') (by-state ls')
+  pub others : (u : ℕ) → (u ≡ s → ⊥) → cost-at cs' u ≡ cost-at cs u
+  pub settled : again ≡ false → Swept-from t from cs' ls'
+
+-- What a sweep over the arcs leaves: where no more may change all is settled.
+pub record Swept-says (t : Transducer) (cs : List Weight) (ls : List ℕ) (again : Bool) : Type 0 where
+  pub cells : Cells cs ls
+  pub nearing : Nearing t (cost-at cs) (by-state ls)
+  pub settled : again ≡ false → Settled t anywhere (cost-at cs) (by-state ls)
+
+-- A cost in an array as it is told.
+unfoldable pub cost-told : Weight → Weight
+cost-told x = cond (below x unreached) x no-path
+
+-- What is left in the end: the least cost to come from each state that counts, with the fewest arcs at that cost; or a cycle below zero that such a state
+-- leads to, before a final state.
+pub record Distances-say (t : Transducer) (counts : ℕ → Bool) (cs : List Weight) (ls : List ℕ) (r : Bool) : Type 0 where
+  pub cells : Cells cs ls
+  pub settled : r ≡ true → Settled t counts (cost-at cs) (by-state ls)
+  pub least : r ≡ true → (s : ℕ) → s < t .states → counts s ≡ true → cost-told (cost-at cs s) ≡ least-to-come t s
+  pub falls : r ≡ false → Falls t counts
