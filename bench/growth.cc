@@ -92,6 +92,11 @@ static std::function<long()> call_of(const std::string &call, const std::vector<
     fst::ShortestPath(t, &path);
     return cost(path);
   };
+  if (call == "distance") return [=] {
+    std::vector<StdArc::Weight> out;
+    fst::ShortestDistance(t, &out, true);
+    return (long)out[t.Start()].Value();
+  };
   if (call == "nth") return [=] { return last_cost(t); };
   std::fprintf(stderr, "no call %s\n", call.c_str()), std::exit(2);
 }

@@ -26,10 +26,15 @@ fn states(table: &[u8]) -> usize {
     usize::from(u16::from_le_bytes([table[4], table[5]]))
 }
 
+/// The start of a table.
+fn start(table: &[u8]) -> usize {
+    usize::from(u16::from_le_bytes([table[10], table[11]]))
+}
+
 /// The call as a function that tells the number it comes to: states, a count (14 where infinitely many), a cost.
 fn call_of(call: &str, files: Vec<Vec<u8>>) -> Box<dyn FnMut() -> usize> {
     let (mut table, mut origins, mut work) = (vec![0; lent::TABLE], vec![0; lent::ORIGINS], vec![0; lent::STATES]);
-    let (mut arcs, mut labels) = (vec![0; lent::PATH], vec![0; lent::PATH]);
+    let (mut arcs, mut labels, mut cells) = (vec![0; lent::PATH], vec![0; lent::PATH], vec![0; lent::CELLS]);
     match call {
         "refusal" => Box::new(move || {
             lent::accepts(black_box(&files[0])).expect("accepts");
@@ -53,6 +58,10 @@ fn call_of(call: &str, files: Vec<Vec<u8>>) -> Box<dyn FnMut() -> usize> {
             Box::new(move || lent::nth(&files[0], last, &mut arcs, &mut labels).expect("nth").cost as usize)
         }
         "shortest" => Box::new(move || lent::shortest(&files[0], &mut arcs, &mut labels).expect("shortest").cost as usize),
+        "distance" => Box::new(move || {
+            lent::distance(&files[0], &mut cells).expect("distance");
+            cells[start(&files[0])] as usize
+        }),
         _ => panic!("no call {call}"),
     }
 }

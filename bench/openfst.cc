@@ -61,6 +61,16 @@ static void round(const std::string &folder, const char *name) {
     sink += out.NumStates();
   }));
   say("count", median_ns([&] { sink += count(lattice); }));
+  // Costs to come: reverse distances, of both tables and of their composition; with weights of both signs not, since where a cycle is below zero they do
+  // not end.
+  if (name[2] != 0) return;
+  auto distances = [&](const StdVectorFst &t) {
+    std::vector<StdArc::Weight> out;
+    fst::ShortestDistance(t, &out, true);
+    sink += out.size();
+  };
+  say("distance", median_ns([&] { distances(l), distances(r); }));
+  say("distance-joined", median_ns([&] { distances(joined); }));
 }
 
 int main(int argc, char **argv) {

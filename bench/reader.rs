@@ -92,6 +92,7 @@ mod reader {
             labels_len: usize,
             told: *mut [i64; 3],
         ) -> u32;
+        fn forthwn_distance(table: *const u8, table_len: usize, cells: *mut i64, cells_len: usize) -> u32;
     }
 
     // What reading fills: the four buffers at their least lengths, and states, arcs, finals and start.
@@ -235,6 +236,10 @@ mod reader {
         };
         (refusal, told[0])
     }
+
+    pub fn distance(table: &[u8], cells: &mut [i64]) -> u32 {
+        unsafe { forthwn_distance(table.as_ptr(), table.len(), cells.as_mut_ptr(), cells.len()) }
+    }
 }
 
 // The median of samples of at least 20 microseconds each, as openfst.cc takes it.
@@ -307,7 +312,7 @@ fn backwards() -> Vec<u8> {
 
 // The calls whose sweeps such a line makes long.
 fn round_of_backwards() {
-    let (line, mut trimmed, mut path) = (backwards(), reader::Composed::new(), reader::Path::new());
+    let (line, mut trimmed, mut path, mut cells) = (backwards(), reader::Composed::new(), reader::Path::new(), vec![1; 1024]);
     assert_eq!(reader::trim(&line, &mut trimmed), (0, line.len() as u32), "trim");
     assert_eq!(reader::count(&line), (0, 1), "count");
     assert_eq!(reader::shortest(&line, &mut path), (0, 1023), "shortest");
@@ -320,6 +325,9 @@ fn round_of_backwards() {
         })),
         ("shortest", Box::new(|| {
             black_box(reader::shortest(black_box(&line), &mut path));
+        })),
+        ("distance", Box::new(|| {
+            black_box(reader::distance(black_box(&line), &mut cells));
         })),
     ];
     for (call, run) in &mut calls {
@@ -371,6 +379,12 @@ fn round_of_cycles() {
             black_box(reader::shortest(black_box(&table), &mut path));
         });
         println!("cycles-{name} shortest {ns:.1}");
+        let mut cells = vec![1; 1024];
+        assert_eq!(reader::distance(&table, &mut cells), 19, "{name}");
+        let ns = median_ns(&mut || {
+            black_box(reader::distance(black_box(&table), &mut cells));
+        });
+        println!("cycles-{name} distance {ns:.1}");
     }
 }
 
@@ -401,6 +415,7 @@ fn round(folder: &str, name: &str) {
     let mut trimmed = reader::Composed::new();
     let (mut nth, mut shortest) = (reader::Path::new(), reader::Path::new());
     let last = reader::count(&lattice).1.max(1) - 1;
+    let (mut cells, mut joined_cells) = (vec![1; 1024], vec![1; 1024]);
     let (left_parts, right_parts) = (parts_of(&left), parts_of(&right));
     let (mut read_left, mut read_right) = (left_parts.clone(), right_parts.clone());
     let (mut clear_left, mut clear_right) = (left_parts.clone(), right_parts.clone());
@@ -442,6 +457,12 @@ fn round(folder: &str, name: &str) {
         })),
         ("nth", Box::new(|| {
             black_box(reader::nth(black_box(&lattice), last, &mut nth));
+        })),
+        ("distance", Box::new(|| {
+            black_box(reader::distance(black_box(&left), &mut cells) + reader::distance(black_box(&right), &mut cells));
+        })),
+        ("distance-joined", Box::new(|| {
+            black_box(reader::distance(black_box(&joined), &mut joined_cells));
         })),
     ];
     for (call, run) in &mut calls {

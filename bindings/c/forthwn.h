@@ -7,7 +7,7 @@
  *  - It returns a refusal: 0 (FORTHWN_OK), or the lowest number of `enum forthwn_refusals` whose condition holds (of two tables, 1 to 8 of
  *    the left one come before those of the right one). forthwn_refusal_text says it in words. The other numbers that the call tells
  *    (len, count, head, path) are 0 on every refusal.
- *  - Memory is lent as a pointer and a number of cells (bytes, 16-bit or 32-bit numbers, not always bytes); enough of them is never too
+ *  - Memory is lent as a pointer and a number of cells (bytes, 16-bit, 32-bit or 64-bit numbers, not always bytes); enough of them is never too
  *    many. The call touches no other memory, keeps no pointer, allocates nothing and has no state of its own, so calls may run in
  *    several threads at once.
  *  - A pointer of length 0 may be null. Every other pointer must point at that many cells, suitably aligned.
@@ -36,6 +36,7 @@ enum {
     FORTHWN_LATTICE_ORIGINS_LEN = 3072, /* origins of a lattice or of a trimmed table, one for each arc */
     FORTHWN_STATES_LEN = 1024,          /* states of a composition, or pairs of a lattice, to work in */
     FORTHWN_PATH_LEN = 1023,            /* arcs, and labels, of a path */
+    FORTHWN_CELLS_LEN = 1024,           /* cells for costs to come, one for each state that there can be */
     FORTHWN_FINALS_LEN = 1024,          /* final states, and final weights, of a table that is read */
     FORTHWN_FIELDS_LEN = 12288,         /* its arcs, four fields each: source, input label, output label, target */
     FORTHWN_WEIGHTS_LEN = 3072,         /* its arc weights */
@@ -50,6 +51,9 @@ enum { FORTHWN_STOOD_STILL = 65535, FORTHWN_MANY = 99 };
 
 typedef int32_t forthwn_weight; /* of an arc or a final state: -1000000 to 1000000 */
 typedef int64_t forthwn_cost;   /* of a path: the sum of its weights */
+
+/* Stands for a cost where there is no path. */
+#define FORTHWN_NO_COST INT64_C(1000000000001)
 
 /* The numbers at the head of a table. */
 typedef struct forthwn_head {
@@ -115,7 +119,7 @@ static inline const char *forthwn_refusal_text(uint32_t refusal) {
     case FORTHWN_ENDLESS: return "infinitely many accepting paths";
     case FORTHWN_NO_SUCH_PATH: return "no path of that number";
     case FORTHWN_NO_PATH: return "no accepting path";
-    case FORTHWN_NEGATIVE_CYCLE: return "a cycle below 0 on an accepting path";
+    case FORTHWN_NEGATIVE_CYCLE: return "a cycle below 0 on a path to a final state";
     default: return "no refusal of that number";
     }
 }
@@ -188,6 +192,13 @@ uint32_t forthwn_nth(const uint8_t *table, size_t table_len, uint32_t k, uint16_
  * One pass over the arcs where they lead to higher states; else by a queue, at worst states times arcs, which took 10 milliseconds. */
 uint32_t forthwn_shortest(const uint8_t *table, size_t table_len, uint16_t *arcs, size_t arcs_len,
                           uint16_t *labels, size_t labels_len, forthwn_path *path);
+
+/* The least cost still to come from each state (the shortest distance to the final states), over all paths that lead from it to a final
+ * state, the final weight included, into cell s for state s; FORTHWN_NO_COST where no path does, and in the cells past the last state.
+ * States that the start does not reach have theirs too. The start's cell is the cost of the shortest path.
+ * Lent: FORTHWN_CELLS_LEN cells. Refusals: 1 to 8, 10, 19 (a cycle that sums below 0 and leads to a final state, wherever it is).
+ * Time as for forthwn_shortest. */
+uint32_t forthwn_distance(const uint8_t *table, size_t table_len, forthwn_cost *cells, size_t cells_len);
 
 /* The main job in one call: composes two tables, applies a string of 0 to 64 symbols to the composition and puts the number of accepting
  * paths of the lattice (readings) into *count, FORTHWN_MANY (99) standing for 99 or more. Nothing is lent; the call works on its stack.

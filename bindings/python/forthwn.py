@@ -61,7 +61,7 @@ REFUSALS = {
     14: ("ENDLESS", "infinitely many accepting paths"),
     15: ("NO_SUCH_PATH", "no path of that number"),
     16: ("NO_PATH", "no accepting path"),
-    19: ("NEGATIVE_CYCLE", "a cycle below 0 on an accepting path"),
+    19: ("NEGATIVE_CYCLE", "a cycle below 0 on a path to a final state"),
 }
 MANY = 99
 """The count that stands for 99 or more."""
@@ -69,6 +69,7 @@ MANY = 99
 # Lengths of the buffers that the library is lent, in cells.
 _TABLE, _ORIGINS, _LATTICE_ORIGINS, _STATES, _PATH, _FINALS, _FIELDS, _WEIGHTS, _TEXT = 59404, 6144, 3072, 1024, 1023, 1024, 12288, 3072, 602996
 _STOOD_STILL = 65535
+_CELLS, _NO_COST = 1024, 1000000000001
 
 _u8, _u16, _u32, _size = ctypes.c_uint8, ctypes.c_uint16, ctypes.c_uint32, ctypes.c_size_t
 _WEIGHT, _WEIGHT_CODE, _COST = ctypes.c_int32, "i", ctypes.c_int64
@@ -170,6 +171,7 @@ def _load():
         "forthwn_count": [*table, told],
         "forthwn_nth": [*table, _u32, *table * 2, told],
         "forthwn_shortest": [*table * 3, told],
+        "forthwn_distance": [*table * 2],
         "forthwn_readings": [*table * 3, told],
         "forthwn_list": [*table * 4, told, told],
     }.items():
@@ -322,9 +324,25 @@ def shortest(table) -> Path:
     >>> shortest(write(Table(1, 0, [Final(0, 0)], [Arc(0, 1, 2, 0, -1)])))
     Traceback (most recent call last):
         ...
-    forthwn.Refusal: refused 19: a cycle below 0 on an accepting path
+    forthwn.Refusal: refused 19: a cycle below 0 on a path to a final state
     """
     return _path("forthwn_shortest", _bytes(table))
+
+
+def distance(table) -> List[Optional[int]]:
+    """The least cost still to come from each state (the shortest distance to the final states), over all paths that lead from it to a
+    final state; None where no path does. States that the start does not reach have theirs too. Refusals 1 to 8, 19.
+
+    >>> distance(write(Table(4, 0, [Final(1, 4)], [Arc(0, 1, 2, 1, 5), Arc(0, 1, 2, 3, 0), Arc(2, 1, 2, 0, -7)])))
+    [9, 4, 2, None]
+    >>> distance(write(Table(3, 0, [Final(1, 4)], [Arc(2, 1, 2, 1, 5), Arc(2, 1, 2, 2, -1)])))
+    Traceback (most recent call last):
+        ...
+    forthwn.Refusal: refused 19: a cycle below 0 on a path to a final state
+    """
+    table, cells = _bytes(table), (_COST * _CELLS)()
+    _call("forthwn_distance", table, cells)
+    return [None if cost == _NO_COST else cost for cost in cells[: int.from_bytes(table[4:6], "little")]]
 
 
 def paths(table) -> Iterator[Path]:

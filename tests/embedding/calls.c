@@ -24,6 +24,7 @@ static uint32_t states[FORTHWN_STATES_LEN];
 static uint16_t arcs[FORTHWN_PATH_LEN], labels[FORTHWN_PATH_LEN];
 static uint16_t final_states[FORTHWN_FINALS_LEN], fields[FORTHWN_FIELDS_LEN];
 static forthwn_weight final_weights[FORTHWN_FINALS_LEN], arc_weights[FORTHWN_WEIGHTS_LEN];
+static forthwn_cost cells[FORTHWN_CELLS_LEN];
 
 static size_t load(const char *folder, const char *name, uint8_t *bytes, size_t most) {
     char path[4096];
@@ -103,6 +104,21 @@ static void signs(void) {
     CHECK(path.cost == 0 && path.arcs == 0 && path.labels == 0 && arcs[0] == 0x0707);
 }
 
+/* The least cost to come from each state: from 0 and 1 to 1, which is final, from 2 nowhere, from 3 to 0; then with a cycle below 0 at 3. */
+static void costs_to_come(void) {
+    static const uint16_t ends[] = {1};
+    static const forthwn_weight end_weights[] = {4}, weights[] = {5, 0, -7, -1};
+    static const uint16_t four[] = {0, 1, 2, 1, 0, 1, 2, 2, 3, 1, 2, 0, 3, 1, 2, 3};
+    uint32_t len;
+    CHECK(forthwn_write(4, 3, 1, 0, ends, 1, end_weights, 1, four, 12, weights, 3, table, FORTHWN_TABLE_LEN, &len) == FORTHWN_OK);
+    CHECK(forthwn_distance(table, len, cells, FORTHWN_CELLS_LEN) == FORTHWN_OK);
+    CHECK(cells[0] == 9 && cells[1] == 4 && cells[2] == FORTHWN_NO_COST && cells[3] == 2);
+    for (size_t i = 4; i < FORTHWN_CELLS_LEN; i++) CHECK(cells[i] == FORTHWN_NO_COST);
+    CHECK(forthwn_write(4, 4, 1, 0, ends, 1, end_weights, 1, four, 16, weights, 4, table, FORTHWN_TABLE_LEN, &len) == FORTHWN_OK);
+    CHECK(forthwn_distance(table, len, cells, FORTHWN_CELLS_LEN) == FORTHWN_NEGATIVE_CYCLE && cells[0] == 9 && cells[3] == 2);
+    CHECK(forthwn_distance(table, len, cells, FORTHWN_CELLS_LEN - 1) == FORTHWN_SHORT_BUFFER && cells[0] == 9);
+}
+
 static void null_of_length_0(void) {
     uint32_t len = 1, count = 1, said = 1;
     forthwn_head head;
@@ -126,6 +142,8 @@ static void null_of_length_0(void) {
     CHECK(forthwn_nth(left, left_len, 0, NULL, 0, NULL, 0, &path) == FORTHWN_SHORT_BUFFER && path.cost == 0);
     CHECK(forthwn_shortest(NULL, 0, NULL, 0, NULL, 0, &path) == FORTHWN_BAD_RECORDS && path.cost == 0);
     CHECK(forthwn_shortest(left, left_len, NULL, 0, NULL, 0, &path) == FORTHWN_SHORT_BUFFER && path.cost == 0);
+    CHECK(forthwn_distance(NULL, 0, NULL, 0) == FORTHWN_BAD_RECORDS);
+    CHECK(forthwn_distance(left, left_len, NULL, 0) == FORTHWN_SHORT_BUFFER);
     CHECK(forthwn_readings(NULL, 0, NULL, 0, NULL, 0, &count) == FORTHWN_BAD_RECORDS && count == 0);
     CHECK(forthwn_readings(left, left_len, right, right_len, NULL, 0, &count) == FORTHWN_OK && count == 0);
     CHECK(forthwn_list(NULL, 0, NULL, 0, NULL, 0, text, FORTHWN_TEXT_LEN, &len, &said) == FORTHWN_OK && said == FORTHWN_BAD_RECORDS);
@@ -185,6 +203,7 @@ static void *one_call(void *number) {
     case 9: forthwn_shortest(left, left_len, arcs, FORTHWN_PATH_LEN, labels, FORTHWN_PATH_LEN, &some_path); break;
     case 10: forthwn_readings(left, left_len, right, right_len, string, 2, ignored); break;
     case 11: forthwn_list(left, left_len, right, right_len, code, code_len, text, FORTHWN_TEXT_LEN, ignored, ignored + 1); break;
+    case 12: forthwn_distance(left, left_len, cells, FORTHWN_CELLS_LEN); break;
     default: break;
     }
     return NULL;
@@ -208,9 +227,10 @@ static size_t stack_taken(int number) {
 }
 
 static void stacks(void) {
-    static const char *const names[] = {"", "refusal", "read", "write", "compose", "apply", "trim", "count", "nth", "shortest", "readings", "list"};
+    static const char *const names[] = {"", "refusal", "read", "write", "compose", "apply", "trim", "count", "nth", "shortest", "readings", "list",
+                                        "distance"};
     size_t nothing = stack_taken(0);
-    for (int i = 1; i <= 11; i++) {
+    for (int i = 1; i <= 12; i++) {
         size_t taken = stack_taken(i) - nothing;
         printf("%s %lu\n", names[i], (unsigned long)taken);
         CHECK(taken <= FORTHWN_STACK);
@@ -231,6 +251,7 @@ int main(int argc, char **argv) {
     read_and_written(right, right_len);
     chain();
     signs();
+    costs_to_come();
     null_of_length_0();
     one_cell_short();
     return 0;

@@ -36,7 +36,7 @@ class Calls(unittest.TestCase):
         header = (ROOT / "bindings" / "c" / "forthwn.h").read_text()
         said = dict(re.findall(r"FORTHWN_(\w+)_LEN = (\d+)", header))
         self.assertEqual({name: int(number) for name, number in said.items()}, {name: getattr(forthwn, "_" + name) for name in said})
-        self.assertEqual(len(said), 9)
+        self.assertEqual(len(said), 10)
 
     def test_tables_go_there_and_back(self):
         dice = random.Random(11)
@@ -100,6 +100,7 @@ class Calls(unittest.TestCase):
         self.refused(15, forthwn.nth, one, 2**40)
         self.refused(16, forthwn.shortest, nothing)
         self.refused(19, forthwn.shortest, forthwn.write(Table(1, 0, [Final(0, 0)], [Arc(0, 0, 7, 0, -1)])))
+        self.refused(19, forthwn.distance, forthwn.write(Table(2, 0, [Final(1, 0)], [Arc(1, 0, 7, 1, -1)])))
         self.assertEqual(forthwn.listing(LEFT, RIGHT, b"\7").said.number, 9)
         self.assertEqual(forthwn.listing(LEFT, RIGHT[:3], b"\7").text, "refused 1\n")
 
@@ -119,6 +120,12 @@ class Calls(unittest.TestCase):
         self.assertEqual(forthwn.shortest(table), forthwn.Path(-7, [1], [3]))
         copy = forthwn.write(Table(1, 0, [Final(0, 0)], [Arc(0, 2, 2, 0, 0), Arc(0, 3, 3, 0, -1)]))
         self.assertEqual(forthwn.listing(table, copy, b"\1\0").text, "readings 2\n0 1 2\n1 -8 3\n")
+
+    def test_costs_to_come(self):
+        table = Table(4, 0, [Final(1, 4)], [Arc(0, 1, 2, 1, 5), Arc(0, 1, 2, 3, 0), Arc(2, 1, 2, 0, -7)])
+        self.assertEqual(forthwn.distance(forthwn.write(table)), [9, 4, 2, None])
+        self.assertEqual(forthwn.distance(LEFT)[forthwn.read(LEFT).start], forthwn.shortest(LEFT).cost)
+        self.assertEqual(forthwn.distance(forthwn.write(Table(1024, 0, [], []))), [None] * 1024)
 
     def test_of_many_paths_the_first_99(self):
         for arcs, count in ((98, 98), (99, 99), (100, 99)):

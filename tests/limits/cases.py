@@ -10,7 +10,7 @@ from pathlib import Path
 from compose_cases import compose_rows
 from lattice_cases import apply_rows, trim_rows
 from model import ARCS, STATES, arc_record, final_record, head_record, record
-from path_cases import count_rows, nth_rows, shortest_rows
+from path_cases import count_rows, distance_rows, nth_rows, shortest_rows
 from rows import (
     ARC_WEIGHTS_SHORT, EXACT, FIELDS_SHORT, NONE, OUT_SHORT, SMALLEST, STATES_SHORT, WEIGHTS_SHORT,
     fst, numbers_of, read_row, round_trip_row, runs_of, sound, write_row,
@@ -209,7 +209,8 @@ def round_trip_rows():
 
 
 def files():
-    rows = [*read_rows(), *write_rows(), *round_trip_rows(), *compose_rows(), *apply_rows(), *trim_rows(), *count_rows(), *nth_rows(), *shortest_rows()]
+    rows = [*read_rows(), *write_rows(), *round_trip_rows(), *compose_rows(), *apply_rows(), *trim_rows(), *count_rows(), *nth_rows(), *shortest_rows(),
+            *distance_rows()]
     return {"stdin": b"".join(body for body, _ in rows), "stdout": "".join(line + "\n" for _, line in rows).encode("ascii")}
 
 

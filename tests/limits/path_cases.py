@@ -1,15 +1,17 @@
-"""The limit cases of the path count, the k-th path and the shortest path, with the answer of each written out by hand."""
+"""The limit cases of the path count, the k-th path, the shortest path and costs to come, with the answer of each written out by hand."""
 import struct
 import sys
 
 from compose_cases import line, loops, one_state
 from lattice_cases import LAST_LATTICE
 from model import STATES
-from path_model import TELL_LEAST, count, count_conditions, nth, nth_conditions, shortest_conditions, shortest_path
-from rows import EXACT, NONE, SMALLEST, agree, case, lend, sound, total
+from path_model import COSTS_LEAST, NO_COST, TELL_LEAST, count, count_conditions, distance, distance_conditions, nth, nth_conditions
+from path_model import shortest_conditions, shortest_path
+from rows import EXACT, NONE, SMALLEST, agree, case, lend, sound, total, total_costs
 
-COUNT, NTH, SHORTEST = 7, 8, 9
+COUNT, NTH, SHORTEST, DISTANCE = 7, 8, 9, 10
 ARCS_SHORT, LABELS_SHORT = TELL_LEAST
+(CELLS_SHORT,) = COSTS_LEAST
 
 
 def count_row(want, name, data, paths=0, also=()):
@@ -43,6 +45,19 @@ def shortest_row(want, name, data, told=None, room=NONE, also=()):
     agree(name, want, shortest_conditions(data, cut), also)
     answer = shortest_path(data, {x: whole[x][: cut[x]] for x in TELL_LEAST})
     return case(SHORTEST, room, name, data), told_words(name, want, told, answer, TELL_LEAST, whole, cut)
+
+
+def distance_row(want, name, data, costs=None, room=NONE, also=()):
+    """`costs` has those of the first states by hand."""
+    name = f"costs to come, {name}:"
+    whole, cut = lend(COSTS_LEAST, room)
+    agree(name, want, distance_conditions(data, cut), also)
+    refusal, after = distance(data, {x: whole[x][: cut[x]] for x in COSTS_LEAST})
+    cells = after[CELLS_SHORT] + whole[CELLS_SHORT][cut[CELLS_SHORT] :]
+    if costs is not None and cells[: len(costs)] != costs:
+        sys.exit(f"{name}: the row says {costs}, the model {cells[: len(costs)]}")
+    words = "{} refusal {} cells {} {} {} {} {} last {} sum {}".format(name, refusal, *cells[:5], cells[1023], total_costs(cells))
+    return case(DISTANCE, room, name, data), words
 
 
 def like(n):
@@ -190,3 +205,39 @@ def shortest_rows():
     yield s(10, "labels one short", LATTICE, room=LABELS_SHORT)
     yield s(10, "10 before 16", SMALLEST, room=LABELS_SHORT, also=[16])
     yield s(0, "each buffer at its least length", LATTICE, room=EXACT)
+
+
+# Of each state, reached or not; 19 wherever a ring below 0 leads to a final state.
+def distance_rows():
+    d, none = distance_row, NO_COST
+    dirty = 6510615555426900570
+    yield d(0, "final weights start the sum", sound(n=3, start=0, finals=((0, 9), (2, -3)), arcs=((0, 1, 2, 1, 5), (1, 1, 2, 2, 4))), [6, 1, -3, none])
+    yield d(0, "a state that is not reached", sound(n=3, start=0, finals=((1, 4),), arcs=((0, 1, 2, 1, 5), (2, 1, 2, 0, -7))), [9, 4, 2, none])
+    yield d(0, "none, and past the last state", sound(n=2, start=0, finals=((1, 0),), arcs=((1, 1, 2, 0, 3),)), [none, 0, none, none, none])
+    yield d(0, "nothing is final", sound(n=2, start=0, finals=(), arcs=((0, 1, 2, 1, 3), (1, 1, 2, 0, 3))), [none, none, none])
+    yield d(0, "the smallest table", SMALLEST, [none, none])
+    yield d(0, "paper 01's last case", LATTICE, [11])
+    yield d(0, "a ring of sum 0", on_a_path(0), [7, 4, 8, -1, -2, none])
+    yield d(0, "a ring of sum 1", on_a_path(1), [7, 4, 8, -1, -2, none])
+    yield d(19, "a ring below 0 on an accepting path", on_a_path(-1), [dirty])
+    yield d(19, "a ring below 0 that is not reached", lead_from_a_ring(-1), [dirty])
+    yield d(0, "a ring of sum 0 that is not reached", lead_from_a_ring(0), [1, 4, 8, -1, -2, none])
+    yield d(0, "a ring below 0 that leads nowhere", lead_to_a_ring(-1), [1, none, none, none, -2, none])
+    yield d(0, "a ring below 0 apart", apart_from_a_ring(-1), [1, none, none, none, -2, none])
+    yield d(0, "a ring below 0 that leads nowhere, and nothing accepts", ring(-1, [(0, 1, 2, 1, 3)]), [none] * 6)
+    yield d(19, "a ring below 0 that is not reached, and nothing accepts", ring(-1, (), ((4, 0),), [(3, 1, 2, 4, 1)]), [dirty])
+    yield d(19, "a ring of weight -1 on the start", PAYING, [dirty])
+    yield d(0, "a ring of weight 0 on the start", FREE_RING, [0, none])
+    for w in (1000000, -1000000):
+        long = sound(n=STATES, start=0, finals=((STATES - 1, w),), arcs=[(i, 1, 2, i + 1, w) for i in range(STATES - 1)])
+        yield d(0, f"1023 arcs of {w}", long, [1024 * w, 1023 * w, 1022 * w])
+    both = [(0, 1, 2, 2, i - 5) for i in range(30)] + [(1, 1, 2, 2, 7 - i) for i in range(30)]
+    yield d(0, "many arcs of both signs, each to a state above all sources", sound(n=3, start=0, finals=((2, 1),), arcs=both), [-4, -21, 1, none])
+    yield d(0, "1024 states, the last one not reached and not final", sound(n=STATES, start=0, finals=((0, 7),), arcs=()), [7, none, none])
+    yield d(0, "1024 states, the last one final", sound(n=STATES, start=0, finals=((STATES - 1, 7),), arcs=((0, 1, 2, STATES - 1, -9),)), [-2, none])
+    yield d(2, "0 bytes", b"")
+    yield d(8, "8 before 10", sound(arcs=((0, 1, 2, 1, 1000001),)), room=CELLS_SHORT, also=[10])
+    yield d(10, "cells one short", LATTICE, [dirty] * 5, room=CELLS_SHORT)
+    yield d(10, "10 before 19", PAYING, [dirty], room=CELLS_SHORT, also=[19])
+    yield d(19, "19 at the least length", PAYING, [dirty], room=EXACT)
+    yield d(0, "cells at the least length", LATTICE, [11], room=EXACT)

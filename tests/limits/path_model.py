@@ -1,5 +1,5 @@
-"""Paper 01, with refusal 19 of paper 02 (Point 8), in plain Python, for the limit cases: the path count, the k-th path (reading k there)
-and the shortest one (the cheapest)."""
+"""Paper 01, with refusal 19 of paper 02 (Point 8) and costs to come (Point 2), in plain Python, for the limit cases: the path count, the
+k-th path (reading k there), the shortest one (the cheapest), and the least cost to come from each state."""
 import sys
 
 from lattice_model import behind, short, trimmed
@@ -11,6 +11,10 @@ sys.setrecursionlimit(5000)  # paths_from goes as deep as a path is long
 
 # The buffers of a path that is told, by their number: the least length.
 TELL_LEAST = {15: CELLS, 16: CELLS}
+
+# The cells of costs to come, and what stands in one for none.
+COSTS_LEAST = {17: 1024}
+NO_COST = 1000000000001
 
 
 def endless(t):
@@ -141,3 +145,33 @@ def shortest_path(data, buffers):
         return held[0], (0, 0, 0), buffers
     t = decode(split(data)[0])
     return 0, *told(t, shortest(t), buffers)
+
+
+def costs_back(t):
+    """By state, the least cost to come, and none where nothing final can be reached; or that a ring below zero leads to a final state. Final weights start
+    the sum, and arcs are added going back: only from states that lead to a final one, so that what still falls after n rounds falls for ever."""
+    costs = dict(t.finals)
+    for _ in range(t.n):
+        before = dict(costs)
+        for a in t.arcs:
+            if a.target in before:
+                costs[a.source] = min(costs.get(a.source, 10**18), a.weight + before[a.target])
+        if costs == before:
+            return costs
+    return None
+
+
+def distance_conditions(data, lengths):
+    held = sorted(byte_conditions(data)) + short(lengths, COSTS_LEAST)
+    if not byte_conditions(data) and costs_back(decode(split(data)[0])) is None:
+        held.append(19)
+    return held
+
+
+def distance(data, buffers):
+    """The refusal, and the cells after costs to come."""
+    held = distance_conditions(data, {x: len(cells) for x, cells in buffers.items()})
+    if held:
+        return held[0], buffers
+    costs = costs_back(decode(split(data)[0]))
+    return 0, behind(buffers, {17: [costs.get(s, NO_COST) for s in range(1024)]})

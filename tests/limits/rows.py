@@ -18,8 +18,8 @@ READ, WRITE, ROUND_TRIP, COMPOSE = 1, 2, 3, 4
 NONE, STATES_SHORT, WEIGHTS_SHORT, FIELDS_SHORT, ARC_WEIGHTS_SHORT, OUT_SHORT, EXACT = 0, 1, 2, 3, 4, 5, 9
 TABLE_SHORT, ORIGINS_SHORT, TRIPLES_SHORT = COMPOSE_LEAST
 SPARE = 5
-DIRTY = {8: 90, 16: 23130, 32: 1515870810}
-WIDTH = {1: 16, 2: 32, 3: 16, 4: 32, 6: 8, 7: 16, 8: 32, 10: 8, 11: 16, 12: 32, 13: 8, 14: 16, 15: 16, 16: 16}
+DIRTY = {8: 90, 16: 23130, 32: 1515870810, 64: 6510615555426900570}
+WIDTH = {1: 16, 2: 32, 3: 16, 4: 32, 6: 8, 7: 16, 8: 32, 10: 8, 11: 16, 12: 32, 13: 8, 14: 16, 15: 16, 16: 16, 17: 64}
 
 
 def lent(room, buffer, least):
@@ -36,6 +36,14 @@ def total(cells):
     h = 0
     for x in cells:
         h = (h * 31 + x % 2**32) % 65521
+    return h
+
+
+def total_costs(cells):
+    """The same of costs, each by what it leaves."""
+    h = 0
+    for x in cells:
+        h = (h * 31 + x % 65521) % 65521
     return h
 
 

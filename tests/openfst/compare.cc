@@ -142,6 +142,24 @@ static bool cycle_below_zero(const Fst &t) {
   return t.NumStates() > 0;
 }
 
+// Whether a cycle below zero leads to a final state, in a transducer that need not be connected: costs from the final states back still fall after as many
+// rounds as states.
+static bool cycle_before_final(const Fst &t) {
+  std::vector<double> cost(t.NumStates());
+  for (int s = 0; s < t.NumStates(); ++s) cost[s] = t.Final(s) == Weight::Zero() ? NONE : t.Final(s).Value();
+  for (int round = 0; round < t.NumStates(); ++round) {
+    bool changed = false;
+    for (int s = 0; s < t.NumStates(); ++s)
+      for (fst::ArcIterator<Fst> it(t, s); !it.Done(); it.Next()) {
+        if (cost[it.Value().nextstate] == NONE) continue;
+        const double sum = it.Value().weight.Value() + cost[it.Value().nextstate];
+        if (sum < cost[s]) cost[s] = sum, changed = true;
+      }
+    if (!changed) return false;
+  }
+  return t.NumStates() > 0;
+}
+
 // The cost of the one path that ShortestPath leaves.
 static double cost_of_path(const Fst &t) {
   Fst path;
@@ -191,6 +209,7 @@ static Reading our_path(const Bytes &b, uint32_t k) {
 // ---- comparing
 
 static std::map<std::string, long> tally;
+static std::vector<forthwn_cost> cells(FORTHWN_CELLS_LEN);
 
 static std::string kind_of(int n) {
   return n == ENDLESS ? "count endless" : n == 0 ? "count 0" : n == 1 ? "count 1" : n < 99 ? "count 2..98" : "count 99+";
@@ -220,6 +239,25 @@ static bool same_states(const Fst &left, const Fst &right) {
   for (int s = 0; s < right.NumStates(); ++s) no_empty_input &= right.NumInputEpsilons(s) == 0;
   for (int s = 0; s < left.NumStates(); ++s) empty_outputs &= left.NumOutputEpsilons(s) > 0;
   return no_empty_input || empty_outputs;
+}
+
+// Costs to come of a table, each state's, beside OpenFst's reverse distances; 19 exactly where these would not end.
+static std::string distances(const Bytes &b) {
+  const Fst t = build(b);
+  const uint32_t refused = forthwn_distance(b.data(), b.size(), cells.data(), cells.size());
+  const bool falls = cycle_before_final(t);
+  if ((refused == FORTHWN_NEGATIVE_CYCLE) != falls) return differ("costs to come, a cycle below zero", refused, falls);
+  ++tally[falls ? "costs to come refused" : "costs to come compared"];
+  if (falls) return "";
+  if (refused) return differ("costs to come refused", refused, 0);
+  std::vector<Weight> theirs;
+  fst::ShortestDistance(t, &theirs, true);
+  for (size_t s = 0; s < cells.size(); ++s) {
+    const bool none = s >= theirs.size() || theirs[s] == Weight::Zero();
+    const double cost = none ? (double)FORTHWN_NO_COST : theirs[s].Value();
+    if ((double)cells[s] != cost) return differ("a cost to come", (double)cells[s], cost);
+  }
+  return "";
 }
 
 static std::string left_out(uint32_t refused) {
@@ -265,6 +303,10 @@ static std::string compared(const Case &c) {
     for (int k = 0; k < n; ++k)
       if (ours[k] != theirs[k]) return differ("costs and outputs of the paths, sorted: first difference at", k, k);
     ++tally["every path compared"];
+  }
+  for (const Bytes &b : {c.left, c.right, joined, applied}) {
+    const std::string far = distances(b);
+    if (!far.empty()) return far;
   }
   const Fst again = build(joined);
   std::string said = sizes("lattice", applied, connected(compose(string, again)));

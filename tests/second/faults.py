@@ -78,6 +78,14 @@ FAULTS = [
      "return Err(if ring_below_zero(&all, &to_come(&all)) { 19 } else { 16 })"),
     ("a ring of sum zero refused", "fn ring_below_zero", "cost < least", "cost <= least"),
     ("cost cut to 32 bits without sign", "fn tell", "path_cost(t, path),", "path_cost(t, path) as u32 as i64,"),
+    # Costs to come.
+    ("costs to come without final weights", "pub fn costs_back", "t.final_weight(s)", "t.final_weight(s).map(|_| 0)"),
+    ("costs to come: 19 only where the start leads", "pub fn costs_back", "Err(19)",
+     "if cheapest(t) == Err(19) { Err(19) } else { Ok(costs) }"),
+    ("costs to come only where the start leads", "pub fn distance", "costs.get(s).copied().flatten()",
+     "costs.get(s).copied().flatten().filter(|_| live(&t)[s])"),
+    ("cells past the last state left at zero", "pub fn distance", "unwrap_or(NO_COST)", "unwrap_or(if s < t.states { NO_COST } else { 0 })"),
+    ("none written as 1,000,000,000,000", "", "pub const NO_COST: i64 = 1_000_000_000_001;", "pub const NO_COST: i64 = 1_000_000_000_000;"),
 ]
 
 # More, run with --all.
@@ -107,6 +115,13 @@ MORE = [
      "Err(r) => { if r == 19 { clear(arcs); } (r, (0, 0, 0)) }"),
     ("19 before 10", "pub fn shortest", "if arcs.len() < PATH_ARCS",
      "if cheapest(&t) == Err(19) { return (19, (0, 0, 0)); } if arcs.len() < PATH_ARCS"),
+    ("costs to come: a ring of sum zero refused", "pub fn costs_back", "sum = a.weight + rest;", "sum = a.weight + rest - i64::from(a.source == a.target);"),
+    ("costs to come: a round too few before 19", "pub fn costs_back", "for _ in 0..t.states {", "for _ in 1..t.states.max(2) {"),
+    ("costs to come: 19 before 10", "pub fn distance", "if cells.len() < COST_CELLS {",
+     "if costs_back(&t) == Err(19) { return 19; } if cells.len() < COST_CELLS {"),
+    ("costs to come: 19 changes the cells", "pub fn distance", "Err(r) => r,\n    }\n}", "Err(r) => { clear(cells); r }\n    }\n}"),
+    ("costs to come: 1,025 cells wanted", "pub fn distance", "cells.len() < COST_CELLS", "cells.len() <= COST_CELLS"),
+    ("costs to come: nothing written behind", "pub fn distance", "fill(cells, &", "fill(&mut cells[..COST_CELLS], &"),
     ("14 not given for a ring below zero", "pub fn count", "if endless(&t) {", "if endless(&t) && cheapest(&t) != Err(19) {"),
     ("listing: costs without their sign", "fn listed", "told.0", "told.0.abs()"),
     ("listing: room for costs of ten", "", "\"97 -1024000000\\n\"", "\"97 1024000000\\n\""),

@@ -103,6 +103,20 @@ fn cheapest_within(t: &Table, done: &mut Done) -> Check {
     Ok(())
 }
 
+/// Costs to come are those of the cheapest from each state in turn, and 19 is
+/// given where it is from one of them. Of small tables, since that takes long.
+fn costs_from_each_start(t: &Table) -> Check {
+    if t.states > 8 {
+        return Ok(());
+    }
+    let from = |s: usize| cheapest(&Table { start: s, ..t.clone() });
+    let all: Vec<Result<Vec<u16>, u32>> = (0..t.states).map(from).collect();
+    let falls = all.contains(&Err(19));
+    let cost = |s: usize| all[s].as_ref().ok().map(|p| path_cost(&Table { start: s, ..t.clone() }, p));
+    let wanted = if falls { Err(19) } else { Ok((0..t.states).map(cost).collect()) };
+    expect("costs to come", costs_back(t), wanted)
+}
+
 fn table(t: &Table, done: &mut Done) -> Check {
     let bytes = bytes_of(t);
     expect("parsing what was written", parse(&bytes).as_ref(), Ok(t))?;
@@ -135,6 +149,7 @@ fn table(t: &Table, done: &mut Done) -> Check {
         }
     }
     cheapest_by_paths(t, done)?;
+    costs_from_each_start(t)?;
     // Each live arc lies on an accepting path of fewer than 2n arcs.
     let mut budget = 20_000;
     if let Some(all) = all_paths(t, None, 2 * t.states, &mut budget) {
@@ -278,6 +293,7 @@ pub fn paper() -> Check {
         expect("loop 0:7", count(&bytes), (14, 0))?;
         let (mut a, mut b) = (vec![0; PATH_ARCS], vec![0; PATH_ARCS]);
         expect("loop 0:7", shortest(&bytes, &mut a, &mut b), (refused, (0, 0, 0)))?;
+        expect("loop 0:7", distance(&bytes, &mut vec![0; COST_CELLS]), refused)?;
     }
     let twice = cases::like_arcs(2, 1, 2, 5);
     let (t, _) = lattice(&[1], &parse(&twice.bytes()).unwrap()).map_err(|r| r.to_string())?;

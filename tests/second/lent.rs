@@ -2,7 +2,7 @@
 // something left behind the runs, and each buffer of a call one cell too short.
 
 use crate::cases::{bundles, large, worked, Draft};
-use crate::model::{JOIN_ORIGINS, LATTICE_ORIGINS, PATH_ARCS, READ_FIELDS, READ_FINALS, READ_WEIGHTS, TABLE_BYTES, WORK_STATES};
+use crate::model::{COST_CELLS, JOIN_ORIGINS, LATTICE_ORIGINS, PATH_ARCS, READ_FIELDS, READ_FINALS, READ_WEIGHTS, TABLE_BYTES, WORK_STATES};
 use crate::other;
 use crate::rng::Rng;
 
@@ -28,6 +28,10 @@ impl Cell for u32 {
 impl Cell for i32 {
     const DIRT: i32 = -0x5A5A_5A5B;
     const ZERO: i32 = 0;
+}
+impl Cell for i64 {
+    const DIRT: i64 = -0x5A5A_5A5A_5A5A_5A5B;
+    const ZERO: i64 = 0;
 }
 
 fn dirty<T: Cell>(length: usize) -> Vec<T> {
@@ -170,6 +174,10 @@ fn short() -> Stated {
         let (mut arcs, mut labels) = (dirty(n[0]), dirty(n[1]));
         let (refused, told) = other::shortest(&l, &mut arcs, &mut labels);
         (refused, told == (0, 0, 0) && kept(&arcs) && kept(&labels))
+    })?;
+    one_short("distance", [COST_CELLS], |n| {
+        let mut cells: Vec<i64> = dirty(n[0]);
+        (other::distance(&l, &mut cells), kept(&cells))
     })
 }
 

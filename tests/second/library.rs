@@ -3,14 +3,14 @@
 // `--cfg have_first` links refusal, read, write and compose; `--cfg have_all`
 // links every call; single calls are added with `--cfg have_trim`,
 // `have_apply`, `have_count`, `have_nth`, `have_shortest`, `have_readings`,
-// `have_list`.
+// `have_list`, `have_distance`.
 // Without any of them nothing is linked and only `--self` can run.
 #![allow(dead_code, clippy::too_many_arguments)]
 
 use crate::model::Told;
 
 /// Which calls are linked, in the order of `main::CALLS`.
-pub const HAVE: [bool; 11] = [
+pub const HAVE: [bool; 12] = [
     cfg!(any(have_all, have_first)),
     cfg!(any(have_all, have_first)),
     cfg!(any(have_all, have_first)),
@@ -22,6 +22,7 @@ pub const HAVE: [bool; 11] = [
     cfg!(any(have_all, have_shortest)),
     cfg!(any(have_all, have_readings)),
     cfg!(any(have_all, have_list)),
+    cfg!(any(have_all, have_distance)),
 ];
 
 /// A path's three numbers cross the interface as an array: cost, arcs, labels.
@@ -63,6 +64,7 @@ extern "C" {
     fn forthwn_list(left: *const u8, left_len: usize, right: *const u8, right_len: usize,
         code: *const u8, code_len: usize, out: *mut u8, out_cap: usize, out_len: *mut u32,
         said: *mut u32) -> u32;
+    fn forthwn_distance(table: *const u8, table_len: usize, cells: *mut i64, cells_len: usize) -> u32;
 }
 
 #[cfg(any(have_all, have_first))]
@@ -197,3 +199,10 @@ pub fn list(left: &[u8], right: &[u8], code: &[u8], out: &mut [u8]) -> (u32, u32
 }
 #[cfg(not(any(have_all, have_list)))]
 pub use crate::model::list;
+
+#[cfg(any(have_all, have_distance))]
+pub fn distance(table: &[u8], cells: &mut [i64]) -> u32 {
+    unsafe { forthwn_distance(table.as_ptr(), table.len(), cells.as_mut_ptr(), cells.len()) }
+}
+#[cfg(not(any(have_all, have_distance)))]
+pub use crate::model::distance;

@@ -52,20 +52,20 @@ use std::time::Instant;
 const SEED: u64 = 20_240_229;
 const CASES: usize = 20_000;
 
-pub const CALLS: [&str; 11] = [
-    "refusal", "read", "write", "compose", "trim", "apply", "count", "nth", "shortest", "readings", "list",
+pub const CALLS: [&str; 12] = [
+    "refusal", "read", "write", "compose", "trim", "apply", "count", "nth", "shortest", "readings", "list", "distance",
 ];
 
 #[cfg(mock)]
-const HAVE: [bool; 11] = [true; 11];
+const HAVE: [bool; 12] = [true; 12];
 #[cfg(not(mock))]
-const HAVE: [bool; 11] = other::HAVE;
+const HAVE: [bool; 12] = other::HAVE;
 
 /// Refusals are below this.
 const REFUSALS: usize = 20;
 
 /// The refusals each call can give.
-const CAN: [&[u32]; 11] = [
+const CAN: [&[u32]; 12] = [
     &[0, 1, 2, 3, 4, 5, 6, 7, 8],
     &[0, 1, 2, 3, 4, 5, 6, 7, 8, 10],
     &[0, 3, 4, 5, 6, 7, 8, 10],
@@ -77,6 +77,7 @@ const CAN: [&[u32]; 11] = [
     &[0, 1, 2, 3, 4, 5, 6, 7, 8, 10, 16, 19],
     &[0, 1, 2, 3, 4, 5, 6, 7, 8, 9, 11, 12, 13, 14],
     &[0, 1, 2, 3, 4, 5, 6, 7, 8, 9, 10, 11, 12, 13],
+    &[0, 1, 2, 3, 4, 5, 6, 7, 8, 10, 19],
 ];
 
 // ---------------------------------------------------------- lent buffers
@@ -112,6 +113,14 @@ impl Number for u32 {
 impl Number for i32 {
     fn of(x: u64) -> i32 {
         x as i32
+    }
+    fn bytes(self) -> Vec<u8> {
+        self.to_le_bytes().to_vec()
+    }
+}
+impl Number for i64 {
+    fn of(x: u64) -> i64 {
+        x as i64
     }
     fn bytes(self) -> Vec<u8> {
         self.to_le_bytes().to_vec()
@@ -203,7 +212,7 @@ struct Failure {
 
 struct Run {
     rng: Rng,
-    seen: [[u64; REFUSALS]; 11],
+    seen: [[u64; REFUSALS]; 12],
     trace: bool,
 }
 
@@ -391,6 +400,17 @@ impl Run {
         self.compare(8, m.0, (m, o), &[("table", bytes)], &[&arcs, &labels])
     }
 
+    fn distance(&mut self, bytes: &[u8]) -> Outcome {
+        if !HAVE[11] {
+            return Ok(());
+        }
+        let n = self.lengths([model::COST_CELLS]);
+        let mut cells = self.lend::<i64>("cells", n[0]);
+        let m = tried::distance(bytes, cells.m());
+        let o = other::distance(bytes, cells.o());
+        self.compare(11, m, (m, o), &[("table", bytes)], &[&cells])
+    }
+
     #[rustfmt::skip]
     fn readings(&mut self, left: &[u8], right: &[u8], code: &[u16]) -> Outcome {
         if !HAVE[9] {
@@ -517,9 +537,11 @@ impl Run {
             self.nth(left, k)?;
         }
         self.shortest(left)?;
+        self.distance(left)?;
         if let (Some(a), Some(b)) = (a, b) {
             self.count(right)?;
             self.shortest(right)?;
+            self.distance(right)?;
             if let Ok(joined) = model::join(&a, &b) {
                 let joined_bytes = bytes_of(&joined.table);
                 self.trim(&joined_bytes)?;
@@ -534,6 +556,7 @@ impl Run {
                         self.nth(&small, k)?;
                     }
                     self.shortest(&small)?;
+                    self.distance(&small)?;
                 }
             }
         }
@@ -685,7 +708,7 @@ fn check_library(seed: u64, range: std::ops::Range<usize>, trace: bool, out: &Pa
     }
     let mut fixed: Vec<_> = cases::fixed().into_iter().map(Some).collect();
     let single = range.len() == 1;
-    let mut run = Run { rng: Rng::new(seed, 0), seen: [[0; REFUSALS]; 11], trace };
+    let mut run = Run { rng: Rng::new(seed, 0), seen: [[0; REFUSALS]; 12], trace };
     let program = std::env::args().next().unwrap_or_default();
     // Names the case being run; it is left behind if a call ends the program.
     let running = out.join("running.txt");

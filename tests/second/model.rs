@@ -24,6 +24,7 @@ pub const JOIN_ORIGINS: usize = 6_144;
 pub const LATTICE_ORIGINS: usize = 3_072;
 pub const WORK_STATES: usize = 1_024;
 pub const PATH_ARCS: usize = 1_023;
+pub const COST_CELLS: usize = 1_024;
 pub const READ_FINALS: usize = 1_024;
 pub const READ_FIELDS: usize = 12_288;
 pub const READ_WEIGHTS: usize = 3_072;
@@ -796,6 +797,51 @@ pub fn shortest(bytes: &[u8], arcs: &mut [u16], labels: &mut [u16]) -> (u32, Tol
     match cheapest(&t) {
         Ok(path) => tell(&t, &path, arcs, labels),
         Err(r) => (r, (0, 0, 0)),
+    }
+}
+
+// -------------------------------------------------------- costs to come
+
+/// What a cell has where there is no cost.
+pub const NO_COST: i64 = 1_000_000_000_001;
+
+/// By state, the least cost of going on to a final state: final weights start
+/// the sum, and arcs are added going back, round after round. A path of least
+/// cost need not pass a state twice, so that round n changes nothing, but where
+/// a ring of arcs that sums below zero has a final state behind it: then each
+/// round changes something, for ever.
+pub fn costs_back(t: &Table) -> Result<Vec<Option<i64>>, u32> {
+    let mut costs: Vec<Option<i64>> = (0..t.states).map(|s| t.final_weight(s)).collect();
+    for _ in 0..t.states {
+        let before = costs.clone();
+        for a in &t.arcs {
+            let Some(rest) = before[a.target] else { continue };
+            let sum = a.weight + rest;
+            costs[a.source] = Some(costs[a.source].map_or(sum, |old| old.min(sum)));
+        }
+        if costs == before {
+            return Ok(costs);
+        }
+    }
+    Err(19)
+}
+
+/// One cell for each state, and none past the last one.
+pub fn distance(bytes: &[u8], cells: &mut [i64]) -> u32 {
+    let t = match parse(bytes) {
+        Ok(t) => t,
+        Err(r) => return r,
+    };
+    if cells.len() < COST_CELLS {
+        return 10;
+    }
+    match costs_back(&t) {
+        Ok(costs) => {
+            let cell = |s: usize| costs.get(s).copied().flatten().unwrap_or(NO_COST);
+            fill(cells, &(0..COST_CELLS).map(cell).collect::<Vec<_>>());
+            0
+        }
+        Err(r) => r,
     }
 }
 

@@ -95,6 +95,11 @@ pub unsafe extern "C" fn forthwn_shortest(bytes: *const u8, n: usize, a: *mut u1
 }
 
 #[no_mangle]
+pub unsafe extern "C" fn forthwn_distance(bytes: *const u8, n: usize, cells: *mut i64, cells_n: usize) -> u32 {
+    model::distance(view(bytes, n), lent(cells, cells_n))
+}
+
+#[no_mangle]
 #[rustfmt::skip]
 pub unsafe extern "C" fn forthwn_readings(left: *const u8, left_n: usize, right: *const u8, right_n: usize,
     code: *const u16, code_n: usize, count: *mut u32) -> u32 {

@@ -16,6 +16,8 @@ pub const LATTICE_ORIGINS: usize = 3072;
 pub const STATES: usize = 1024;
 /// Least length for the arcs, and for the labels, of a path.
 pub const PATH: usize = 1023;
+/// Least length for costs to come, one for each state that there can be.
+pub const CELLS: usize = 1024;
 /// Least length for the final states, and for the final weights, of a table that is read.
 pub const FINALS: usize = 1024;
 /// Least length for its arcs, four fields each: source, input label, output label, target.
@@ -24,6 +26,9 @@ pub const FIELDS: usize = 12288;
 pub const WEIGHTS: usize = 3072;
 /// Least length of a buffer for a listing, in bytes.
 pub const TEXT: usize = 602996;
+
+/// Stands for a cost where there is no path.
+pub const NO_COST: Cost = 1_000_000_000_001;
 
 /// Bytes of stack that a call needs at most, for whoever sizes the stack of a thread.
 pub const STACK: usize = 327680;
@@ -220,6 +225,14 @@ pub fn shortest(table: &[u8], arcs: &mut [u16], labels: &mut [u16]) -> Result<To
         sys::forthwn_shortest(table.as_ptr(), table.len(), arcs.as_mut_ptr(), arcs.len(), labels.as_mut_ptr(), labels.len(), &mut told)
     };
     answer(refusal, told)
+}
+
+/// The least cost still to come from each state, over all paths that lead from it to a final state; [`NO_COST`] where no path does, and past
+/// the last state. Lent: [`CELLS`]. Refusals 1 to 8, 10, 19.
+pub fn distance(table: &[u8], cells: &mut [Cost]) -> Result<(), Refusal> {
+    // SAFETY: each pointer and length are those of one slice, and the mutable one overlaps nothing.
+    let refusal = unsafe { sys::forthwn_distance(table.as_ptr(), table.len(), cells.as_mut_ptr(), cells.len()) };
+    answer(refusal, ())
 }
 
 /// Composes, applies and counts in one call; 99 stands for 99 or more. Refusals: those of [`compose`], then 9, 11, 12, 14; never 10.

@@ -62,7 +62,7 @@ refusals! {
     14 ENDLESS "infinitely many accepting paths"
     15 NO_SUCH_PATH "no path of that number"
     16 NO_PATH "no accepting path"
-    19 NEGATIVE_CYCLE "a cycle below 0 on an accepting path"
+    19 NEGATIVE_CYCLE "a cycle below 0 on a path to a final state"
 }
 
 impl Refusal {

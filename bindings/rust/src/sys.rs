@@ -1,5 +1,5 @@
 //! The exports of libforthwn.a. The C header says what each does.
-use crate::Weight;
+use crate::{Cost, Weight};
 use crate::lent::{Head, Told};
 
 // The library fills them as four numbers of 32 bits and three of 64.
@@ -38,6 +38,7 @@ unsafe extern "C" {
     pub fn forthwn_shortest(
         table: *const u8, table_len: usize, arcs: *mut u16, arcs_len: usize, labels: *mut u16, labels_len: usize, path: *mut Told,
     ) -> u32;
+    pub fn forthwn_distance(table: *const u8, table_len: usize, cells: *mut Cost, cells_len: usize) -> u32;
     pub fn forthwn_readings(
         left: *const u8, left_len: usize, right: *const u8, right_len: usize, string: *const u16, string_len: usize, count: *mut u32,
     ) -> u32;

@@ -217,6 +217,26 @@ impl Table {
         path(|arcs, labels| lent::shortest(&self.bytes, arcs, labels))
     }
 
+    /// The least cost still to come from each state (the shortest distance to the final states), over all paths that lead from it to a final
+    /// state; none where no path does. States that the start does not reach have theirs too. Refusal 19 where a cycle sums below 0 and leads
+    /// to a final state, wherever it is.
+    ///
+    /// ```
+    /// use forthwn::{Arc, Final, Refusal, Table};
+    ///
+    /// let arc = |source, target, weight| Arc { source, input: 1, output: 2, target, weight };
+    /// let end = [Final { state: 1, weight: 4 }];
+    /// assert_eq!(Table::new(4, 0, &end, &[arc(0, 1, 5), arc(0, 3, 0), arc(2, 0, -7)])?.distance()?, [Some(9), Some(4), Some(2), None]);
+    /// assert_eq!(Table::new(3, 0, &end, &[arc(2, 1, 5), arc(2, 2, -1)])?.distance(), Err(Refusal::NEGATIVE_CYCLE));
+    /// # Ok::<(), Refusal>(())
+    /// ```
+    pub fn distance(&self) -> Result<Vec<Option<Cost>>, Refusal> {
+        let mut cells = vec![0; lent::CELLS];
+        lent::distance(&self.bytes, &mut cells)?;
+        cells.truncate(self.head.states as usize);
+        Ok(cells.into_iter().map(|cost| (cost != lent::NO_COST).then_some(cost)).collect())
+    }
+
     /// The accepting paths in path order; of 99 or more, the first 99. Refusal 14 where they are infinitely many.
     ///
     /// ```

@@ -211,11 +211,21 @@ fn a_cycle_below_zero_refuses_where_a_path_has_it() {
     for (sum, into, out) in [(0, true, true), (-1, true, false), (-1, false, true), (-1, false, false)] {
         assert_eq!(table(sum, into, out).shortest().map(|x| x.cost), Ok(3));
     }
+    // Costs to come are refused for the cycle that is not reached, too.
+    for (sum, into, out) in [(-1, true, true), (-1, false, true)] {
+        assert_eq!(table(sum, into, out).distance(), Err(Refusal::NEGATIVE_CYCLE));
+    }
+    assert_eq!(table(0, false, true).distance(), Ok(vec![Some(3), Some(4), Some(9), Some(0)]));
+    assert_eq!(table(-1, true, false).distance(), Ok(vec![Some(3), None, None, Some(0)]));
     let mut b = sevens();
     let ring = Table::new(1, 0, &[end(0, 0)], &[arc(0, 1, 2, 0, -1)]).expect("a table");
     assert_eq!(lent::shortest(ring.as_bytes(), &mut b.path.0, &mut b.path.1), Err(Refusal::NEGATIVE_CYCLE));
     assert_eq!(lent::shortest(ring.as_bytes(), &mut b.path.0[1..], &mut b.path.1), Err(Refusal::SHORT_BUFFER));
     assert!(b.path.0.iter().chain(&b.path.1).all(|&x| x == 7));
+    let mut cells = vec![7; lent::CELLS];
+    assert_eq!(lent::distance(ring.as_bytes(), &mut cells), Err(Refusal::NEGATIVE_CYCLE));
+    assert_eq!(lent::distance(ring.as_bytes(), &mut cells[1..]), Err(Refusal::SHORT_BUFFER));
+    assert!(cells.iter().all(|&x| x == 7));
 }
 
 #[test]
