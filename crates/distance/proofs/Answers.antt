@@ -16,7 +16,7 @@ use Rattle.paths.proofs.Ready.{Sized}
 use Rattle.least.specs.Cycles.{anywhere, falling-anywhere}
 use Rattle.least.proofs.Falls.{anywhere-true}
 use Rattle.distance.specs.Distance.{no-path, least-to-come}
-use Rattle.distance.specs.Nearest.{cost-at, by-state, cost-told, Distances-say}
+use Rattle.distance.specs.Nearest.{Sizes, cost-at, by-state, cost-told, Distances-say}
 use Rattle.distance.specs.Entry.{costs-refusal, costs-to-come, Costs-say, cost-or-none}
 use Rattle.distance.proofs.ToCome.{past-none}
 use Rattle.distance.proofs.Settled.{settled-rises}
@@ -41,7 +41,7 @@ module _ (bs : List ℕ) (a : List Weight) {n : ℕ} where
       let ok : refusal bs ≡ 0 = sym e ∙ z in
       refused bs (costs-refusal bs (length a)) 10 a (rw (ok, lt-ltb (length a) max-states l)) (λ q. omega arith)
 
-  module _ (e : n ≡ refusal bs) (z : n ≡ 0) (l : max-states ≤ length a) {cs : List Weight} {ls : List ℕ} {d : Bool} (size : Sized (decode bs))
+  module _ (e : n ≡ refusal bs) (z : n ≡ 0) (l : max-states ≤ length a) {cs : List Weight} {ls : Sizes} {d : Bool} (size : Sized (decode bs))
       (says : Distances-say (decode bs) anywhere cs ls d) where
     abbrev t : Transducer
     t = decode bs

@@ -1,11 +1,11 @@
 -- How large costs are: a path costs at most 1,000,000 for each arc and for its end, of either sign, so that what is kept stays far from the ends of 32 bits.
 -- Assumes nothing.
-use mathlib.Core.Path.{_≡_, refl, sym, ap, _∙_}
+use mathlib.Core.Path.{_≡_, refl}
 use mathlib.Core.Bool.{Bool, true, false, cond}
 use mathlib.Core.List.{List, [], _∷_}
 use Prim.Native.Nat.{ℕ, _+_, _*_, _≤_, _<_}
 use native.Mathlib.Omega.{arith}
-use lib.ListN.{length}
+use lib.ListN.{length, getD}
 use mir.Syntax.{w32}
 use mir.Val.{SFits, toZ, ofZ}
 use mir.Facts.{toZ-ofZ}
@@ -20,7 +20,9 @@ use Rattle.transducer.proofs.Paths.{Runs, runs-cons}
 use Rattle.transducer.proofs.Weights.{sums, sum, In-range, good-range, good-fits}
 use Rattle.paths.proofs.Ready.{Sized}
 use Rattle.least.specs.Costs.{cost-from}
-use Rattle.distance.specs.Nearest.{unreached, cost-at, onward, cost-by, own-cost, Reached, Cells, least-cost}
+use Rattle.distance.specs.Distance.{Size}
+use Rattle.distance.specs.Nearest.{Sizes, unreached, cost-at, onward, cost-by, own-cost, Reached, Cells, least-cost}
+use Rattle.distance.proofs.Packed.{pack-unpack}
 
 -- A cost is at most so far from zero.
 pub record Bounded (k : ℕ) (x : Weight) : Type 0 where
@@ -59,7 +61,7 @@ cost-bounded t z s p h =
     plus-bounded (arcs-cost t p) (final-weight (t .finals) (ends t s p)) (1000000 * length p) 1000000 (arcs-bounded t z s p h) (final-bounded t z (ends t s p))
 
 -- What is kept.
-pub reached-bounded : (t : Transducer) → Sized t → (c : ℕ → Weight) (l : ℕ → ℕ) (s : ℕ) → Reached t c l s → Bounded 1024000000 (c s)
+pub reached-bounded : (t : Transducer) → Sized t → (c : ℕ → Weight) (l : ℕ → Size) (s : ℕ) → Reached t c l s → Bounded 1024000000 (c s)
 reached-bounded t z c l s r =
     let b : Bounded (1000000 * length (r .path) + 1000000) (c s) = rw (r .costs) at (cost-bounded t z s (r .path) (r .goes)) in
     record { up = omega (arith, sums, b .up, r .few, z .states); down = omega (arith, sums, b .down, r .few, z .states) }
@@ -98,10 +100,14 @@ own-most t z s = on
 
 -- As they are read and handed on in 32 bits.
 
-pub cell-fits : {cs : List Weight} {ls : List ℕ} → Cells cs ls → (s : ℕ) → SFits w32 (cost-at cs s)
+pub cell-fits : {cs : List Weight} {ls : Sizes} → Cells cs ls → (s : ℕ) → SFits w32 (cost-at cs s)
 cell-fits {cs} k s = record { sfits = omega (arith, sums, size (cost-at cs s), k .low s, k .high s) }
 
-pub cell-back : {cs : List Weight} {ls : List ℕ} → Cells cs ls → (s : ℕ) → toZ w32 (ofZ w32 (cost-at cs s)) ≡ cost-at cs s
+-- A size fits into 32 bits, and so does it with one more arc.
+pub cell-most : {cs : List Weight} {ls : Sizes} → Cells cs ls → (s : ℕ) → getD ls s 0 ≤ 67109888
+cell-most {cs} {ls} cells s = omega (arith, pack-unpack (getD ls s 0), cells .few s, cells .few-labels s)
+
+pub cell-back : {cs : List Weight} {ls : Sizes} → Cells cs ls → (s : ℕ) → toZ w32 (ofZ w32 (cost-at cs s)) ≡ cost-at cs s
 cell-back k s = toZ-ofZ (cell-fits k s)
 
 pub read-good : (t : Transducer) → Sized t → (i : ℕ) → i < length (t .arcs) → (a : Arc) → a ≡ arc t i → weight-good (a .weight) ≡ true
@@ -114,11 +120,11 @@ weight-fits t z i b a is = good-fits (a .weight) (read-good t z i b a is)
 pub weight-back : (t : Transducer) → Sized t → (i : ℕ) → i < length (t .arcs) → (a : Arc) → a ≡ arc t i → toZ w32 (ofZ w32 (a .weight)) ≡ a .weight
 weight-back t z i b a is = toZ-ofZ (weight-fits t z i b a is)
 
-pub onward-back : (t : Transducer) → Sized t → {cs : List Weight} {ls : List ℕ} → Cells cs ls → (i : ℕ) → i < length (t .arcs) → (a : Arc) → a ≡ arc t i
+pub onward-back : (t : Transducer) → Sized t → {cs : List Weight} {ls : Sizes} → Cells cs ls → (i : ℕ) → i < length (t .arcs) → (a : Arc) → a ≡ arc t i
     → {r : Weight} → r ≡ onward (toZ w32 (ofZ w32 (a .weight))) (toZ w32 (ofZ w32 (cost-at cs (a .target)))) → r ≡ onward (a .weight) (cost-at cs (a .target))
 onward-back t z k i b a is e = rw (weight-back t z i b a is, cell-back k (a .target)) at e
 
-pub sum-by-arc : (t : Transducer) → Sized t → {cs : List Weight} {ls : List ℕ} → Cells cs ls → (i : ℕ) → i < length (t .arcs) → (a : Arc) → a ≡ arc t i
+pub sum-by-arc : (t : Transducer) → Sized t → {cs : List Weight} {ls : Sizes} → Cells cs ls → (i : ℕ) → i < length (t .arcs) → (a : Arc) → a ≡ arc t i
     → {r : Weight} → r ≡ onward (toZ w32 (ofZ w32 (a .weight))) (toZ w32 (ofZ w32 (cost-at cs (a .target)))) → r ≡ cost-by t (cost-at cs) i
 unfolding cost-by
 sum-by-arc t z k i b a is e = rw is at (onward-back t z k i b a is e)

@@ -17,24 +17,24 @@ use Rattle.transducer.specs.Leaf.{arcs-below}
 use Rattle.transducer.proofs.Weights.{sums, sum, either}
 use Rattle.transducer.proofs.Index.{arcs-of-state, arcs-below-mono}
 use Rattle.paths.proofs.Ready.{Sized, Range, range-leaves}
-use Rattle.distance.specs.Nearest.{unreached, cost-at, by-state, onward, cost-by, is-nearest, Nearing, Cells, No-better, too-long, Relaxed}
-use Rattle.distance.specs.Nearest.{least-cost, Swept-says, Forward, Leads-up, Leave, Barred, Swept-from, State-swept}
+use Rattle.distance.specs.Nearest.{Sizes, unreached, cost-at, by-state, onward, cost-by, is-nearest, Nearing, Cells, No-better, too-long, Relaxed}
+use Rattle.distance.specs.Nearest.{least-cost, Swept-says, Writes, Forward, Leads-up, Leave, Barred, Swept-from, State-swept}
 use Rattle.distance.proofs.Bounds.{cost-by-some, cost-by-none}
 use Rattle.distance.proofs.Relaxed.{none-nearer, cost-by-same}
 
 -- The arcs of state s are relaxed from i on.
-pub record Going (t : Transducer) (s from to : ℕ) (bar : Weight) (cs₀ : List Weight) (i : ℕ) (cs : List Weight) (ls : List ℕ) : Type 0 where
+pub record Going (t : Transducer) (s from to : ℕ) (bar : Weight) (cs₀ : List Weight) (i : ℕ) (cs : List Weight) (ls : Sizes) : Type 0 where
   pub place : i ≤ to
   pub swept : Swept-from t i cs ls
   pub others : (u : ℕ) → (u ≡ s → ⊥) → cost-at cs u ≡ cost-at cs₀ u
   pub barred : Barred t from to bar cs
 
-pub going-first : (t : Transducer) (s from to : ℕ) (bar : Weight) (cs : List Weight) (ls : List ℕ) → Barred t from to bar cs → Swept-from t to cs ls
+pub going-first : (t : Transducer) (s from to : ℕ) (bar : Weight) (cs : List Weight) (ls : Sizes) → Barred t from to bar cs → Swept-from t to cs ls
     → Going t s from to bar cs to cs ls
 going-first t s from to bar cs ls b w = record { place = omega arith; swept = w; others = λ u o. refl; barred = b }
 
-module _ (t : Transducer) (up : Leads-up t) (s from to : ℕ) (own : Leave t s from to) (bar : Weight) (cs₀ : List Weight) (i : ℕ)
-    (cs : List Weight) (ls : List ℕ) (k : Going t s from to bar cs₀ i cs ls) where
+module _ (t : Transducer) (up : Leads-up t) (writes : Writes t) (s from to : ℕ) (own : Leave t s from to) (bar : Weight) (cs₀ : List Weight) (i : ℕ)
+    (cs : List Weight) (ls : Sizes) (k : Going t s from to bar cs₀ i cs ls) where
   pub going-stop : i ≤ from → State-swept t s from cs₀ cs ls false
   going-stop h =
       record {
@@ -61,13 +61,14 @@ module _ (t : Transducer) (up : Leads-up t) (s from to : ℕ) (own : Leave t s f
       settled x a b true f =
           let inside : x < to = omega (arith, ltb-true x i f, k .place) in
           let src : arc t x .source ≡ s = own .here x a inside in
-          rw src (none-nearer t (cost-at cs) (by-state ls) x bar (k .barred x a inside) (cost-at cs s) (by-state ls s) e)
+          rw src
+          (none-nearer t (cost-at cs) (by-state ls) x (writes x b) bar (k .barred x a inside) (cost-at cs s) (by-state ls s) e)
 
   module _ (h : from < i) where
     pub going-arc : i - 1 < length (t .arcs)
     going-arc = omega (arith, k .place, own .inside)
 
-    module _ (cs' : List Weight) (ls' : List ℕ) (change : ℕ) (r : Relaxed t (i - 1) cs ls cs' ls' change) where
+    module _ (cs' : List Weight) (ls' : Sizes) (change : ℕ) (r : Relaxed t (i - 1) cs ls cs' ls' change) where
       src : arc t (i - 1) .source ≡ s
       src = own .here (i - 1) (omega arith) (omega (arith, k .place))
 
@@ -151,14 +152,14 @@ onward-least t least floor c i low light f high = on (either (c (arc t i .target
         rw (cost-by-some t c i h, e) (omega (arith, sums, sum least floor, sum (arc t i .weight) (c u)))
 
 -- The states from s on are swept, and no cost of theirs is below the floor.
-pub record Floored (t : Transducer) (s : ℕ) (floor : Weight) (cs : List Weight) (ls : List ℕ) : Type 0 where
+pub record Floored (t : Transducer) (s : ℕ) (floor : Weight) (cs : List Weight) (ls : Sizes) : Type 0 where
   pub place : s ≤ t .states
   pub swept : Swept-from t (arcs-below s (t .arcs)) cs ls
   pub low : At-most least-cost floor
   pub high : At-most floor unreached
   pub floors : (u : ℕ) → s ≤ u → u < t .states → At-most floor (cost-at cs u)
 
-pub floored-first : (t : Transducer) → Sized t → (n : ℕ) → n ≡ t .states → (cs : List Weight) (ls : List ℕ) → Cells cs ls → Nearing t (cost-at cs) (by-state ls)
+pub floored-first : (t : Transducer) → Sized t → (n : ℕ) → n ≡ t .states → (cs : List Weight) (ls : Sizes) → Cells cs ls → Nearing t (cost-at cs) (by-state ls)
     → Floored t n unreached cs ls
 floored-first t z n e cs ls cells near =
     record {
@@ -169,7 +170,7 @@ floored-first t z n e cs ls cells near =
       floors = λ u a b. absurd (omega arith);
     }
 
-module _ (t : Transducer) (z : Sized t) (s : ℕ) (floor : Weight) (cs : List Weight) (ls : List ℕ) (k : Floored t s floor cs ls) where
+module _ (t : Transducer) (z : Sized t) (s : ℕ) (floor : Weight) (cs : List Weight) (ls : Sizes) (k : Floored t s floor cs ls) where
   pub floored-stop : s ≤ 0 → Swept-says t cs ls false
   floored-stop h =
       record {
@@ -203,7 +204,7 @@ module _ (t : Transducer) (z : Sized t) (s : ℕ) (floor : Weight) (cs : List We
         k .floors (arc t x .target) (omega (arith, f .up x inside)) (z .within .arrives x inside) in
         rw e (onward-least t least floor (cost-at cs) x (f .negative) (f .light x inside) there (k .high))
 
-    pub floored-next : (cs' : List Weight) (ls' : List ℕ) {r' : Bool} → State-swept t (s - 1) from cs cs' ls' r' → r' ≡ false → (floor' : Weight)
+    pub floored-next : (cs' : List Weight) (ls' : Sizes) {r' : Bool} → State-swept t (s - 1) from cs cs' ls' r' → r' ≡ false → (floor' : Weight)
         → At-most floor' floor → At-most floor' (cost-at cs' (s - 1)) → At-most least-cost floor' → Floored t (s - 1) floor' cs' ls'
     floored-next cs' ls' w q floor' f g low =
         record {
@@ -220,5 +221,5 @@ module _ (t : Transducer) (z : Sized t) (s : ℕ) (floor : Weight) (cs : List We
             let old : At-most floor (cost-at cs u) = k .floors u (omega arith) b in
             rw (w .others u e) (omega (arith, sums))
 
-  pub swept-again : (cs' : List Weight) (ls' : List ℕ) (v from : ℕ) {r' : Bool} → State-swept t v from cs cs' ls' r' → Swept-says t cs' ls' true
+  pub swept-again : (cs' : List Weight) (ls' : Sizes) (v from : ℕ) {r' : Bool} → State-swept t v from cs cs' ls' r' → Swept-says t cs' ls' true
   swept-again cs' ls' v from w = record { cells = w .cells; nearing = w .nearing; settled = λ e. never (sym e) }

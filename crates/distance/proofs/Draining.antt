@@ -1,33 +1,32 @@
 -- Draining the queue: all arcs from marked states are relaxed once, then those that lead to a state that comes off, until all is settled or a path has as many
 -- arcs as there are states. These laws know of relaxing an arc only what `Relaxed` says. Assumes nothing.
-use mathlib.Core.Path.{_≡_, refl, sym, ap, _∙_}
+use mathlib.Core.Path.{_≡_, refl, ap, _∙_}
 use mathlib.Core.Bool.{Bool, true, false, _&&_, cond}
 use mathlib.Core.Logic.{_⊎_, inl, inr}
 use mathlib.Core.List.{List}
-use Prim.Native.Nat.{ℕ, suc, _+_, _-_, _≤_, _<_}
-use native.Mathlib.Numerals.{add-one}
+use Prim.Native.Nat.{ℕ, _+_, _-_, _≤_, _<_}
 use native.Mathlib.Omega.{arith}
 use native.Mathlib.Decide.{ℕ-discrete}
-use lib.Dec.{eqb, leb}
+use lib.Dec.{eqb, leb, ltb}
 use lib.ListN.{length, getD, set}
-use borrow.Author.Tests.{eqb-true, eq-eqb, leb-true, le-leb}
+use borrow.Author.Tests.{eqb-true, eq-eqb, leb-true, le-leb, ltb-true, lt-ltb}
 use Rattle.wire.proofs.Bool.{clash, never, and-true, true-and}
 use Rattle.transducer.specs.Format.{Transducer}
 use Rattle.transducer.specs.Path.{arc}
 use Rattle.transducer.specs.Weight.{Weight}
 use Rattle.paths.proofs.Ready.{Sized}
-use Rattle.reach.specs.Index.{leads-to, into-below, place, By-target}
+use Rattle.reach.specs.Index.{leads-to, By-target}
 use Rattle.reach.proofs.Counted.{count-most}
-use Rattle.reach.proofs.ByTarget.{place-low, place-high, place-injective, stands-at}
+use Rattle.reach.proofs.ByTarget.{Linked, Arc-there, link-first, link-all, link-next, link-rest}
 use Rattle.least.specs.Cycles.{Falls}
-use Rattle.distance.specs.Nearest.{cost-at, by-state, Nearing, Cells, No-better, kept, better, too-long, Relaxed}
+use Rattle.distance.specs.Nearest.{Sizes, cost-at, by-state, Nearing, Cells, No-better, kept, better, too-long, Relaxed}
 use Rattle.distance.specs.Queue.{cell, waiting, Queue, stuck, Joined, Joins, Draining, none, to-do, Drains, Drained}
-use Rattle.distance.proofs.Waiting.{mark-other, queue-empty, queue-push, push-here, push-stays, queue-room, queue-pop, pop-state}
+use Rattle.distance.proofs.Waiting.{mark-other, queue-empty, queue-push, push-here, push-stays, queue-room, queue-pop}
 
 -- An arc is relaxed, and its source joins the queue where it gets better.
 
 -- An arc from a state that is not marked is passed over.
-pub joined-passed : {t : Transducer} {m : ℕ → Bool} {i : ℕ} {cs : List Weight} {ls ring : List ℕ} {waits : List Bool} {head many : ℕ}
+pub joined-passed : {t : Transducer} {m : ℕ → Bool} {i : ℕ} {cs : List Weight} {ls : Sizes} {ring : List ℕ} {waits : List Bool} {head many : ℕ}
     → Queue (t .states) ring waits head many → m (arc t i .source) ≡ false → Joined t m i cs ls waits many cs ls ring waits head many
 joined-passed {t} {m} {i} {cs} {ls} {ring} {waits} q off = record { queue = q; settles = λ x on old. settles x on old; falls = omega arith }
   where
@@ -36,8 +35,8 @@ joined-passed {t} {m} {i} {cs} {ls} {ring} {waits} q off = record { queue = q; s
     settles x on (inl e) = clash {b = m (arc t i .source)} (rw e at on) off
     settles x on (inr w) = w
 
-module _ {t : Transducer} (m : ℕ → Bool) (z : Sized t) {cs : List Weight} {ls ring : List ℕ} {waits : List Bool} {head many : ℕ} (i : ℕ)
-    (b : i < length (t .arcs)) (q : Queue (t .states) ring waits head many) {cs' : List Weight} {ls' : List ℕ} {change : ℕ}
+module _ {t : Transducer} (m : ℕ → Bool) (z : Sized t) {cs : List Weight} {ls : Sizes} {ring : List ℕ} {waits : List Bool} {head many : ℕ} (i : ℕ)
+    (b : i < length (t .arcs)) (q : Queue (t .states) ring waits head many) {cs' : List Weight} {ls' : Sizes} {change : ℕ}
     (r : Relaxed t i cs ls cs' ls' change) (short : change ≡ too-long → ⊥) where
   step : {ring' : List ℕ} {waits' : List Bool} {many' : ℕ} → Queue (t .states) ring' waits' head many'
       → ((u : ℕ) → waiting waits u ≡ true → waiting waits' u ≡ true) → (change ≡ better → waiting waits' (arc t i .source) ≡ true)
@@ -81,8 +80,8 @@ module _ {t : Transducer} (m : ℕ → Bool) (z : Sized t) {cs : List Weight} {l
         (step (queue-push (z .states) q u is-state w) (push-stays (z .states) q u is-state w) (λ _. rw (← is) here) (rw v (omega arith)))
 
 -- What is left to relax is less by that arc.
-pub draining-joined : {t : Transducer} {m left left' : ℕ → Bool} {cs : List Weight} {ls ring : List ℕ} {waits : List Bool} {head many : ℕ}
-    → Draining t m left cs ls ring waits head many → (i : ℕ) {cs' : List Weight} {ls' ring' : List ℕ} {waits' : List Bool} {many' : ℕ}
+pub draining-joined : {t : Transducer} {m left left' : ℕ → Bool} {cs : List Weight} {ls : Sizes} {ring : List ℕ} {waits : List Bool} {head many : ℕ}
+    → Draining t m left cs ls ring waits head many → (i : ℕ) {cs' : List Weight} {ls' : Sizes} {ring' : List ℕ} {waits' : List Bool} {many' : ℕ}
     → Cells cs' ls' → Nearing t (cost-at cs') (by-state ls') → Joined t m i cs ls waits many cs' ls' ring' waits' head many'
     → ((x : ℕ) → x < length (t .arcs) → left x ≡ true → (x ≡ i) ⊎ (left' x ≡ true))
     → Draining t m left' cs' ls' ring' waits' head many'
@@ -106,7 +105,7 @@ draining-joined {t} {m} {left} {left'} {cs} {ls} {waits = waits} k i {cs'} {ls'}
 unfoldable pub from-on : (i : ℕ) → ℕ → Bool
 from-on i x = leb i x
 
-pub ordered-first : {t : Transducer} {m : ℕ → Bool} {cs : List Weight} {ls ring : List ℕ} {waits : List Bool} → Cells cs ls
+pub ordered-first : {t : Transducer} {m : ℕ → Bool} {cs : List Weight} {ls : Sizes} {ring : List ℕ} {waits : List Bool} → Cells cs ls
     → Nearing t (cost-at cs) (by-state ls) → Queue (t .states) ring waits 0 0 → Draining t m (from-on 0) cs ls ring waits 0 0
 unfolding from-on
 ordered-first cells near q = record { cells = cells; nearing = near; queue = q; by-arc = λ x h o. inl (le-leb 0 x (omega arith)) }
@@ -119,7 +118,7 @@ ordered-next i x e = on (ℕ-discrete x i)
     on (yes q) = inl q
     on (no q) = inr (le-leb (i + 1) x (omega (arith, leb-true i x e)))
 
-pub ordered-stop : {t : Transducer} {m : ℕ → Bool} {cs : List Weight} {ls ring : List ℕ} {waits : List Bool} {head many i : ℕ}
+pub ordered-stop : {t : Transducer} {m : ℕ → Bool} {cs : List Weight} {ls : Sizes} {ring : List ℕ} {waits : List Bool} {head many i : ℕ}
     → Draining t m (from-on i) cs ls ring waits head many → length (t .arcs) ≤ i → Draining t m none cs ls ring waits head many
 unfolding from-on
 ordered-stop {t} {m} {cs} {ls} {waits = waits} {i = i} k e =
@@ -132,7 +131,7 @@ ordered-stop {t} {m} {cs} {ls} {waits = waits} {i = i} k e =
 
 -- A state comes off.
 
-pub draining-popped : {t : Transducer} {m : ℕ → Bool} {cs : List Weight} {ls ring : List ℕ} {waits waits' : List Bool} {head head' many : ℕ} → Sized t
+pub draining-popped : {t : Transducer} {m : ℕ → Bool} {cs : List Weight} {ls : Sizes} {ring : List ℕ} {waits waits' : List Bool} {head head' many : ℕ} → Sized t
     → Draining t m none cs ls ring waits head many → 0 < many → (s : ℕ) → s ≡ getD ring head 0 → waits' ≡ set waits s false → head' ≡ cell head 1
     → Draining t m (leads-to t s) cs ls ring waits' head' (many - 1)
 unfolding leads-to
@@ -151,12 +150,12 @@ draining-popped {t} {m} {cs} {ls} {ring} {waits} z k some s is e f =
     on i (inr (inl w)) (no q) = inr (inl (mark-other waits s (arc t i .target) false q ∙ w))
     on i (inr (inr w)) d = inr (inr w)
 
-pub popped-less : (t : Transducer) (cs : List Weight) (ls : List ℕ) (many : ℕ) {next : ℕ} → 0 < many → next ≤ to-do t cs ls (many - 1)
+pub popped-less : (t : Transducer) (cs : List Weight) (ls : Sizes) (many : ℕ) {next : ℕ} → 0 < many → next ≤ to-do t cs ls (many - 1)
     → next < to-do t cs ls many
 unfolding to-do
 popped-less t cs ls many some le = omega arith
 
-pub draining-stop : {t : Transducer} {m : ℕ → Bool} {cs : List Weight} {ls ring : List ℕ} {waits : List Bool} {head many : ℕ} → Sized t
+pub draining-stop : {t : Transducer} {m : ℕ → Bool} {cs : List Weight} {ls : Sizes} {ring : List ℕ} {waits : List Bool} {head many : ℕ} → Sized t
     → Draining t m none cs ls ring waits head many → many ≤ 0 → Drained t m cs ls true
 draining-stop {t} {m} {cs} {ls} {waits = waits} z k e =
     record { cells = k .cells; nearing = k .nearing; relaxed = λ _ i b o. on i b (k .by-arc i b o); stays = λ q. clash refl q }
@@ -167,111 +166,96 @@ draining-stop {t} {m} {cs} {ls} {waits = waits} z k e =
     on i b (inr (inr w)) = w
 
 -- A path had too many arcs.
-pub draining-stuck : {t : Transducer} {m : ℕ → Bool} {cs : List Weight} {ls : List ℕ} → Cells cs ls → Nearing t (cost-at cs) (by-state ls) → Falls t m
+pub draining-stuck : {t : Transducer} {m : ℕ → Bool} {cs : List Weight} {ls : Sizes} → Cells cs ls → Nearing t (cost-at cs) (by-state ls) → Falls t m
     → Drained t m cs ls false
 draining-stuck cells near f = record { cells = cells; nearing = near; relaxed = λ q. never q; stays = λ _. f }
 
--- The arcs that lead to a state, from a place on.
+-- The arcs that lead to a state, below a link of its chain.
 
-unfoldable pub left-from : Transducer → (s p : ℕ) → (i : ℕ) → Bool
-left-from t s p i = leads-to t s i && leb p (place t i)
+unfoldable pub left-below : Transducer → (s link : ℕ) → (i : ℕ) → Bool
+left-below t s link i = leads-to t s i && ltb i link
 
--- Those before the place are relaxed.
-pub record Relaxing (t : Transducer) (m : ℕ → Bool) (s p todo : ℕ) (cs : List Weight) (ls ring : List ℕ) (waits : List Bool) (head many : ℕ) : Type 0 where
-  pub low : into-below t s ≤ p
-  pub settling : Draining t m (left-from t s p) cs ls ring waits head many
+-- Those from the link on are relaxed.
+pub record Relaxing (t : Transducer) (m : ℕ → Bool) (s link todo : ℕ) (cs : List Weight) (ls : Sizes) (ring : List ℕ) (waits : List Bool)
+    (head many : ℕ) : Type 0 where
+  pub linked : Linked t s link
+  pub settling : Draining t m (left-below t s link) cs ls ring waits head many
   pub falls : to-do t cs ls many ≤ todo
 
--- The arc at a place.
-pub record Stands (t : Transducer) (s p i : ℕ) : Type 0 where
-  pub below : i < length (t .arcs)
-  pub leads : arc t i .target ≡ s
-  pub there : place t i ≡ p
+pub relaxing-stop : {t : Transducer} {m : ℕ → Bool} {s link todo : ℕ} {cs : List Weight} {ls : Sizes} {ring : List ℕ} {waits : List Bool} {head many : ℕ}
+    → Relaxing t m s link todo cs ls ring waits head many → link ≤ 0 → Draining t m none cs ls ring waits head many
+unfolding left-below
+relaxing-stop {t} {m} {s} {link} {cs = cs} {ls = ls} {waits = waits} r e =
+    record {
+      cells = r .settling .cells;
+      nearing = r .settling .nearing;
+      queue = r .settling .queue;
+      by-arc = λ i h o. on i (r .settling .by-arc i h o);
+    }
+  where
+    on : (i : ℕ) → (left-below t s link i ≡ true) ⊎ ((waiting waits (arc t i .target) ≡ true) ⊎ No-better t cs ls i)
+        → (none i ≡ true) ⊎ ((waiting waits (arc t i .target) ≡ true) ⊎ No-better t cs ls i)
+    on i (inl q) = absurd (omega (arith, e, ltb-true i link (and-true (leads-to t s i) (ltb i link) q .1)))
+    on i (inr w) = inr w
 
-module _ {t : Transducer} {heads into : List ℕ} (by : By-target t heads into) (s : ℕ) (b : s < t .states) where
-  from-is : getD heads s 0 ≡ into-below t s
-  from-is = by .head-at s (omega arith)
-
-  to-is : getD heads (s + 1) 0 ≡ into-below t (suc s)
-  to-is = rw add-one (by .head-at (suc s) b)
-
-  pub relaxing-first : {m : ℕ → Bool} {cs : List Weight} {ls ring : List ℕ} {waits : List Bool} {head many : ℕ}
+module _ {t : Transducer} {heads links : List ℕ} (by : By-target t heads links) (s : ℕ) where
+  pub relaxing-first : s < 1024 → {m : ℕ → Bool} {cs : List Weight} {ls : Sizes} {ring : List ℕ} {waits : List Bool} {head many : ℕ}
       → Draining t m (leads-to t s) cs ls ring waits head many → Relaxing t m s (getD heads s 0) (to-do t cs ls many) cs ls ring waits head many
-  unfolding left-from leads-to
-  relaxing-first {m} {cs} {ls} {ring} {waits} k =
+  unfolding left-below leads-to
+  relaxing-first b {m} {cs} {ls} {ring} {waits} k =
       record {
-        low = omega (arith, from-is);
-        settling = record { cells = k .cells; nearing = k .nearing; queue = k .queue; by-arc = λ i h o. on i (k .by-arc i h o) };
+        linked = link-first by s b;
+        settling = record { cells = k .cells; nearing = k .nearing; queue = k .queue; by-arc = λ i h o. on i h (k .by-arc i h o) };
         falls = omega arith;
       }
     where
-      on : (i : ℕ) → (leads-to t s i ≡ true) ⊎ ((waiting waits (arc t i .target) ≡ true) ⊎ No-better t cs ls i)
-          → (left-from t s (getD heads s 0) i ≡ true) ⊎ ((waiting waits (arc t i .target) ≡ true) ⊎ No-better t cs ls i)
-      on i (inl q) =
-          inl (true-and (leads-to t s i) (leb (getD heads s 0) (place t i)) q
-          (le-leb (getD heads s 0) (place t i) (omega (arith, from-is, place-low t i s (eqb-true (arc t i .target) s q)))))
-      on i (inr w) = inr w
-
-  pub relaxing-stop : {m : ℕ → Bool} {p todo : ℕ} {cs : List Weight} {ls ring : List ℕ} {waits : List Bool} {head many : ℕ}
-      → Relaxing t m s p todo cs ls ring waits head many → getD heads (s + 1) 0 ≤ p → Draining t m none cs ls ring waits head many
-  unfolding left-from leads-to
-  relaxing-stop {m} {p} {cs = cs} {ls = ls} {waits = waits} r e =
-      record {
-        cells = r .settling .cells;
-        nearing = r .settling .nearing;
-        queue = r .settling .queue;
-        by-arc = λ i h o. on i h (r .settling .by-arc i h o);
-      }
-    where
-      on : (i : ℕ) → i < length (t .arcs) → (left-from t s p i ≡ true) ⊎ ((waiting waits (arc t i .target) ≡ true) ⊎ No-better t cs ls i)
-          → (none i ≡ true) ⊎ ((waiting waits (arc t i .target) ≡ true) ⊎ No-better t cs ls i)
+      on : (i : ℕ) → i < length (t .arcs) → (leads-to t s i ≡ true) ⊎ ((waiting waits (arc t i .target) ≡ true) ⊎ No-better t cs ls i)
+          → (left-below t s (getD heads s 0) i ≡ true) ⊎ ((waiting waits (arc t i .target) ≡ true) ⊎ No-better t cs ls i)
       on i h (inl q) =
-          let both = and-true (leads-to t s i) (leb p (place t i)) q in
-          let here : place t i < into-below t (suc s) = place-high t i s h (eqb-true (arc t i .target) s (both .0)) in
-          absurd (omega (arith, to-is, here, leb-true p (place t i) (both .1)))
+          inl (true-and (leads-to t s i) (ltb i (getD heads s 0)) q
+          (lt-ltb i (getD heads s 0) (link-all by s b i h (eqb-true (arc t i .target) s q))))
       on i h (inr w) = inr w
 
-  pub relaxing-arc : {p : ℕ} → into-below t s ≤ p → p < getD heads (s + 1) 0 → Stands t s p (getD into p 0)
-  relaxing-arc {p} low high =
-      let x = stands-at t s p low (omega (arith, to-is)) in
-      let e : getD into p 0 ≡ x .number = ap (λ (k : ℕ). getD into k 0) (sym (x .there)) ∙ by .stands (x .number) (x .below) in
-      rw e (record { below = x .below; leads = x .leads; there = x .there })
+  pub relaxing-next : {m : ℕ → Bool} {link todo : ℕ} {cs : List Weight} {ls : Sizes} {ring : List ℕ} {waits : List Bool} {head many : ℕ}
+      → Relaxing t m s link todo cs ls ring waits head many → (i : ℕ) → Arc-there t s link i
+      → {cs' : List Weight} {ls' : Sizes} {ring' : List ℕ} {waits' : List Bool} {many' : ℕ} → Cells cs' ls' → Nearing t (cost-at cs') (by-state ls')
+      → Joined t m i cs ls waits many cs' ls' ring' waits' head many' → Relaxing t m s (getD links i 0) todo cs' ls' ring' waits' head many'
+  unfolding left-below leads-to
+  relaxing-next {m} {link} k i here cells near j =
+      record {
+        linked = link-next by s here;
+        settling = draining-joined (k .settling) i cells near j less;
+        falls = omega (arith, k .falls, j .falls);
+      }
+    where
+      on : (x : ℕ) → leads-to t s x ≡ true → x < link → Dec (x ≡ i) → (x ≡ i) ⊎ (leads-to t s x && ltb x (getD links i 0) ≡ true)
+      on x to l (yes e) = inl e
+      on x to l (no n) =
+          inr (true-and (leads-to t s x) (ltb x (getD links i 0)) to
+          (lt-ltb x (getD links i 0) (link-rest by s here x (omega (arith, l, n, here .is)) (eqb-true (arc t x .target) s to))))
 
-pub relaxing-next : {t : Transducer} {m : ℕ → Bool} {s p todo : ℕ} {cs : List Weight} {ls ring : List ℕ} {waits : List Bool} {head many : ℕ}
-    → Relaxing t m s p todo cs ls ring waits head many → (i : ℕ) → Stands t s p i
-    → {cs' : List Weight} {ls' ring' : List ℕ} {waits' : List Bool} {many' : ℕ} → Cells cs' ls' → Nearing t (cost-at cs') (by-state ls')
-    → Joined t m i cs ls waits many cs' ls' ring' waits' head many' → Relaxing t m s (p + 1) todo cs' ls' ring' waits' head many'
-unfolding left-from
-relaxing-next {t} {m} {s} {p} k i here cells near j =
-    record { low = omega (arith, k .low); settling = draining-joined (k .settling) i cells near j less; falls = omega (arith, k .falls, j .falls) }
-  where
-    on : (x : ℕ) → x < length (t .arcs) → leads-to t s x ≡ true → p ≤ place t x → Dec (place t x ≡ p)
-        → (x ≡ i) ⊎ (leads-to t s x && leb (p + 1) (place t x) ≡ true)
-    on x h to le (yes e) = inl (place-injective t x i h (here .below) (e ∙ sym (here .there)))
-    on x h to le (no e) = inr (true-and (leads-to t s x) (leb (p + 1) (place t x)) to (le-leb (p + 1) (place t x) (omega arith)))
-
-    less : (x : ℕ) → x < length (t .arcs) → leads-to t s x && leb p (place t x) ≡ true → (x ≡ i) ⊎ (leads-to t s x && leb (p + 1) (place t x) ≡ true)
-    less x h e =
-        let both = and-true (leads-to t s x) (leb p (place t x)) e in
-        on x h (both .0) (leb-true p (place t x) (both .1)) (ℕ-discrete (place t x) p)
+      less : (x : ℕ) → x < length (t .arcs) → leads-to t s x && ltb x link ≡ true → (x ≡ i) ⊎ (leads-to t s x && ltb x (getD links i 0) ≡ true)
+      less x h e =
+          let both = and-true (leads-to t s x) (ltb x link) e in
+          on x (both .0) (ltb-true x link (both .1)) (ℕ-discrete x i)
 
 -- What a call answers: how many wait, or that a path had too many arcs.
 
 queue-few : {n head many : ℕ} {ring : List ℕ} {waits : List Bool} → Queue n ring waits head many → many ≤ n
 queue-few {n} {waits = waits} q = omega (arith, q .counted, count-most n (waiting waits))
 
-pub joins : {t : Transducer} {m : ℕ → Bool} {i : ℕ} {cs : List Weight} {ls : List ℕ} {waits : List Bool} {many : ℕ} {cs' : List Weight} {ls' ring' : List ℕ}
-    {waits' : List Bool} {head r : ℕ} → Sized t → Cells cs' ls' → Nearing t (cost-at cs') (by-state ls')
+pub joins : {t : Transducer} {m : ℕ → Bool} {i : ℕ} {cs : List Weight} {ls : Sizes} {waits : List Bool} {many : ℕ} {cs' : List Weight}
+    {ls' : Sizes} {ring' : List ℕ} {waits' : List Bool} {head r : ℕ} → Sized t → Cells cs' ls' → Nearing t (cost-at cs') (by-state ls')
     → Joined t m i cs ls waits many cs' ls' ring' waits' head r → Joins t m i cs ls waits many cs' ls' ring' waits' head r
 joins z cells near j =
     record { cells = cells; nearing = near; joined = λ _. j; stays = λ e. absurd (omega (arith, e, queue-few (j .queue), z .states)) }
 
-pub joins-stuck : {t : Transducer} {m : ℕ → Bool} {i : ℕ} {cs : List Weight} {ls : List ℕ} {waits : List Bool} {many : ℕ} {cs' : List Weight}
-    {ls' ring' : List ℕ} {waits' : List Bool} {head : ℕ} → Cells cs' ls' → Nearing t (cost-at cs') (by-state ls') → Falls t m
+pub joins-stuck : {t : Transducer} {m : ℕ → Bool} {i : ℕ} {cs : List Weight} {ls : Sizes} {waits : List Bool} {many : ℕ} {cs' : List Weight}
+    {ls' : Sizes} {ring' : List ℕ} {waits' : List Bool} {head : ℕ} → Cells cs' ls' → Nearing t (cost-at cs') (by-state ls') → Falls t m
     → Joins t m i cs ls waits many cs' ls' ring' waits' head stuck
 joins-stuck cells near f = record { cells = cells; nearing = near; joined = λ no. absurd (no refl); stays = λ _. f }
 
-pub drains : {t : Transducer} {m : ℕ → Bool} {todo : ℕ} {cs : List Weight} {ls ring : List ℕ} {waits : List Bool} {head r : ℕ} → Sized t
+pub drains : {t : Transducer} {m : ℕ → Bool} {todo : ℕ} {cs : List Weight} {ls : Sizes} {ring : List ℕ} {waits : List Bool} {head r : ℕ} → Sized t
     → Draining t m none cs ls ring waits head r → to-do t cs ls r ≤ todo → Drains t m todo cs ls ring waits head r
 drains z d le =
     record {
@@ -282,7 +266,7 @@ drains z d le =
       stays = λ e. absurd (omega (arith, e, queue-few (d .queue), z .states));
     }
 
-pub drains-stuck : {t : Transducer} {m : ℕ → Bool} {todo : ℕ} {cs : List Weight} {ls ring : List ℕ} {waits : List Bool} {head : ℕ} → Cells cs ls
+pub drains-stuck : {t : Transducer} {m : ℕ → Bool} {todo : ℕ} {cs : List Weight} {ls : Sizes} {ring : List ℕ} {waits : List Bool} {head : ℕ} → Cells cs ls
     → Nearing t (cost-at cs) (by-state ls) → Falls t m → Drains t m todo cs ls ring waits head stuck
 drains-stuck cells near f =
     record { cells = cells; nearing = near; draining = λ no. absurd (no refl); falls = λ no. absurd (no refl); stays = λ _. f }

@@ -15,7 +15,7 @@ use Rattle.reach.specs.Reach.{accessible}
 use Rattle.reach.proofs.Closure.{accessible-passes}
 use Rattle.paths.proofs.Ready.{Sized}
 use Rattle.least.specs.Cycles.{anywhere, Falls}
-use Rattle.distance.specs.Nearest.{cost-at, by-state, counted, Cells, Settled, Swept-says, Distances-say}
+use Rattle.distance.specs.Nearest.{Sizes, cost-at, by-state, counted, Cells, Settled, Swept-says, Distances-say}
 use Rattle.distance.specs.Queue.{mark, Drained}
 use Rattle.distance.proofs.Settled.{distances-least}
 
@@ -24,7 +24,7 @@ pub counted-passes : (everywhere : Bool) (t : Transducer) → Within t → Passe
 counted-passes true t w = λ i b m. refl
 counted-passes false t w = accessible-passes t w
 
-module _ (t : Transducer) (z : Sized t) (cs : List Weight) (ls : List ℕ) where
+module _ (t : Transducer) (z : Sized t) (cs : List Weight) (ls : Sizes) where
   settled-says : {counts : ℕ → Bool} → Cells cs ls → Settled t counts (cost-at cs) (by-state ls) → Distances-say t counts cs ls true
   settled-says {counts} cells k =
       record { cells = cells; settled = λ _. k; least = λ _. distances-least t z counts (cost-at cs) (by-state ls) k; falls = λ q. clash refl q }

@@ -17,16 +17,16 @@ use Rattle.transducer.specs.Weight.{Weight, no-weight}
 use Rattle.transducer.specs.Leaf.{arcs-below}
 use Rattle.transducer.proofs.Index.{arcs-of-state, state-of-arcs}
 use Rattle.paths.proofs.Ready.{Sized}
-use Rattle.distance.specs.Nearest.{cost-at, by-state, Rising, is-nearest, Nearing, Cells, No-better, kept, better, too-long, Relaxed, Swept-says}
+use Rattle.distance.specs.Nearest.{Sizes, cost-at, by-state, Rising, is-nearest, Nearing, Cells, No-better, kept, better, too-long, Relaxed, Swept-says}
 use Rattle.distance.proofs.Relaxed.{nothing-nearer}
 
--- A state that no arc makes better where no weight is below zero.
-abbrev Nearest : (cs : List Weight) → (ls : List ℕ) → (s : ℕ) → Type 0
+-- A state that no arc makes better where no weight is below zero and each arc writes a label.
+abbrev Nearest : (cs : List Weight) → (ls : Sizes) → (s : ℕ) → Type 0
 Nearest cs ls s = is-nearest no-weight (cost-at cs s) (by-state ls s) ≡ true
 
--- The arcs from i on are swept, some passed over where it is plain that no weight is below zero. None that was read leads to a state below `low`; where no more
+-- The arcs from i on are swept, some passed over where `plain`. None that was read leads to a state below `low`; where no more
 -- may change none makes its source better.
-pub record Sweeping (t : Transducer) (plain : Bool) (low i : ℕ) (cs : List Weight) (ls : List ℕ) (again : Bool) : Type 0 where
+pub record Sweeping (t : Transducer) (plain : Bool) (low i : ℕ) (cs : List Weight) (ls : Sizes) (again : Bool) : Type 0 where
   pub below : i ≤ length (t .arcs)
   pub cells : Cells cs ls
   pub nearing : Nearing t (cost-at cs) (by-state ls)
@@ -34,7 +34,7 @@ pub record Sweeping (t : Transducer) (plain : Bool) (low i : ℕ) (cs : List Wei
   pub ahead : (x : ℕ) → i ≤ x → x < length (t .arcs) → (low ≤ arc t x .target) ⊎ ((plain ≡ true) × Nearest cs ls (arc t x .source))
   pub settled : again ≡ false → (x : ℕ) → i ≤ x → x < length (t .arcs) → No-better t cs ls x
 
-pub sweeping-first : (t : Transducer) (plain : Bool) (cs : List Weight) (ls : List ℕ) (low m : ℕ) → m ≡ length (t .arcs) → Cells cs ls
+pub sweeping-first : (t : Transducer) (plain : Bool) (cs : List Weight) (ls : Sizes) (low m : ℕ) → m ≡ length (t .arcs) → Cells cs ls
     → Nearing t (cost-at cs) (by-state ls) → (plain ≡ true → Rising t) → Sweeping t plain low m cs ls false
 sweeping-first t plain cs ls low m e cells n rising =
     record {
@@ -46,7 +46,7 @@ sweeping-first t plain cs ls low m e cells n rising =
       settled = λ _ x a b. absurd (omega arith);
     }
 
-pub sweeping-stop : (t : Transducer) (plain : Bool) (low i : ℕ) (cs : List Weight) (ls : List ℕ) (again : Bool) → Sweeping t plain low i cs ls again → i ≤ 0
+pub sweeping-stop : (t : Transducer) (plain : Bool) (low i : ℕ) (cs : List Weight) (ls : Sizes) (again : Bool) → Sweeping t plain low i cs ls again → i ≤ 0
     → Swept-says t cs ls again
 sweeping-stop t plain low i cs ls again k h =
     record {
@@ -66,7 +66,7 @@ not-again again change s low h =
 
 -- One arc
 
-module _ (t : Transducer) (z : Sized t) (plain : Bool) (low i : ℕ) (cs : List Weight) (ls : List ℕ) (again : Bool) (k : Sweeping t plain low i cs ls again)
+module _ (t : Transducer) (z : Sized t) (plain : Bool) (low i : ℕ) (cs : List Weight) (ls : Sizes) (again : Bool) (k : Sweeping t plain low i cs ls again)
     (h : 0 < i) where
   abbrev j : ℕ
   j = i - 1
@@ -81,7 +81,7 @@ module _ (t : Transducer) (z : Sized t) (plain : Bool) (low i : ℕ) (cs : List 
   sweeping-state = (z .within .leaves (i - 1) sweeping-arc, z .within .arrives (i - 1) sweeping-arc)
 
   -- The arc is relaxed.
-  relaxed : (low' : ℕ) (cs' : List Weight) (ls' : List ℕ) (change : ℕ) (again' : Bool) → low' ≤ low → low' ≤ arc t j .target
+  relaxed : (low' : ℕ) (cs' : List Weight) (ls' : Sizes) (change : ℕ) (again' : Bool) → low' ≤ low → low' ≤ arc t j .target
       → (again' ≡ false → (again ≡ false) × (change ≡ too-long → ⊥) × (change ≡ better → s < low')) → Relaxed t j cs ls cs' ls' change
       → Sweeping t plain low' j cs' ls' again'
   relaxed low' cs' ls' change again' f g asked r =
@@ -159,7 +159,7 @@ module _ (t : Transducer) (z : Sized t) (plain : Bool) (low i : ℕ) (cs : List 
         let n : is-nearest no-weight (cost-at cs (a .source)) (by-state ls (a .source)) ≡ true = sym e ∙ both .1 in
         passed (both .0) (rw is at n) to (rw is at f)
 
-    module _ (low' : ℕ) (cs' : List Weight) (ls' : List ℕ) (change : ℕ) (f : low' ≤ low) (g : low' ≤ a .target)
+    module _ (low' : ℕ) (cs' : List Weight) (ls' : Sizes) (change : ℕ) (f : low' ≤ low) (g : low' ≤ a .target)
         (r : Relaxed t (i - 1) cs ls cs' ls' change) where
       pub sweeping-kept : change ≡ kept → Sweeping t plain low' (i - 1) cs' ls' again
       sweeping-kept q =

@@ -1,6 +1,7 @@
 -- In reading order.
 -- Costs and numbers of arcs by state: which come before others, how large they are, and what they are once no arc makes them better.
 pub mod Nearer
+pub mod Packed
 pub mod Bounds
 pub mod ToCome
 pub mod Settled

@@ -1,10 +1,10 @@
--- What settled costs and numbers of arcs are: no accepting path from a marked state is cheaper or at that cost has fewer arcs, and from none a path
+-- What settled costs and sizes are: no accepting path from a marked state is nearer, and from none a path
 -- goes round a cycle below zero on its way to a final state. Assumes nothing.
-use mathlib.Core.Path.{_≡_, refl, sym}
+use mathlib.Core.Path.{_≡_, refl, sym, ap}
 use mathlib.Core.Bool.{Bool, true, false, cond}
 use mathlib.Core.List.{List, [], _∷_}
 use mathlib.Core.List.{List·Memᴰ as Mem}
-use Prim.Native.Nat.{ℕ, suc, _<_}
+use Prim.Native.Nat.{ℕ, _<_}
 use native.Mathlib.Omega.{arith}
 use lib.ListN.{length}
 use Rattle.wire.proofs.Bool.{is-false}
@@ -24,13 +24,13 @@ use Rattle.least.specs.Cycles.{Falling, falling-among, Falls}
 use Rattle.least.proofs.Costs.{cost-nil, cost-cons}
 use Rattle.least.proofs.Cycles.{falling-rest}
 use Rattle.least.proofs.Falls.{falling-below, passes-along, among-falls}
-use Rattle.distance.specs.Distance.{no-path, least-of, least-to-come}
-use Rattle.distance.specs.Nearest.{unreached, cost-told, No-worse, cost-by, arcs-by, own-cost, Reached, Settled}
+use Rattle.distance.specs.Distance.{Size, size-of, no-path, least-of, least-to-come}
+use Rattle.distance.specs.Nearest.{unreached, cost-told, longer, No-worse, cost-by, size-by, own-cost, Reached, Settled}
 use Rattle.distance.proofs.ToCome.{least-of-most, least-of-in, least-of-above}
-use Rattle.distance.proofs.Nearer.{no-worse-through}
+use Rattle.distance.proofs.Nearer.{no-worse-through, no-worse-step, size-nil, size-cons}
 use Rattle.distance.proofs.Bounds.{Bounded, arc-bounded, final-bounded, reached-bounded, cost-by-some}
 
-module _ (t : Transducer) (z : Sized t) (counts : ℕ → Bool) (c : ℕ → Weight) (l : ℕ → ℕ) (k : Settled t counts c l) where
+module _ (t : Transducer) (z : Sized t) (counts : ℕ → Bool) (c : ℕ → Weight) (l : ℕ → Size) (k : Settled t counts c l) where
   abbrev pub Marked : ℕ → Type 0
   Marked s = counts s ≡ true
 
@@ -40,36 +40,37 @@ module _ (t : Transducer) (z : Sized t) (counts : ℕ → Bool) (c : ℕ → Wei
   pub reached-accepts : (s : ℕ) (b : s < t .states) (h : Below (c s) unreached) → Accepting t s (reached s b h .path)
   reached-accepts s b h = record { goes = reached s b h .goes; final = reached s b h .final }
 
-  pub few-arcs : (s : ℕ) → s < t .states → Below (c s) unreached → l s < t .states
-  few-arcs s b h = omega (arith, reached s b h .few, reached s b h .arcs)
+  pub few-arcs : (s : ℕ) → s < t .states → Below (c s) unreached → l s .arcs < t .states
+  unfolding size-of
+  few-arcs s b h = let e : length (reached s b h .path) ≡ l s .arcs = ap (λ (x : Size). x .arcs) (reached s b h .size) in omega (arith, reached s b h .few)
 
   -- An arc from a marked state to one with a cost.
   pub record By (s i : ℕ) : Type 0 where
     pub below : Below (c s) unreached
     pub is : cost-by t c i ≡ plus (arc t i .weight) (c (arc t i .target))
-    pub near : No-worse (c s) (l s) (cost-by t c i) (arcs-by t l i)
+    pub near : No-worse (c s) (l s) (cost-by t c i) (size-by t l i)
 
   pub by : (s i : ℕ) → i < length (t .arcs) → arc t i .source ≡ s → Marked s → Below (c (arc t i .target)) unreached → By s i
   by s i b leaves m h =
       let u : ℕ = arc t i .target in
       let is : cost-by t c i ≡ plus (arc t i .weight) (c u) = cost-by-some t c i h in
-      let here : No-worse (c (arc t i .source)) (l (arc t i .source)) (cost-by t c i) (arcs-by t l i) = k .by-arc i b (rw leaves m) in
-      let near : No-worse (c s) (l s) (cost-by t c i) (arcs-by t l i) = rw leaves at here in
+      let here : No-worse (c (arc t i .source)) (l (arc t i .source)) (cost-by t c i) (size-by t l i) = k .by-arc i b (rw leaves m) in
+      let near : No-worse (c s) (l s) (cost-by t c i) (size-by t l i) = rw leaves at here in
       let low : At-most (c s) (plus (arc t i .weight) (c u)) = rw is at (near .cost) in
       let w : Bounded 1000000 (arc t i .weight) = arc-bounded t z i b in
       let v : Bounded 1024000000 (c u) = reached-bounded t z c l u (reached u (z .within .arrives i b) h) in
       record { below = omega (arith, sums, w .up, v .up); is = is; near = near }
 
-  -- No accepting path from a state is better than its cost and number of arcs.
+  -- No accepting path from a state is better than its cost and size.
   pub record Best (s : ℕ) (p : List ℕ) : Type 0 where
     pub below : Below (c s) unreached
-    pub near : No-worse (c s) (l s) (cost-from t s p) (length p)
+    pub near : No-worse (c s) (l s) (cost-from t s p) (size-of t p)
 
   pub best : (s : ℕ) (p : List ℕ) → s < t .states → Marked s → Accepting t s p → Best s p
-  unfolding own-cost arcs-by
+  unfolding own-cost size-by
   best s [] b m a =
       let e : own-cost t s ≡ cost-from t s [] = rw (accepting-nil t s a) (sym (cost-nil t s)) in
-      let n : No-worse (c s) (l s) (cost-from t s []) 0 = rw e at (k .nearing .empty s b) in
+      let n : No-worse (c s) (l s) (cost-from t s []) (size-of t []) = rw (size-nil t, ← e) (k .nearing .empty s b) in
       let f : Bounded 1000000 (cost-from t s []) = rw (cost-nil t s) (final-bounded t z s) in
       record { below = omega (arith, sums, n .cost, f .up); near = n }
   best s (i ∷ p) b m a =
@@ -77,14 +78,11 @@ module _ (t : Transducer) (z : Sized t) (counts : ℕ → Bool) (c : ℕ → Wei
       let u : ℕ = arc t i .target in
       let rest : Best u p = best u p (z .within .arrives i (r .below)) (k .onwards i (r .below) (rw (r .leaves) m)) (r .rest) in
       let here : By s i = by s i (r .below) (r .leaves) m (rest .below) in
-      let step : No-worse (cost-by t c i) (arcs-by t l i) (plus (arc t i .weight) (cost-from t u p)) (suc (length p)) =
-      rw (here .is) (record {
-        cost = omega (arith, sums, rest .near .cost);
-        arcs = λ h. let less : At-most (cost-from t u p) (c u) = omega (arith, sums) in omega (arith, rest .near .arcs less);
-      }) in
-      record { below = here .below; near = rw (cost-cons t s i p) (no-worse-through (here .near) step) }
+      let step : No-worse (cost-by t c i) (size-by t l i) (plus (arc t i .weight) (cost-from t u p)) (longer (arc t i .output) (size-of t p)) =
+      rw (here .is) (no-worse-step (arc t i .weight) (arc t i .output) (rest .near)) in
+      record { below = here .below; near = rw (cost-cons t s i p, size-cons t i p) (no-worse-through (here .near) step) }
 
-  pub none-nearer : (s : ℕ) (p : List ℕ) → s < t .states → counts s ≡ true → Accepting t s p → No-worse (c s) (l s) (cost-from t s p) (length p)
+  pub none-nearer : (s : ℕ) (p : List ℕ) → s < t .states → counts s ≡ true → Accepting t s p → No-worse (c s) (l s) (cost-from t s p) (size-of t p)
   none-nearer s p b m a = best s p b m a .near
 
   -- Where something accepts there is a cost.

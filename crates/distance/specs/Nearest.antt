@@ -1,10 +1,10 @@
--- By state, the least cost to come and the fewest arcs at that cost: on their way, and settled.
+-- By state, the least cost to come, the fewest labels at that cost and the fewest arcs with these: on their way, and settled.
 -- Assumes nothing: these are definitions.
 use mathlib.Core.Path.{_≡_}
 use mathlib.Core.Bool.{Bool, true, false, _&&_, cond}
 use mathlib.Core.Logic.{_⊎_}
 use mathlib.Core.List.{List, _++_}
-use Prim.Native.Nat.{ℕ, _+_, _*_, _≤_, _<_}
+use Prim.Native.Nat.{ℕ, _+_, _*_, _/_, _%_, _≤_, _<_}
 use lib.Dec.{eqb, leb}
 use lib.ListN.{length, getD}
 use Rattle.transducer.specs.Format.{Transducer, max-states, weight-good}
@@ -15,53 +15,82 @@ use Rattle.reach.specs.Reach.{accessible}
 use Rattle.paths.specs.Sweep.{total}
 use Rattle.least.specs.Costs.{cost-from}
 use Rattle.least.specs.Cycles.{Falling, anywhere, Falls}
-use Rattle.distance.specs.Distance.{no-path, least-to-come}
+use Rattle.distance.specs.Distance.{Size, size-of, no-path, least-to-come}
 
 -- The cost of a state from which no path is known, in an array: above that of every path of fewer arcs than there are states.
 abbrev pub unreached : Weight
 unreached = amount 2000000000
 
--- A state's cost, and its number, in an array.
+-- A state's cost in an array.
 abbrev pub cost-at : List Weight → (s : ℕ) → Weight
 cost-at cs s = getD cs s no-weight
 
-abbrev pub by-state : List ℕ → (s : ℕ) → ℕ
-by-state xs s = getD xs s 0
+-- A size as one number. Labels and arcs are below 65,536, so that sizes compare as these numbers do.
+abbrev pub packed : Size → ℕ
+packed l = l .arcs + 65536 * l .labels
 
--- No dearer, and where it costs the same, no more arcs.
-pub record No-worse (x : Weight) (l : ℕ) (y : Weight) (k : ℕ) : Type 0 where
-  pub cost : At-most x y
-  pub arcs : At-most y x → l ≤ k
+unfoldable pub unpacked : ℕ → Size
+unpacked n = record { labels = n / 65536; arcs = n % 65536 }
 
--- The same, with fewer arcs where it costs the same.
-pub record Nearer (x : Weight) (l : ℕ) (y : Weight) (k : ℕ) : Type 0 where
+-- An array with the size of each state's path in one number, and a state's size in it.
+abbrev pub Sizes : Type 0
+Sizes = List ℕ
+
+abbrev pub by-state : Sizes → (s : ℕ) → Size
+by-state xs s = unpacked (getD xs s 0)
+
+-- The size of the empty path, and of a path with an arc in front that writes a label, or none where that is empty.
+abbrev pub no-size : Size
+no-size = record { labels = 0; arcs = 0 }
+
+unfoldable pub labels-of : (output : ℕ) → ℕ
+labels-of x = cond (eqb x 0) 0 1
+
+unfoldable pub longer : (output : ℕ) → Size → Size
+longer x l = record { labels = l .labels + labels-of x; arcs = l .arcs + 1 }
+
+-- No dearer; where it costs the same, no more labels; where it also has as many of these, no more arcs.
+pub record No-worse (x : Weight) (l : Size) (y : Weight) (k : Size) : Type 0 where
   pub cost : At-most x y
-  pub arcs : At-most y x → l < k
+  pub labels : At-most y x → l .labels ≤ k .labels
+  pub arcs : At-most y x → k .labels ≤ l .labels → l .arcs ≤ k .arcs
+
+-- The same, with fewer arcs where cost and labels are the same.
+pub record Nearer (x : Weight) (l : Size) (y : Weight) (k : Size) : Type 0 where
+  pub cost : At-most x y
+  pub labels : At-most y x → l .labels ≤ k .labels
+  pub arcs : At-most y x → k .labels ≤ l .labels → l .arcs < k .arcs
 
 -- A weight and the cost to come behind it.
 unfoldable pub onward : (weight cost : Weight) → Weight
 onward w x = cond (below x unreached) (plus w x) unreached
 
--- Cost and number of arcs from an arc's source by way of the arc, by those from its target.
+-- Cost and size from an arc's source by way of the arc, by those from its target.
 unfoldable pub cost-by : Transducer → (costs : ℕ → Weight) → (i : ℕ) → Weight
 cost-by t c i = onward (arc t i .weight) (c (arc t i .target))
 
-unfoldable pub arcs-by : Transducer → (lens : ℕ → ℕ) → (i : ℕ) → ℕ
-arcs-by t l i = l (arc t i .target) + 1
+unfoldable pub size-by : Transducer → (lens : ℕ → Size) → (i : ℕ) → Size
+size-by t l i = longer (arc t i .output) (l (arc t i .target))
 
--- No weight is below zero.
+-- Each arc writes a label.
+abbrev pub Writes : Transducer → Type 0
+Writes t = (i : ℕ) → i < length (t .arcs) → 0 < arc t i .output
+
+-- No weight is below zero, and each arc writes a label.
 pub record Rising (t : Transducer) : Type 0 where
+  pub writes : Writes t
   pub arcs : (i : ℕ) → i < length (t .arcs) → At-most no-weight (arc t i .weight)
   pub finals : (s : ℕ) → s < t .states → is-final (t .finals) s ≡ true → At-most no-weight (final-weight (t .finals) s)
 
--- The same by a weight that none of the arcs is below, and the costs of the empty paths from so many states.
+-- The same of weights, by a weight that none of the arcs is below and the costs of the empty paths from so many states.
 pub record Plain-costs (least : Weight) (states : ℕ) (cs : List Weight) : Type 0 where
   pub arcs : At-most no-weight least
   pub costs : (s : ℕ) → s < states → At-most no-weight (cost-at cs s)
 
--- A cost and a number of arcs that no arc makes better where none gives a cost below the bar: each arc is one more. Where no weight is below zero the bar is 0.
-unfoldable pub is-nearest : (bar cost : Weight) → (arcs : ℕ) → Bool
-is-nearest bar x k = at-most x bar && leb k 1
+-- A cost and a size that no arc makes better where each arc writes a label and none gives a cost below the bar: each arc is one more, with a label more. Where
+-- no weight is below zero the bar is 0.
+unfoldable pub is-nearest : (bar cost : Weight) → Size → Bool
+is-nearest bar x l = at-most x bar && leb (packed l) 65537
 
 -- The cost of the empty path from a state, and the same by its final code.
 unfoldable pub own-cost : Transducer → (s : ℕ) → Weight
@@ -70,57 +99,58 @@ own-cost t s = cond (is-final (t .finals) s) (final-weight (t .finals) s) unreac
 unfoldable pub code-cost : (code : ℕ) → Weight
 code-cost code = cond (eqb code 0) unreached (weight-of code)
 
--- The path behind a state's cost and number of arcs. The states along it are by now no worse than by that path, and each cycle on it sums below zero: it was
+-- The path behind a state's cost and size. The states along it are by now no worse than by that path, and each cycle on it sums below zero: it was
 -- gone round because that made its state better.
-pub record Reached (t : Transducer) (c : ℕ → Weight) (l : ℕ → ℕ) (s : ℕ) : Type 0 where
+pub record Reached (t : Transducer) (c : ℕ → Weight) (l : ℕ → Size) (s : ℕ) : Type 0 where
   pub path : List ℕ
   pub goes : runs t s path ≡ true
   pub final : is-final (t .finals) (ends t s path) ≡ true
   pub costs : cost-from t s path ≡ c s
-  pub arcs : length path ≡ l s
+  pub size : size-of t path ≡ l s
   pub few : length path < t .states
   pub along : (lead rest : List ℕ) → path ≡ lead ++ rest
-      → No-worse (c (ends t s lead)) (l (ends t s lead)) (cost-from t (ends t s lead) rest) (length rest)
+      → No-worse (c (ends t s lead)) (l (ends t s lead)) (cost-from t (ends t s lead) rest) (size-of t rest)
   pub cycles : (lead cycle rest : List ℕ) → path ≡ lead ++ (cycle ++ rest) → 0 < length cycle → ends t s (lead ++ cycle) ≡ ends t s lead
       → Below (arcs-cost t cycle) no-weight
 
--- Costs and numbers of arcs on their way: each is that of some accepting path, and none is worse than the empty path.
-pub record Nearing (t : Transducer) (c : ℕ → Weight) (l : ℕ → ℕ) : Type 0 where
+-- Costs and sizes on their way: each is that of some accepting path, and none is worse than the empty path.
+pub record Nearing (t : Transducer) (c : ℕ → Weight) (l : ℕ → Size) : Type 0 where
   pub high : (s : ℕ) → s < t .states → At-most (c s) unreached
   pub reached : (s : ℕ) → s < t .states → Below (c s) unreached → Reached t c l s
-  pub empty : (s : ℕ) → s < t .states → No-worse (c s) (l s) (own-cost t s) 0
+  pub empty : (s : ℕ) → s < t .states → No-worse (c s) (l s) (own-cost t s) no-size
 
 -- The states that count: all, or those that the start reaches.
 abbrev pub counted : (everywhere : Bool) → Transducer → (s : ℕ) → Bool
 counted everywhere t = cond everywhere anywhere (accessible (t .states) t)
 
--- Costs and numbers of arcs that no arc makes better, at the states that count, from which arcs lead only to such states.
-pub record Settled (t : Transducer) (counts : ℕ → Bool) (c : ℕ → Weight) (l : ℕ → ℕ) : Type 0 where
+-- Costs and sizes that no arc makes better, at the states that count, from which arcs lead only to such states.
+pub record Settled (t : Transducer) (counts : ℕ → Bool) (c : ℕ → Weight) (l : ℕ → Size) : Type 0 where
   pub nearing : Nearing t c l
   pub onwards : Passes t false counts
   pub by-arc : (i : ℕ) → i < length (t .arcs) → counts (arc t i .source) ≡ true
-      → No-worse (c (arc t i .source)) (l (arc t i .source)) (cost-by t c i) (arcs-by t l i)
+      → No-worse (c (arc t i .source)) (l (arc t i .source)) (cost-by t c i) (size-by t l i)
 
 -- No cost that is kept is below this: a path behind one has fewer arcs than there are states.
 abbrev pub least-cost : Weight
 least-cost = rebate 2000000000
 
--- Cost and number of arcs as one number, which falls where they get better.
-unfoldable pub height : (c : ℕ → Weight) → (l : ℕ → ℕ) → (s : ℕ) → ℕ
-height c l s = 65536 * magnitude (plus (c s) (amount 2000000000)) + l s
+-- Cost and size as one number, which falls where they get better.
+unfoldable pub height : (c : ℕ → Weight) → (l : ℕ → Size) → (s : ℕ) → ℕ
+height c l s = 65536 * (65536 * magnitude (plus (c s) (amount 2000000000)) + l s .labels) + l s .arcs
 
--- Arrays with a cost and a number for each state.
-pub record Cells (cs : List Weight) (ls : List ℕ) : Type 0 where
+-- Arrays with a cost and a size for each state.
+pub record Cells (cs : List Weight) (ls : Sizes) : Type 0 where
   pub costs : length cs ≡ max-states
   pub lens : length ls ≡ max-states
   pub low : (s : ℕ) → At-most least-cost (cost-at cs s)
   pub high : (s : ℕ) → At-most (cost-at cs s) unreached
-  pub few : (s : ℕ) → by-state ls s ≤ max-states
+  pub few-labels : (s : ℕ) → by-state ls s .labels ≤ max-states
+  pub few : (s : ℕ) → by-state ls s .arcs ≤ max-states
 
 -- An arc that does not make its source better.
-abbrev pub No-better : Transducer → (cs : List Weight) → (ls : List ℕ) → (i : ℕ) → Type 0
+abbrev pub No-better : Transducer → (cs : List Weight) → (ls : Sizes) → (i : ℕ) → Type 0
 No-better t cs ls i =
-    No-worse (cost-at cs (arc t i .source)) (by-state ls (arc t i .source)) (cost-by t (cost-at cs) i) (arcs-by t (by-state ls) i)
+    No-worse (cost-at cs (arc t i .source)) (by-state ls (arc t i .source)) (cost-by t (cost-at cs) i) (size-by t (by-state ls) i)
 
 -- What relaxing an arc comes to: its source is kept as it is, gets better, or would get better by a path of too many arcs and is kept.
 abbrev pub kept : ℕ
@@ -134,7 +164,7 @@ too-long = 2
 
 -- What relaxing arc i leaves: neither it nor an arc that did not before makes its source better now, unless it leads to what got better. A path of as many
 -- arcs as states comes back to a state, and only round cycles below zero.
-pub record Relaxed (t : Transducer) (i : ℕ) (cs : List Weight) (ls : List ℕ) (cs' : List Weight) (ls' : List ℕ) (change : ℕ) : Type 0 where
+pub record Relaxed (t : Transducer) (i : ℕ) (cs : List Weight) (ls : Sizes) (cs' : List Weight) (ls' : Sizes) (change : ℕ) : Type 0 where
   pub known : change ≤ too-long
   pub cells : Cells cs' ls'
   pub nearing : Nearing t (cost-at cs') (by-state ls')
@@ -154,9 +184,10 @@ Light t least = (i : ℕ) → i < length (t .arcs) → At-most least (arc t i .w
 abbrev pub Leads-up : Transducer → Type 0
 Leads-up t = (i : ℕ) → i < length (t .arcs) → arc t i .source < arc t i .target
 
--- The same, with a weight of at most zero that none of the arcs is below.
+-- The same, and writes a label; with a weight of at most zero that none of the arcs is below.
 pub record Forward (t : Transducer) (least : Weight) : Type 0 where
   pub up : Leads-up t
+  pub writes : Writes t
   pub good : weight-good least ≡ true
   pub negative : At-most least no-weight
   pub light : Light t least
@@ -173,20 +204,20 @@ abbrev pub Barred : Transducer → (from to : ℕ) → (bar : Weight) → List W
 Barred t from to bar cs = (i : ℕ) → from ≤ i → i < to → At-most bar (cost-by t (cost-at cs) i)
 
 -- No arc from i on makes its source better.
-pub record Swept-from (t : Transducer) (i : ℕ) (cs : List Weight) (ls : List ℕ) : Type 0 where
+pub record Swept-from (t : Transducer) (i : ℕ) (cs : List Weight) (ls : Sizes) : Type 0 where
   pub cells : Cells cs ls
   pub nearing : Nearing t (cost-at cs) (by-state ls)
   pub settled : (x : ℕ) → i ≤ x → x < length (t .arcs) → No-better t cs ls x
 
 -- What a sweep over the arcs of state s, from one on, leaves.
-pub record State-swept (t : Transducer) (s from : ℕ) (cs cs' : List Weight) (ls' : List ℕ) (again : Bool) : Type 0 where
+pub record State-swept (t : Transducer) (s from : ℕ) (cs cs' : List Weight) (ls' : Sizes) (again : Bool) : Type 0 where
   pub cells : Cells cs' ls'
   pub nearing : Nearing t (cost-at cs') (by-state ls')
   pub others : (u : ℕ) → (u ≡ s → ⊥) → cost-at cs' u ≡ cost-at cs u
   pub settled : again ≡ false → Swept-from t from cs' ls'
 
 -- What a sweep over the arcs leaves: where no more may change all is settled.
-pub record Swept-says (t : Transducer) (cs : List Weight) (ls : List ℕ) (again : Bool) : Type 0 where
+pub record Swept-says (t : Transducer) (cs : List Weight) (ls : Sizes) (again : Bool) : Type 0 where
   pub cells : Cells cs ls
   pub nearing : Nearing t (cost-at cs) (by-state ls)
   pub settled : again ≡ false → Settled t anywhere (cost-at cs) (by-state ls)
@@ -195,9 +226,9 @@ pub record Swept-says (t : Transducer) (cs : List Weight) (ls : List ℕ) (again
 unfoldable pub cost-told : Weight → Weight
 cost-told x = cond (below x unreached) x no-path
 
--- What is left in the end: the least cost to come from each state that counts, with the fewest arcs at that cost; or a cycle below zero that such a state
--- leads to, before a final state.
-pub record Distances-say (t : Transducer) (counts : ℕ → Bool) (cs : List Weight) (ls : List ℕ) (r : Bool) : Type 0 where
+-- What is left in the end: the least cost to come from each state that counts, with the fewest labels at that cost and the fewest arcs with these; or a
+-- cycle below zero that such a state leads to, before a final state.
+pub record Distances-say (t : Transducer) (counts : ℕ → Bool) (cs : List Weight) (ls : Sizes) (r : Bool) : Type 0 where
   pub cells : Cells cs ls
   pub settled : r ≡ true → Settled t counts (cost-at cs) (by-state ls)
   pub least : r ≡ true → (s : ℕ) → s < t .states → counts s ≡ true → cost-told (cost-at cs s) ≡ least-to-come t s

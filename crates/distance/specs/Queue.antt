@@ -1,4 +1,4 @@
--- A queue of states, and costs and numbers of arcs on their way to be settled by it. Assumes nothing: these are definitions.
+-- A queue of states, and costs and sizes on their way to be settled by it. Assumes nothing: these are definitions.
 use mathlib.Core.Path.{_≡_}
 use mathlib.Core.Bool.{Bool, true, false}
 use mathlib.Core.Logic.{_⊎_}
@@ -11,7 +11,7 @@ use Rattle.transducer.specs.Weight.{Weight}
 use Rattle.paths.specs.Sweep.{total}
 use Rattle.reach.specs.Counted.{count}
 use Rattle.least.specs.Cycles.{Falls}
-use Rattle.distance.specs.Nearest.{cost-at, by-state, Nearing, No-better, Cells, height}
+use Rattle.distance.specs.Nearest.{Sizes, cost-at, by-state, Nearing, No-better, Cells, height}
 
 -- The cell of a ring of 1,024 that stands so many behind its head.
 unfoldable pub cell : (head k : ℕ) → ℕ
@@ -34,8 +34,8 @@ pub record Queue (n : ℕ) (ring : List ℕ) (waits : List Bool) (head many : �
   pub waits-there : (k : ℕ) → k < many → waiting waits (getD ring (cell head k) 0) ≡ true
   pub once : (j k : ℕ) → j < many → k < many → getD ring (cell head j) 0 ≡ getD ring (cell head k) 0 → j ≡ k
 
--- What falls with each state that comes off the queue: a state comes on only when its cost or number of arcs falls.
-unfoldable pub to-do : Transducer → (cs : List Weight) → (ls : List ℕ) → (many : ℕ) → ℕ
+-- What falls with each state that comes off the queue: a state comes on only when its cost or size falls.
+unfoldable pub to-do : Transducer → (cs : List Weight) → (ls : Sizes) → (many : ℕ) → ℕ
 to-do t cs ls many = total (t .states) (height (cost-at cs) (by-state ls)) + many
 
 -- What stands for a number of states that wait where a path had too many arcs: from a marked state a cycle below zero lies on an accepting path.
@@ -44,22 +44,22 @@ stuck = 65535
 
 -- What relaxing arc i leaves where its source joins the queue when it gets better: an arc from a marked state makes that better only where it leads to a
 -- state that waits, if that held before or it is arc i.
-pub record Joined (t : Transducer) (m : ℕ → Bool) (i : ℕ) (cs : List Weight) (ls : List ℕ) (waits : List Bool) (many : ℕ) (cs' : List Weight)
-    (ls' ring' : List ℕ) (waits' : List Bool) (head many' : ℕ) : Type 0 where
+pub record Joined (t : Transducer) (m : ℕ → Bool) (i : ℕ) (cs : List Weight) (ls : Sizes) (waits : List Bool) (many : ℕ) (cs' : List Weight)
+    (ls' : Sizes) (ring' : List ℕ) (waits' : List Bool) (head many' : ℕ) : Type 0 where
   pub queue : Queue (t .states) ring' waits' head many'
   pub settles : (x : ℕ) → m (arc t x .source) ≡ true → (x ≡ i) ⊎ ((waiting waits (arc t x .target) ≡ true) ⊎ No-better t cs ls x)
       → (waiting waits' (arc t x .target) ≡ true) ⊎ No-better t cs' ls' x
   pub falls : to-do t cs' ls' many' ≤ to-do t cs ls many
 
-pub record Joins (t : Transducer) (m : ℕ → Bool) (i : ℕ) (cs : List Weight) (ls : List ℕ) (waits : List Bool) (many : ℕ) (cs' : List Weight)
-    (ls' ring' : List ℕ) (waits' : List Bool) (head r : ℕ) : Type 0 where
+pub record Joins (t : Transducer) (m : ℕ → Bool) (i : ℕ) (cs : List Weight) (ls : Sizes) (waits : List Bool) (many : ℕ) (cs' : List Weight)
+    (ls' : Sizes) (ring' : List ℕ) (waits' : List Bool) (head r : ℕ) : Type 0 where
   pub cells : Cells cs' ls'
   pub nearing : Nearing t (cost-at cs') (by-state ls')
   pub joined : (r ≡ stuck → ⊥) → Joined t m i cs ls waits many cs' ls' ring' waits' head r
   pub stays : r ≡ stuck → Falls t m
 
--- Costs and numbers of arcs on their way: an arc from a marked state that makes that better leads to a state that waits, or is one of those left to relax.
-pub record Draining (t : Transducer) (m left : ℕ → Bool) (cs : List Weight) (ls ring : List ℕ) (waits : List Bool) (head many : ℕ) : Type 0 where
+-- Costs and sizes on their way: an arc from a marked state that makes that better leads to a state that waits, or is one of those left to relax.
+pub record Draining (t : Transducer) (m left : ℕ → Bool) (cs : List Weight) (ls : Sizes) (ring : List ℕ) (waits : List Bool) (head many : ℕ) : Type 0 where
   pub cells : Cells cs ls
   pub nearing : Nearing t (cost-at cs) (by-state ls)
   pub queue : Queue (t .states) ring waits head many
@@ -70,8 +70,8 @@ pub record Draining (t : Transducer) (m left : ℕ → Bool) (cs : List Weight) 
 abbrev pub none : (i : ℕ) → Bool
 none i = false
 
--- What relaxing a run of arcs leaves, from costs and numbers with so much to do.
-pub record Drains (t : Transducer) (m : ℕ → Bool) (todo : ℕ) (cs : List Weight) (ls ring : List ℕ) (waits : List Bool) (head r : ℕ) : Type 0 where
+-- What relaxing a run of arcs leaves, from costs and sizes with so much to do.
+pub record Drains (t : Transducer) (m : ℕ → Bool) (todo : ℕ) (cs : List Weight) (ls : Sizes) (ring : List ℕ) (waits : List Bool) (head r : ℕ) : Type 0 where
   pub cells : Cells cs ls
   pub nearing : Nearing t (cost-at cs) (by-state ls)
   pub draining : (r ≡ stuck → ⊥) → Draining t m none cs ls ring waits head r
@@ -79,7 +79,7 @@ pub record Drains (t : Transducer) (m : ℕ → Bool) (todo : ℕ) (cs : List We
   pub stays : r ≡ stuck → Falls t m
 
 -- What the queue leaves in the end.
-pub record Drained (t : Transducer) (m : ℕ → Bool) (cs : List Weight) (ls : List ℕ) (r : Bool) : Type 0 where
+pub record Drained (t : Transducer) (m : ℕ → Bool) (cs : List Weight) (ls : Sizes) (r : Bool) : Type 0 where
   pub cells : Cells cs ls
   pub nearing : Nearing t (cost-at cs) (by-state ls)
   pub relaxed : r ≡ true → (i : ℕ) → i < length (t .arcs) → m (arc t i .source) ≡ true → No-better t cs ls i

@@ -1,6 +1,7 @@
 // The least cost still to come from each state.
 ghost use lib.ListN.{length};
 ghost use Rattle.distance.specs.Entry.{Costs-say, costs-refusal};
+use crate::begun;
 use crate::cells;
 use crate::near;
 
@@ -10,7 +11,7 @@ pub fn costs_to_come(table: &[u8], cells: &mut [i64]) -> u32
     ensures { λ r. ⌜ Costs-say (now (table .entry)) (costs-refusal (now (table .entry)) (length (now (cells .entry)))) r
         (now (cells .entry)) (now (cells .exit)) ⌝ }
 {
-    let seen = transducer::look(table);
+    let seen = transducer::look(table, true);
     let number = seen.refusal;
     if number != 0 {
         return number;
@@ -19,13 +20,11 @@ pub fn costs_to_come(table: &[u8], cells: &mut [i64]) -> u32
         return 10;
     }
     let mut index = [0u16; transducer::INDEX_LEN];
-    let mut codes = [0u32; transducer::MAX_STATES];
-    let shape = transducer::prepare(table, &mut index, &mut codes);
     let mut costs = [0i32; transducer::MAX_STATES];
-    near::own_costs(shape.states, &codes, &mut costs);
-    let plain = near::is_plain(shape.states, shape.arcs, seen.least, &costs);
-    let forward = near::by_states(shape.states, shape.arcs, seen.least, seen.up);
-    let mut lens = [0u16; transducer::MAX_STATES];
+    let shape = begun::begin(table, &mut index, &mut costs);
+    let plain = near::is_plain(shape.states, seen.writes, seen.least, &costs);
+    let forward = near::by_states(seen.writes, seen.least, seen.up);
+    let mut lens = [0u32; transducer::MAX_STATES];
     let settled = near::distances(
         table,
         shape.first,

@@ -1,17 +1,17 @@
-// By state, the least cost to come and the fewest arcs at that cost, updated in place until nothing changes.
+// By state, the least cost to come, the fewest labels at that cost and the fewest arcs with these, updated in place until nothing changes.
 ghost use mathlib.Core.Path.{_≡_};
-ghost use Prim.Native.Nat.{ℕ, _≤_, _<_, min};
+ghost use Prim.Native.Nat.{ℕ, _+_, _*_, _≤_, _<_, min};
 ghost use mathlib.Core.Bool.{true, false};
-ghost use lib.ListN.{length, getD, replicate};
+ghost use lib.ListN.{length, replicate};
 ghost use Rattle.transducer.specs.Format.{max-states, decode, weight-good};
-ghost use Rattle.transducer.specs.Leaf.{Opened, Indexed, max-code};
+ghost use Rattle.transducer.specs.Leaf.{Opened, Indexed};
 ghost use Rattle.transducer.specs.Weight.{Weight, At-most, no-weight};
 ghost use Rattle.distance.specs.Distance.{nearer};
 ghost use Rattle.reach.specs.Index.{leads-to, By-target};
-ghost use Rattle.distance.specs.Nearest.{unreached, cost-at, by-state, onward, Rising, is-nearest, code-cost, least-cost, Nearing, Cells};
-ghost use Rattle.distance.specs.Nearest.{Forward, Leads-up, Leave, Barred, Swept-from, State-swept};
+ghost use Rattle.distance.specs.Nearest.{unpacked, cost-at, by-state, labels-of, onward, Rising, is-nearest, least-cost};
+ghost use Rattle.distance.specs.Nearest.{Nearing, Cells, Writes, Forward, Leads-up, Leave, Barred, Swept-from, State-swept};
 ghost use Rattle.distance.specs.Nearest.{Plain-costs, counted, Relaxed, Swept-says, Distances-say};
-ghost use Rattle.distance.specs.Queue.{mark, Queue, Joins, Draining, Drains, Drained, none, to-do};
+ghost use Rattle.distance.specs.Queue.{mark, Queue, Joins, Draining, Drains, Drained, to-do};
 use crate::queue;
 use transducer::INDEX_LEN;
 use transducer::MAX_ARCS;
@@ -30,9 +30,6 @@ const BETTER: u8 = 1;
 
 const TOO_LONG: u8 = 2;
 
-// So many arcs to a state make it worth a look whether they can be passed over.
-const MANY: usize = 16;
-
 // In place of a number of states that wait: a path had too many arcs.
 const STUCK: usize = 65535;
 
@@ -47,9 +44,9 @@ pub fn sum(weight: i32, cost: i32) -> i32
     UNREACHED
 }
 
-// Whether a cost and a number of arcs come before another.
-pub fn comes_first(cost: i32, arcs: u16, other: i32, most: u16) -> bool
-    ensures { λ r. ⌜ r ≡ nearer cost arcs other most ⌝ }
+// Whether a cost and a size come before another. A size is 65,536 for each label and 1 for each arc, so that one comparison does for both.
+pub fn comes_first(cost: i32, size: u32, other: i32, most: u32) -> bool
+    ensures { λ r. ⌜ r ≡ nearer cost (unpacked size) other (unpacked most) ⌝ }
 {
     if cost < other {
         return true;
@@ -57,7 +54,24 @@ pub fn comes_first(cost: i32, arcs: u16, other: i32, most: u16) -> bool
     if other < cost {
         return false;
     }
-    arcs < most
+    size < most
+}
+
+// The size of an arc: one arc, and one label unless its output is empty.
+pub fn arc_size(output: u16) -> u32
+    ensures { λ r. ⌜ (r ≡ 1 + 65536 * labels-of output) × (r ≤ 65537) ⌝ }
+{
+    if output == 0 {
+        return 1;
+    }
+    65537
+}
+
+// How many arcs there are in a size.
+pub fn arcs_of(size: u32) -> usize
+    ensures { λ r. ⌜ r ≡ unpacked size .arcs ⌝ }
+{
+    (size & 65535) as usize
 }
 
 // The lower of two numbers.
@@ -70,11 +84,11 @@ fn lower(a: u16, b: u16) -> u16
     a
 }
 
-// Whether no arc makes a cost and a number of arcs better where none gives a cost below `bar`.
-fn is_nearest(bar: i32, cost: i32, arcs: u16) -> bool
-    ensures { λ r. ⌜ r ≡ is-nearest bar cost arcs ⌝ }
+// Whether no arc makes a cost and a size better where each arc writes a label and none gives a cost below `bar`.
+fn is_nearest(bar: i32, cost: i32, size: u32) -> bool
+    ensures { λ r. ⌜ r ≡ is-nearest bar cost (unpacked size) ⌝ }
 {
-    (cost <= bar) & (arcs <= 1)
+    (cost <= bar) & (size <= 65537)
 }
 
 // Whether none of so many costs is below zero.
@@ -92,13 +106,13 @@ fn costs_rise(states: usize, costs: &[i32; MAX_STATES]) -> bool
     true
 }
 
-// Whether it is plain that no weight is below zero, by a weight that none of the arcs is below and the costs of the empty paths. These are looked at only
-// where states have many arcs, of which those before one of weight 0 may be passed over then.
-pub fn is_plain(states: usize, arcs: usize, least: i32, costs: &[i32; MAX_STATES]) -> bool
+// Whether it is plain that no weight is below zero and each arc writes a label, by what a look told: whether each is known to write one (`writing`), which is
+// so only where states have many arcs, and a weight that none is below. Only there is it worth going through the costs of the empty paths.
+pub fn is_plain(states: usize, writing: bool, least: i32, costs: &[i32; MAX_STATES]) -> bool
     requires { ⌜ states ≤ max-states ⌝ }
-    ensures { λ r. ⌜ (r ≡ true → Plain-costs least states (now (costs .entry))) ⌝ }
+    ensures { λ r. ⌜ (r ≡ true → (writing ≡ true) × Plain-costs least states (now (costs .entry))) ⌝ }
 {
-    if arcs <= MANY * states {
+    if !writing {
         return false;
     }
     if least < 0 {
@@ -107,71 +121,47 @@ pub fn is_plain(states: usize, arcs: usize, least: i32, costs: &[i32; MAX_STATES
     costs_rise(states, costs)
 }
 
-// Whether a sweep goes by states: where states have many arcs, some weights are below zero, and it is known (`up`) that each arc leads to a higher state.
-pub fn by_states(states: usize, arcs: usize, least: i32, up: bool) -> bool
-    requires { ⌜ states ≤ max-states ⌝ }
-    ensures { λ r. ⌜ (r ≡ true → (up ≡ true) × (weight-good least ≡ true) × At-most least no-weight) ⌝ }
+// Whether a sweep goes by states: where some weights are below zero, and a look told that each arc writes a label (`writing`) and leads to a higher state
+// (`up`), as it does only where states have many arcs.
+pub fn by_states(writing: bool, least: i32, up: bool) -> bool
+    ensures { λ r. ⌜ (r ≡ true → (writing ≡ true) × (up ≡ true) × (weight-good least ≡ true) × At-most least no-weight) ⌝ }
 {
-    if arcs <= MANY * states {
-        return false;
-    }
     if 0 <= least {
         return false;
     }
     if !transducer::weight_ok(least) {
         return false;
     }
-    up
+    writing & up
 }
 
-// The cost of the empty path, by a state's final code.
-fn own(code: u32) -> i32
-    requires { ⌜ code ≤ max-code ⌝ }
-    ensures { λ r. ⌜ (r ≡ code-cost code) × At-most least-cost r × At-most r unreached ⌝ }
-{
-    if code == 0 {
-        return UNREACHED;
-    }
-    transducer::weight_of(code)
-}
-
-// Puts the cost of the empty path from each state into `costs`, an array of zeros.
-pub fn own_costs(states: usize, codes: &[u32; MAX_STATES], costs: &mut [i32; MAX_STATES])
-    requires { ⌜ (states ≤ max-states) × (now costs ≡ replicate max-states no-weight) × ((s : ℕ) → s < max-states → getD (now codes) s 0 ≤ max-code) ⌝ }
-    ensures { λ _. ⌜ (length (now (costs .exit)) ≡ max-states)
-        × ((s : ℕ) → s < states → cost-at (now (costs .exit)) s ≡ code-cost (getD (now (codes .entry)) s 0))
-        × ((s : ℕ) → At-most least-cost (cost-at (now (costs .exit)) s)) × ((s : ℕ) → At-most (cost-at (now (costs .exit)) s) unreached) ⌝ }
-{
-    let mut s = 0;
-    while s < states {
-        costs[s] = own(codes[s]);
-        s += 1;
-    }
-}
-
-// Brings the source of arc `i` up to date by its target; what that came to. A path of as many arcs as there are states comes back to a state: it got
-// better by a cycle below zero.
+// Brings the source of arc `i` up to date by its target; what that came to. Where the arc is dearer its size is not counted. A path of as many
+// arcs as there are states comes back to a state: it got better by a cycle below zero.
 fn relax(
     table: &[u8],
     first: usize,
     i: usize,
     states: usize,
     costs: &mut [i32; MAX_STATES],
-    lens: &mut [u16; MAX_STATES],
+    lens: &mut [u32; MAX_STATES],
 ) -> u8
     requires { ⌜ Opened (now table) first × (i < length (decode (now table) .arcs)) × (states ≡ decode (now table) .states)
         × Nearing (decode (now table)) (cost-at (now costs)) (by-state (now lens)) × Cells (now costs) (now lens) ⌝ }
-    ensures { λ r. ⌜ Relaxed (decode (now (table .entry))) i (now (costs .entry)) (now (lens .entry)) (now (costs .exit)) (now (lens .exit)) r ⌝ }
+    ensures { λ r. ⌜ Relaxed (decode (now (table .entry))) i (now (costs .entry)) (now (lens .entry))
+        (now (costs .exit)) (now (lens .exit)) r ⌝ }
 {
     let a = transducer::arc_of(table, first, i);
     let s = a.source as usize;
     let to = a.target as usize;
     let cost = sum(a.weight, costs[to]);
-    let len = lens[to] + 1;
+    if costs[s] < cost {
+        return KEPT;
+    }
+    let len = lens[to] + arc_size(a.output);
     if !comes_first(cost, len, costs[s], lens[s]) {
         return KEPT;
     }
-    if states <= len as usize {
+    if states <= arcs_of(len) {
         return TOO_LONG;
     }
     costs[s] = cost;
@@ -190,11 +180,13 @@ fn sweep_state(
     to: usize,
     bar: i32,
     costs: &mut [i32; MAX_STATES],
-    lens: &mut [u16; MAX_STATES],
+    lens: &mut [u32; MAX_STATES],
 ) -> bool
-    requires { ⌜ Opened (now table) first × (states ≡ decode (now table) .states) × Leads-up (decode (now table)) × Leave (decode (now table)) s from to
-        × Barred (decode (now table)) from to bar (now costs) × Swept-from (decode (now table)) to (now costs) (now lens) ⌝ }
-    ensures { λ r. ⌜ State-swept (decode (now (table .entry))) s from (now (costs .entry)) (now (costs .exit)) (now (lens .exit)) r ⌝ }
+    requires { ⌜ Opened (now table) first × (states ≡ decode (now table) .states) × Leads-up (decode (now table)) × Writes (decode (now table))
+        × Leave (decode (now table)) s from to × Barred (decode (now table)) from to bar (now costs)
+        × Swept-from (decode (now table)) to (now costs) (now lens) ⌝ }
+    ensures { λ r. ⌜ State-swept (decode (now (table .entry))) s from (now (costs .entry)) (now (costs .exit))
+        (now (lens .exit)) r ⌝ }
 {
     let mut i = to;
     while i > from {
@@ -232,10 +224,11 @@ fn sweep_states(
     index: &[u16; INDEX_LEN],
     least: i32,
     costs: &mut [i32; MAX_STATES],
-    lens: &mut [u16; MAX_STATES],
+    lens: &mut [u32; MAX_STATES],
 ) -> bool
     requires { ⌜ Opened (now table) first × (states ≡ decode (now table) .states) × Indexed (decode (now table)) (now index)
-        × Forward (decode (now table)) least × Nearing (decode (now table)) (cost-at (now costs)) (by-state (now lens)) × Cells (now costs) (now lens) ⌝ }
+        × Forward (decode (now table)) least
+        × Nearing (decode (now table)) (cost-at (now costs)) (by-state (now lens)) × Cells (now costs) (now lens) ⌝ }
     ensures { λ r. ⌜ Swept-says (decode (now (table .entry))) (now (costs .exit)) (now (lens .exit)) r ⌝ }
 {
     let mut floor = UNREACHED;
@@ -253,7 +246,8 @@ fn sweep_states(
     false
 }
 
-// Relaxes each arc, last arc first; where it is `plain` that no weight is below zero, once no arc makes a state better the rest of its arcs are passed over.
+// Relaxes each arc, last arc first; where it is `plain` that no weight is below zero and each arc writes a label, once no arc makes a state better the rest
+// of its arcs are passed over.
 // More may change where a state changed after an arc was read that leads to it or to one before it, or where a path had too many arcs.
 fn sweep(
     table: &[u8],
@@ -263,7 +257,7 @@ fn sweep(
     index: &[u16; INDEX_LEN],
     plain: bool,
     costs: &mut [i32; MAX_STATES],
-    lens: &mut [u16; MAX_STATES],
+    lens: &mut [u32; MAX_STATES],
 ) -> bool
     requires { ⌜ Opened (now table) first × (states ≡ decode (now table) .states) × (arcs ≡ length (decode (now table) .arcs))
         × Indexed (decode (now table)) (now index) × (plain ≡ true → Rising (decode (now table)))
@@ -302,7 +296,7 @@ fn sweep_once(
     forward: bool,
     least: i32,
     costs: &mut [i32; MAX_STATES],
-    lens: &mut [u16; MAX_STATES],
+    lens: &mut [u32; MAX_STATES],
 ) -> bool
     requires { ⌜ Opened (now table) first × (states ≡ decode (now table) .states) × (arcs ≡ length (decode (now table) .arcs))
         × Indexed (decode (now table)) (now index) × (plain ≡ true → Rising (decode (now table))) × (forward ≡ true → Forward (decode (now table)) least)
@@ -324,7 +318,7 @@ fn relax_and_join(
     states: usize,
     marks: &[bool; MAX_STATES],
     costs: &mut [i32; MAX_STATES],
-    lens: &mut [u16; MAX_STATES],
+    lens: &mut [u32; MAX_STATES],
     ring: &mut [u16; MAX_STATES],
     waits: &mut [bool; MAX_STATES],
     head: usize,
@@ -333,7 +327,8 @@ fn relax_and_join(
     requires { ⌜ Opened (now table) first × (i < length (decode (now table) .arcs)) × (states ≡ decode (now table) .states)
         × Nearing (decode (now table)) (cost-at (now costs)) (by-state (now lens)) × Cells (now costs) (now lens)
         × Queue (decode (now table) .states) (now ring) (now waits) head count ⌝ }
-    ensures { λ r. ⌜ Joins (decode (now (table .entry))) (mark (now (marks .entry))) i (now (costs .entry)) (now (lens .entry)) (now (waits .entry)) count
+    ensures { λ r. ⌜ Joins (decode (now (table .entry))) (mark (now (marks .entry))) i
+        (now (costs .entry)) (now (lens .entry)) (now (waits .entry)) count
         (now (costs .exit)) (now (lens .exit)) (now (ring .exit)) (now (waits .exit)) head r ⌝ }
 {
     let from = reach::source(table, first, i);
@@ -362,7 +357,7 @@ fn relax_all(
     arcs: usize,
     marks: &[bool; MAX_STATES],
     costs: &mut [i32; MAX_STATES],
-    lens: &mut [u16; MAX_STATES],
+    lens: &mut [u32; MAX_STATES],
     ring: &mut [u16; MAX_STATES],
     waits: &mut [bool; MAX_STATES],
 ) -> usize
@@ -404,28 +399,28 @@ fn relax_into(
     first: usize,
     states: usize,
     s: usize,
-    heads: &[u16; INDEX_LEN],
-    into: &[u16; MAX_ARCS],
+    heads: &[u16; MAX_STATES],
+    links: &[u16; MAX_ARCS],
     marks: &[bool; MAX_STATES],
     costs: &mut [i32; MAX_STATES],
-    lens: &mut [u16; MAX_STATES],
+    lens: &mut [u32; MAX_STATES],
     ring: &mut [u16; MAX_STATES],
     waits: &mut [bool; MAX_STATES],
     head: usize,
     count: usize,
 ) -> usize
-    requires { ⌜ Opened (now table) first × (states ≡ decode (now table) .states) × By-target (decode (now table)) (now heads) (now into)
+    requires { ⌜ Opened (now table) first × (states ≡ decode (now table) .states) × By-target (decode (now table)) (now heads) (now links)
         × (s < decode (now table) .states) × Draining (decode (now table)) (mark (now marks)) (leads-to (decode (now table)) s)
         (now costs) (now lens) (now ring) (now waits) head count ⌝ }
     ensures { λ r. ⌜ Drains (decode (now (table .entry))) (mark (now (marks .entry)))
         (to-do (decode (now (table .entry))) (now (costs .entry)) (now (lens .entry)) count)
         (now (costs .exit)) (now (lens .exit)) (now (ring .exit)) (now (waits .exit)) head r ⌝ }
 {
-    let to = heads[s + 1] as usize;
-    let mut at = heads[s] as usize;
+    let mut link = heads[s] as usize;
     let mut waiting = count;
-    while at < to {
-        let i = into[at] as usize;
+    while 0 < link {
+        let i = link - 1;
+        link = links[i] as usize;
         let next = relax_and_join(
             table,
             first,
@@ -443,7 +438,6 @@ fn relax_into(
             return STUCK;
         }
         waiting = next;
-        at += 1;
     }
     waiting
 }
@@ -457,15 +451,15 @@ fn drain(
     arcs: usize,
     marks: &[bool; MAX_STATES],
     costs: &mut [i32; MAX_STATES],
-    lens: &mut [u16; MAX_STATES],
+    lens: &mut [u32; MAX_STATES],
 ) -> bool
     requires { ⌜ Opened (now table) first × (states ≡ decode (now table) .states) × (arcs ≡ length (decode (now table) .arcs))
         × Nearing (decode (now table)) (cost-at (now costs)) (by-state (now lens)) × Cells (now costs) (now lens) ⌝ }
     ensures { λ r. ⌜ Drained (decode (now (table .entry))) (mark (now (marks .entry))) (now (costs .exit)) (now (lens .exit)) r ⌝ }
 {
-    let mut heads = [0u16; INDEX_LEN];
-    let mut into = [0u16; MAX_ARCS];
-    reach::by_target(table, first, states, arcs, &mut heads, &mut into);
+    let mut heads = [0u16; MAX_STATES];
+    let mut links = [0u16; MAX_ARCS];
+    reach::by_target(table, first, arcs, &mut heads, &mut links);
     let mut ring = [0u16; MAX_STATES];
     let mut waits = [false; MAX_STATES];
     let mut count = relax_all(
@@ -492,7 +486,7 @@ fn drain(
             states,
             s,
             &heads,
-            &into,
+            &links,
             marks,
             costs,
             lens,
@@ -509,7 +503,8 @@ fn drain(
     true
 }
 
-// The least cost to come from each state, `everywhere` or where the start leads, with the fewest arcs at that cost; `costs` begins with the empty paths' costs.
+// The least cost to come from each state, `everywhere` or where the start leads, with the fewest labels at that cost and the fewest arcs with these; `costs`
+// begins with the empty paths' costs.
 // False where from such a state a cycle below zero lies before a final state.
 // Arcs most often lead to higher numbers, so that one sweep, the last arc first, most often settles all. Else the queue goes over all states first; only where
 // a path has too many arcs are those left out to which the start does not lead, if they may be.
@@ -525,13 +520,14 @@ pub fn distances(
     forward: bool,
     least: i32,
     costs: &mut [i32; MAX_STATES],
-    lens: &mut [u16; MAX_STATES],
+    lens: &mut [u32; MAX_STATES],
 ) -> bool
     requires { ⌜ Opened (now table) first × (states ≡ decode (now table) .states) × (arcs ≡ length (decode (now table) .arcs))
         × (start ≡ decode (now table) .start) × Indexed (decode (now table)) (now index) × (plain ≡ true → Rising (decode (now table)))
         × (forward ≡ true → Forward (decode (now table)) least)
         × Nearing (decode (now table)) (cost-at (now costs)) (by-state (now lens)) × Cells (now costs) (now lens) ⌝ }
-    ensures { λ r. ⌜ Distances-say (decode (now (table .entry))) (counted everywhere (decode (now (table .entry)))) (now (costs .exit)) (now (lens .exit)) r ⌝ }
+    ensures { λ r. ⌜ Distances-say (decode (now (table .entry))) (counted everywhere (decode (now (table .entry))))
+        (now (costs .exit)) (now (lens .exit)) r ⌝ }
 {
     if !sweep_once(
         table,

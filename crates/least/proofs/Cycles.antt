@@ -1,6 +1,6 @@
 -- A path with at least as many arcs as there are states has a cycle: where it sums below zero it is one of those of refusal 19, and else it can be left
 -- out. So an accepting path that is no dearer has fewer arcs than there are states, or a cycle below zero lies on it. Assumes nothing.
-use mathlib.Core.Path.{_≡_, refl, sym, ap, _∙_}
+use mathlib.Core.Path.{_≡_, refl, ap, _∙_}
 use mathlib.Core.Bool.{Bool, true, false}
 use mathlib.Core.Logic.{_⊎_, inl, inr}
 use mathlib.Core.List.{List, _++_}
@@ -10,7 +10,7 @@ use lib.Dec.{ltb}
 use lib.ListN.{length, length-append}
 use borrow.Author.Tests.{ltb-true, ltb-false}
 use Rattle.transducer.specs.Format.{Transducer}
-use Rattle.transducer.specs.Path.{runs, ends, arcs-cost}
+use Rattle.transducer.specs.Path.{runs, ends, written-by, arcs-cost}
 use Rattle.transducer.specs.Weight.{no-weight, plus, At-most, Below}
 use Rattle.transducer.proofs.Weights.{sums, either}
 use Rattle.transducer.proofs.Runs.{Accepting, append-accepting, runs-append, ends-append, Within}
@@ -19,6 +19,7 @@ use Rattle.wire.proofs.Bool.{true-and}
 use Rattle.least.specs.Costs.{cost-from}
 use Rattle.least.specs.Cycles.{Falling}
 use Rattle.least.proofs.Costs.{cost-append, cost-round}
+use Rattle.least.proofs.Labels.{labels-append}
 
 -- The rest is an accepting path from the cycle on, and the whole is one with the cycle on it.
 pub falling-rest : (t : Transducer) (s : ℕ) → (f : Falling t s) → Accepting t (ends t s (f .lead)) (f .rest)
@@ -60,12 +61,13 @@ falling-behind t s p h f =
       sum = f .sum;
     }
 
--- An accepting path that is no dearer and has no more arcs, fewer than there are states.
+-- An accepting path that is no dearer, writes no more labels and has no more arcs, fewer than there are states.
 pub record Shorter (t : Transducer) (s : ℕ) (p : List ℕ) : Type 0 where
   pub path : List ℕ
   pub accepting : Accepting t s path
   pub few : length path < t .states
   pub costs : At-most (cost-from t s path) (cost-from t s p)
+  pub labels : length (written-by t path) ≤ length (written-by t p)
   pub arcs : length path ≤ length p
 
 -- A cycle left out.
@@ -73,6 +75,7 @@ record Cut (t : Transducer) (s : ℕ) (p : List ℕ) : Type 0 where
   path : List ℕ
   accepting : Accepting t s path
   costs : At-most (cost-from t s path) (cost-from t s p)
+  labels : length (written-by t path) ≤ length (written-by t p)
   arcs : length path < length p
 
 cut : (t : Transducer) (s : ℕ) (p : List ℕ) → (r : Ring t s p) → Accepting t s p → At-most no-weight (arcs-cost t (r .ring)) → Cut t s p
@@ -91,12 +94,20 @@ cut t s p r a high =
       path = q;
       accepting = append-accepting t s (r .lead) (r .rest) (o .there) (o .on);
       costs = rw (cost-append t s (r .lead) (r .rest), whole) (omega (arith, sums));
+      labels = omega (
+        arith,
+        ap (λ (x : List ℕ). length (written-by t x)) (r .whole),
+        labels-append t (r .lead) (r .ring ++ r .rest),
+        labels-append t (r .ring) (r .rest),
+        labels-append t (r .lead) (r .rest),
+      );
       arcs = omega arith;
     }
 
 shorter-by : (t : Transducer) → Within t → (s : ℕ) → s < t .states → (fuel : ℕ) (p : List ℕ) → length p ≤ fuel → Accepting t s p
     → Falling t s ⊎ Shorter t s p
-shorter-by t w s b zero p h a = inr (record { path = p; accepting = a; few = omega arith; costs = omega (arith, sums); arcs = omega arith })
+shorter-by t w s b zero p h a =
+    inr (record { path = p; accepting = a; few = omega arith; costs = omega (arith, sums); labels = omega arith; arcs = omega arith })
 shorter-by t w s b (suc fuel) p h a = on (λ q l. shorter-by t w s b fuel q l) (ltb (length p) (t .states)) refl
   where
     next : (q : Cut t s p) → Falling t s ⊎ Shorter t s (q .path) → Falling t s ⊎ Shorter t s p
@@ -107,6 +118,7 @@ shorter-by t w s b (suc fuel) p h a = on (λ q l. shorter-by t w s b fuel q l) (
           accepting = d .accepting;
           few = d .few;
           costs = omega (arith, sums, d .costs, q .costs);
+          labels = omega (arith, d .labels, q .labels);
           arcs = omega (arith, d .arcs, q .arcs);
         })
 
@@ -121,7 +133,7 @@ shorter-by t w s b (suc fuel) p h a = on (λ q l. shorter-by t w s b fuel q l) (
     on : ((q : List ℕ) → length q ≤ fuel → Accepting t s q → Falling t s ⊎ Shorter t s q) → (c : Bool) → ltb (length p) (t .states) ≡ c
         → Falling t s ⊎ Shorter t s p
     on below true e =
-        inr (record { path = p; accepting = a; few = ltb-true (length p) (t .states) e; costs = omega (arith, sums); arcs = omega arith })
+        inr (record { path = p; accepting = a; few = ltb-true (length p) (t .states) e; costs = omega (arith, sums); labels = omega arith; arcs = omega arith })
     on below false e =
         let r : Ring t s p = long-has-ring t w s p b (a .goes) (ltb-false (length p) (t .states) e) in
         around below r (either (arcs-cost t (r .ring)) no-weight)

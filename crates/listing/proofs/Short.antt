@@ -16,6 +16,7 @@ use Rattle.transducer.specs.Path.{arc, no-arc, non-empty, ends, final-weight, w
 use Rattle.transducer.proofs.Good.{arc-light, finals-light, arc-labels-below}
 use Rattle.transducer.proofs.Finals.{final-weight-good}
 use Rattle.transducer.proofs.Weights.{magnitude-plus, good-size}
+use Rattle.transducer.proofs.Paths.{written-by-short}
 use Rattle.transducer.proofs.Runs.{Accepting, AcceptingBy, accepts-accepting, accepting-cons}
 use Rattle.paths.specs.Count.{endless, path-count, nth-path, most-counted}
 use Rattle.paths.proofs.Ready.{Sized}
@@ -95,15 +96,6 @@ line-short : (k : ℕ) (cost : Weight) (labels : List ℕ) → magnitude cost < 
 line-short k cost labels b few h = omega (arith, length-line k cost labels, cost-text-short cost b, labels-text-short labels h)
 
 -- Paths
-
-pub written-by-short : (t : Transducer) (p : List ℕ) → length (written-by t p) ≤ length p
-unfolding written-by non-empty
-written-by-short t [] = omega arith
-written-by-short t (i ∷ p) = on (eqb (arc t i .output) 0) (written-by-short t p)
-  where
-    on : (b : Bool) → length (written-by t p) ≤ length p → length (cond b (written-by t p) (arc t i .output ∷ written-by t p)) ≤ suc (length p)
-    on true h = omega arith
-    on false h = omega arith
 
 arcs-cost-low : (t : Transducer) → Sized t → (s : ℕ) (p : List ℕ) → Accepting t s p → magnitude (arcs-cost t p) ≤ 1000000 * length p
 unfolding arcs-cost arc

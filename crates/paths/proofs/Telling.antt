@@ -1,6 +1,6 @@
 -- A path told arc by arc: the arcs from i on cost and write what is left (`Telling`). Assumes nothing.
 use mathlib.Core.Path.{_≡_, refl, sym, ap, _∙_}
-use mathlib.Core.Bool.{Bool, true, false, cond}
+use mathlib.Core.Bool.{true, false}
 use mathlib.Core.List.{List, [], _∷_, _++_, append-assoc, append-nil}
 use Prim.Native.Nat.{ℕ, suc, _+_, _-_, _*_, _≤_, _<_}
 use native.Mathlib.Omega.{arith}
@@ -10,7 +10,6 @@ use lib.ListN.{length, getD, set, take, drop, length-set, drop-of-length-le}
 use lib.Seq.{drop-cons, length-take-le, take-suc-set}
 use Rattle.wire.specs.Bytes.{cleared, filled}
 use Rattle.transducer.specs.declared.Arc.{Arc}
-use Rattle.transducer.specs.declared.Final.{Final}
 use Rattle.transducer.specs.Format.{Transducer, weight-good}
 use Rattle.transducer.specs.Weight.{Weight, no-weight, plus, magnitude, weight-of}
 use Rattle.transducer.specs.Path.{arc, no-arc, is-final, final-weight, ends, accepts, written-by, arcs-cost, path-cost}
@@ -20,8 +19,9 @@ use Rattle.transducer.proofs.Good.{arc-light, finals-light}
 use Rattle.transducer.proofs.Finals.{final-code-some, weight-final-code}
 use Rattle.transducer.proofs.Weights.{none-plus, plus-none, plus-assoc, magnitude-plus, good-size}
 use Rattle.transducer.proofs.Paths.{empty-passed, symbol-kept}
-use Rattle.transducer.proofs.Runs.{Accepting, AcceptingBy, accepts-accepting, accepting-cons, accepting-nil}
-use Rattle.paths.specs.Entry.{Tells}
+use Rattle.transducer.proofs.Runs.{Accepting, AcceptingBy, accepts-accepting, accepting-cons}
+use Rattle.paths.specs.declared.PathEnd.{PathEnd}
+use Rattle.paths.specs.Entry.{Labels-put, Tells}
 use Rattle.paths.proofs.Ready.{Sized}
 
 pub record Telling (t : Transducer) (p : List ℕ) (room : ℕ) (labels : List ℕ) (s : ℕ) (cost : Weight) (m i : ℕ) : Type 0 where
@@ -123,48 +123,55 @@ module _ (t : Transducer) (z : Sized t) (p : List ℕ) (room : ℕ) (labels : Li
       → Telling t p room (set labels m (a .output)) (a .target) (plus cost (a .weight)) (m + 1) (i + 1)
   telling-put a is q = rw is (telling-symbol (rw is at q))
 
+-- All arcs are passed.
+pub telling-stop : (t : Transducer) → Sized t → (p : List ℕ) (labels labels' old : List ℕ) (s : ℕ) (cost : Weight) (m i : ℕ)
+    → Telling t p (length old) labels s cost m i → length p ≤ i → labels' ≡ cleared m labels
+    → Labels-put t p (record { state = s; cost = cost; labels = m }) old labels'
+unfolding arcs-cost written-by ends cleared filled
+telling-stop t z p labels labels' old s cost m i k h e =
+    let none : drop i p ≡ [] = drop-of-length-le p h in
+    let costs : plus cost no-weight ≡ arcs-cost t p = rw none at (k .costs) in
+    let end : ends t s [] ≡ ends t (t .start) p = rw none at (k .end) in
+    let writes : written-by t p ≡ take m labels = (rw none at (k .writes)) ∙ append-nil (take m labels) in
+    let long : length (take m labels) ≡ m = length-take-le m labels (omega (arith, k .few, k .below, k .short, k .enough, k .long)) in
+    record {
+      labels = e ∙ rw (writes, long, k .long);
+      labels-is = rw (writes, long);
+      few = omega (arith, k .few, k .below, k .short);
+      cost-is = sym (plus-none cost) ∙ costs;
+      low = omega (arith, k .low, k .below, k .short);
+      state-is = end;
+      inside = omega (arith, k .inside, z .states);
+    }
+
 -- A code that is not 0 is one of a weight.
 some-code : (code : ℕ) → eqb code 0 ≡ false → 1 ≤ code
 some-code code e = omega (arith, eqb-false code 0 e)
 
--- All arcs are told.
-pub record Told-all (t : Transducer) (p : List ℕ) (room : ℕ) (labels : List ℕ) (s : ℕ) (cost : Weight) (m code : ℕ) : Type 0 where
+-- The final code of the last state.
+pub record Last-code (t : Transducer) (p : List ℕ) (cost : Weight) (code : ℕ) : Type 0 where
   pub some : 1 ≤ code
-  pub code-low : code ≤ max-code
+  pub low : code ≤ max-code
   pub costs : plus cost (weight-of code) ≡ path-cost t p
-  pub many : m ≡ length (written-by t p)
-  pub behind : cleared m labels ≡ filled room (written-by t p)
-  pub short : length p ≤ 1023
-  pub few : m ≤ 1023
-  pub low : magnitude cost ≤ 1023000000
 
-pub tells : (t : Transducer) (p : List ℕ) (labels labels' old : List ℕ) (s : ℕ) (cost : Weight) (m code len : ℕ)
-    → Told-all t p (length old) labels s cost m code → len ≡ length p
-    → labels' ≡ cleared m labels → Tells t p (record { refusal = 0; cost = plus cost (weight-of code); arcs = len; labels = m }) old labels'
-unfolding unless cost-unless left-in
-tells t p labels labels' old s cost m code len k l e =
-    record { refusal-is = refl; cost-is = k .costs; arcs-is = l; labels-is = k .many; arcs = refl; labels = e ∙ k .behind }
-
-pub telling-stop : (t : Transducer) → Sized t → (p : List ℕ) (room : ℕ) (labels codes : List ℕ) (s : ℕ) (cost : Weight) (m i code : ℕ)
-    → Telling t p room labels s cost m i → length p ≤ i
-    → Finals-by-state t codes → s < 1024 → code ≡ getD codes s 0 → Told-all t p room labels s cost m code
-unfolding arcs-cost written-by ends path-cost cleared filled
-telling-stop t z p room labels codes s cost m i code k h f l e =
-    let none : drop i p ≡ [] = drop-of-length-le p h in
-    let costs : plus cost no-weight ≡ arcs-cost t p = rw none at (k .costs) in
-    let end : ends t s [] ≡ ends t (t .start) p = rw none at (k .end) in
-    let final : is-final (t .finals) s ≡ true = accepting-nil t s (rw none at (k .rest)) in
-    let coded : code ≡ final-code (t .finals) s = e ∙ f .at-state s l in
-    let is : weight-of code ≡ final-weight (t .finals) s = rw coded (weight-final-code (t .finals) s (finals-light t (z .content)) final) in
-    let writes : written-by t p ≡ take m labels = (rw none at (k .writes)) ∙ append-nil (take m labels) in
-    let long : length (take m labels) ≡ m = length-take-le m labels (omega (arith, k .few, k .below, k .short, k .enough, k .long)) in
+pub last-code : (t : Transducer) → Sized t → (p codes : List ℕ) {r : PathEnd} {b b' : List ℕ} → accepts t p ≡ true → Labels-put t p r b b'
+    → Finals-by-state t codes → Last-code t p (r .cost) (getD codes (r .state) 0)
+unfolding path-cost
+last-code t z p codes {r} h k f =
+    let s : ℕ = r .state in
+    let final : is-final (t .finals) s ≡ true = rw (k .state-is) (accepts-accepting t p h .final) in
+    let coded : getD codes s 0 ≡ final-code (t .finals) s = f .at-state s (k .inside) in
+    let is : weight-of (getD codes s 0) ≡ final-weight (t .finals) s =
+    rw coded (weight-final-code (t .finals) s (finals-light t (z .content)) final) in
     record {
-      some = some-code code (rw coded (rw final at (final-code-some (t .finals) s)));
-      code-low = omega (arith, f .small s l, e);
-      costs = rw (← end, is, ← costs, plus-none cost);
-      many = rw (writes, long);
-      behind = rw (writes, long, k .long);
-      short = k .short;
-      few = omega (arith, k .few, k .below, k .short);
-      low = omega (arith, k .low, k .below, k .short);
+      some = some-code (getD codes s 0) (rw coded (rw final at (final-code-some (t .finals) s)));
+      low = f .small s (k .inside);
+      costs = rw (is, k .cost-is, k .state-is);
     }
+
+-- What is told of a path of which the cost is known.
+pub tells-by : (t : Transducer) (p : List ℕ) {r : PathEnd} {old labels' : List ℕ} (cost : Weight) (len : ℕ) → cost ≡ path-cost t p → len ≡ length p
+    → Labels-put t p r old labels' → Tells t p (record { refusal = 0; cost = cost; arcs = len; labels = r .labels }) old labels'
+unfolding unless cost-unless left-in
+tells-by t p cost len c l k =
+    record { refusal-is = refl; cost-is = c; arcs-is = l; labels-is = k .labels-is; arcs = refl; labels = k .labels }

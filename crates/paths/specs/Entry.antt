@@ -2,14 +2,16 @@
 use mathlib.Core.Path.{_≡_}
 use mathlib.Core.Bool.{_||_, cond}
 use mathlib.Core.List.{List, []}
-use Prim.Native.Nat.{ℕ}
+use Prim.Native.Nat.{ℕ, _≤_, _<_}
 use lib.Dec.{ltb, leb}
 use lib.ListN.{length}
-use Rattle.transducer.specs.Format.{max-path, Transducer, refusal, decode}
-use Rattle.transducer.specs.Path.{written-by, path-cost}
+use Rattle.transducer.specs.Format.{max-states, max-path, Transducer, refusal, decode}
+use Rattle.transducer.specs.Path.{ends, written-by, arcs-cost, path-cost}
+use Rattle.transducer.specs.Weight.{magnitude}
 use Rattle.transducer.specs.Entry.{or-else, unless, cost-unless, left-in}
 use Rattle.wire.specs.Bytes.{filled}
 use Rattle.paths.specs.declared.Counted.{Counted}
+use Rattle.paths.specs.declared.PathEnd.{PathEnd}
 use Rattle.paths.specs.declared.Told.{Told}
 use Rattle.paths.specs.Count.{endless, path-count, nth-path}
 
@@ -44,3 +46,13 @@ Nth-says bs k number r a a' b b' = Path-told (decode bs) (nth-path (decode bs) k
 -- The same without refusal, and with no buffer for the arcs.
 abbrev pub Tells : (t : Transducer) → (p : List ℕ) → Told → (b b' : List ℕ) → Type 0
 Tells t p r b b' = Path-told t p 0 r [] (filled 0 p) b b'
+
+-- The labels of an accepting path put into a buffer, and where it ends.
+pub record Labels-put (t : Transducer) (p : List ℕ) (r : PathEnd) (b b' : List ℕ) : Type 0 where
+  pub labels : b' ≡ filled (length b) (written-by t p)
+  pub labels-is : r .labels ≡ length (written-by t p)
+  pub few : r .labels ≤ max-path
+  pub cost-is : r .cost ≡ arcs-cost t p
+  pub low : magnitude (r .cost) ≤ 1023000000
+  pub state-is : r .state ≡ ends t (t .start) p
+  pub inside : r .state < max-states

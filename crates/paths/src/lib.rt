@@ -9,6 +9,8 @@ pub use entry::count as path_count;
 pub use entry::counts_by_state;
 pub use entry::nth as nth_path;
 pub use entry::refused;
+pub use path::answer;
+pub use path::put_labels;
 pub use path::tell;
 pub use path::walk as nth_arcs;
 use transducer::MAX_STATES;
@@ -34,6 +36,13 @@ pub struct Pass {
 pub struct Totals {
     pub counts: [Count; MAX_STATES],
     pub endless: bool,
+}
+
+// Where an accepting path ends: its last state, what its arcs cost, and how many labels it writes.
+pub struct PathEnd {
+    pub state: usize,
+    pub cost: i64,
+    pub labels: usize,
 }
 
 // What a path's telling answers: the refusal or 0, then the cost and how many arcs and labels it has, 0 on refusal.

@@ -9,8 +9,9 @@ ghost use Rattle.transducer.specs.Path.{accepts};
 ghost use Rattle.transducer.specs.Leaf.{Opened, Finals-by-state};
 ghost use Rattle.paths.specs.Count.{endless, path-count, nth-path};
 ghost use Rattle.paths.specs.Sweep.{Ready, Path-counts};
-ghost use Rattle.paths.specs.Entry.{Tells};
+ghost use Rattle.paths.specs.Entry.{Labels-put, Tells};
 use crate::Count;
+use crate::PathEnd;
 use crate::Told;
 use crate::counts;
 use transducer::INDEX_LEN;
@@ -63,19 +64,18 @@ pub fn walk(
     n
 }
 
-// Tells the path of the first `len` numbers of `arcs`: puts the labels that it writes into `labels`, zeros behind.
-pub fn tell(
+// Puts the labels that the path of the first `len` numbers of `arcs` writes into `labels`, zeros behind; where the path ends.
+pub fn put_labels(
     table: &[u8],
     first: usize,
     start: usize,
-    codes: &[u32; MAX_STATES],
     arcs: &[u16],
     len: usize,
     labels: &mut [u16],
-) -> Told
-    requires { ⌜ Opened (now table) first × (start ≡ decode (now table) .start) × Finals-by-state (decode (now table)) (now codes)
-        × (len ≤ length (now arcs)) × (len ≤ max-path) × (accepts (decode (now table)) (take len (now arcs)) ≡ true) × (max-path ≤ length (now labels)) ⌝ }
-    ensures { λ r. ⌜ Tells (decode (now (table .entry))) (take len (now (arcs .entry))) r (now (labels .entry)) (now (labels .exit)) ⌝ }
+) -> PathEnd
+    requires { ⌜ Opened (now table) first × (start ≡ decode (now table) .start) × (len ≤ length (now arcs)) × (len ≤ max-path)
+        × (accepts (decode (now table)) (take len (now arcs)) ≡ true) × (max-path ≤ length (now labels)) ⌝ }
+    ensures { λ r. ⌜ Labels-put (decode (now (table .entry))) (take len (now (arcs .entry))) r (now (labels .entry)) (now (labels .exit)) ⌝ }
 {
     let mut s = start;
     let mut cost: i64 = 0;
@@ -94,11 +94,43 @@ pub fn tell(
         m += 1;
     }
     wire::clear16(labels, m);
-    let code = codes[s];
+    PathEnd {
+        state: s,
+        cost,
+        labels: m,
+    }
+}
+
+// What is answered of a path of this cost, with so many arcs and labels.
+pub fn answer(cost: i64, arcs: usize, labels: usize) -> Told
+    requires { ⌜ (arcs ≤ max-path) × (labels ≤ max-path) ⌝ }
+    ensures { λ r. ⌜ r ≡ record { refusal = 0; cost = cost; arcs = arcs; labels = labels } ⌝ }
+{
     Told {
         refusal: 0,
-        cost: transducer::plus(cost, transducer::weight_of(code)),
-        arcs: len as u32,
-        labels: m as u32,
+        cost,
+        arcs: arcs as u32,
+        labels: labels as u32,
     }
+}
+
+// Tells the path of the first `len` numbers of `arcs`: puts the labels that it writes into `labels`, zeros behind.
+pub fn tell(
+    table: &[u8],
+    first: usize,
+    start: usize,
+    codes: &[u32; MAX_STATES],
+    arcs: &[u16],
+    len: usize,
+    labels: &mut [u16],
+) -> Told
+    requires { ⌜ Opened (now table) first × (start ≡ decode (now table) .start) × Finals-by-state (decode (now table)) (now codes)
+        × (len ≤ length (now arcs)) × (len ≤ max-path) × (accepts (decode (now table)) (take len (now arcs)) ≡ true) × (max-path ≤ length (now labels)) ⌝ }
+    ensures { λ r. ⌜ Tells (decode (now (table .entry))) (take len (now (arcs .entry))) r (now (labels .entry)) (now (labels .exit)) ⌝ }
+{
+    let end = put_labels(table, first, start, arcs, len, labels);
+    let s = end.state;
+    let code = codes[s];
+    let cost = transducer::plus(end.cost, transducer::weight_of(code));
+    answer(cost, len, end.labels)
 }

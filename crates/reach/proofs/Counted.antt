@@ -1,4 +1,4 @@
--- How many numbers below a bound have a property, and growing properties that come to rest (the pigeonhole); sums of lists. Assumes nothing.
+-- How many numbers below a bound have a property, and growing properties that come to rest (the pigeonhole). Assumes nothing.
 use mathlib.Core.Path.{_≡_, refl, ap, ap₂, _∙_}
 use mathlib.Core.Bool.{Bool, true, false, cond}
 use mathlib.Core.Logic.{_⊎_, inl, inr}
@@ -104,12 +104,6 @@ count-injective f s s' e e' same = on (ltb s s') refl (ltb s' s) refl
     on true l b' l' = absurd (omega (arith, count-before f s s' (ltb-true s s' l) e))
     on false l true l' = absurd (omega (arith, count-before f s' s (ltb-true s' s l') e'))
     on false l false l' = omega (arith, ltb-false s s' l, ltb-false s' s l')
-
--- Two properties that no number has both of.
-pub count-split : (n : ℕ) (f g h : ℕ → Bool) → ((i : ℕ) → cond (h i) 1 0 ≡ cond (f i) 1 0 + cond (g i) 1 0) → count n h ≡ count n f + count n g
-unfolding count
-count-split zero f g h e = omega arith
-count-split (suc n) f g h e = omega (arith, count-split n f g h e, e n)
 
 pub count-none : (n : ℕ) (f : ℕ → Bool) → ((i : ℕ) → i < n → f i ≡ false) → count n f ≡ 0
 unfolding count

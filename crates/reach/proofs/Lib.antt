@@ -12,5 +12,5 @@ pub mod Chains
 pub mod Stacked
 pub mod Closure
 pub mod FinalMarks
--- The index by target.
+-- The arcs by target.
 pub mod ByTarget

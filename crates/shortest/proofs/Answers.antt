@@ -11,7 +11,7 @@ use lib.Seq.{take-at}
 use Rattle.wire.specs.Bytes.{filled}
 use Rattle.wire.proofs.Places.{length-filled}
 use Rattle.transducer.specs.Format.{Transducer, max-states, max-path, decode, refusal}
-use Rattle.transducer.specs.Path.{accepts, runs}
+use Rattle.transducer.specs.Path.{accepts, runs, path-cost}
 use Rattle.transducer.specs.Entry.{or-else}
 use Rattle.transducer.specs.Weight.{Weight, At-most, Below}
 use Rattle.transducer.proofs.Runs.{accepting-accepts}
@@ -19,12 +19,14 @@ use Rattle.paths.specs.declared.Told.{Told}
 use Rattle.reach.specs.Reach.{accessible, coaccessible}
 use Rattle.reach.proofs.Reach.{accessible-start, path-coaccessible}
 use Rattle.least.specs.Cycles.{Falling, falling}
+use Rattle.least.proofs.Costs.{cost-start}
 use Rattle.least.proofs.Cycles.{falling-accepting}
 use Rattle.least.proofs.Falls.{falls-start, falling-true}
 use Rattle.paths.specs.Entry.{Tells}
 use Rattle.paths.proofs.PathTold.{refused-told, told-refused, told-found}
 use Rattle.paths.proofs.Ready.{Sized}
-use Rattle.distance.specs.Nearest.{unreached, cost-at, by-state, Settled, Distances-say}
+use Rattle.distance.specs.Distance.{Size}
+use Rattle.distance.specs.Nearest.{Sizes, unreached, cost-at, by-state, Settled, Distances-say}
 use Rattle.distance.proofs.Settled.{few-arcs, reached-accepting, no-path-none}
 use Rattle.shortest.specs.Shortest.{shortest}
 use Rattle.shortest.specs.Tight.{first-tight, follow}
@@ -41,18 +43,19 @@ pub record Found (t : Transducer) (v : ℕ → ℕ) (start len : ℕ) : Type 0 w
   pub is : follow len t v start ≡ shortest t
   pub accepted : accepts t (follow len t v start) ≡ true
 
-pub found : (t : Transducer) → Sized t → (cs : List Weight) (ls : List ℕ) (start len : ℕ) {r : Bool} → Distances-say t (accessible (t .states) t) cs ls r
-    → r ≡ true → start ≡ t .start → Below (cost-at cs start) unreached → len ≡ by-state ls start → Found t (first-tight t (cost-at cs) (by-state ls)) start len
+pub found : (t : Transducer) → Sized t → (cs : List Weight) (ls : Sizes) (start len : ℕ) {r : Bool} → Distances-say t (accessible (t .states) t) cs ls r
+    → r ≡ true → start ≡ t .start → Below (cost-at cs start) unreached → len ≡ by-state ls start .arcs
+    → Found t (first-tight t (cost-at cs) (by-state ls)) start len
 found t z cs ls start len says on e there l =
     let c : ℕ → Weight = cost-at cs in
-    let m : ℕ → ℕ = by-state ls in
+    let m : ℕ → Size = by-state ls in
     let v : ℕ → ℕ = first-tight t c m in
     let k : Settled t (accessible (t .states) t) c m = says .settled on in
     let s : ℕ = t .start in
     let below : s < t .states = z .within .starts in
     let some : Below (c s) unreached = rw e at there in
-    let few : m s < t .states = few-arcs t z (accessible (t .states) t) c m k s below some in
-    let f : Followed t z c m k s (m s) = followed t z c m k (m s) s below (accessible-start (t .states) t) some refl in
+    let few : m s .arcs < t .states = few-arcs t z (accessible (t .states) t) c m k s below some in
+    let f : Followed t z c m k s (m s .arcs) = followed t z c m k (m s .arcs) s below (accessible-start (t .states) t) some refl in
     let most : t .states ≤ max-states = z .states in
     rw (l, e) (record {
       some = reached-accepting t z (accessible (t .states) t) c m k s below some;
@@ -61,13 +64,27 @@ found t z cs ls start len says on e there l =
       few = omega arith;
       many = f .arcs;
       is = follow-shortest t z c m k some;
-      accepted = accepting-accepts t (follow (m s) t v s) (f .accepting);
+      accepted = accepting-accepts t (follow (m s .arcs) t v s) (f .accepting);
     })
+
+-- What it costs.
+pub found-costs : (t : Transducer) → Sized t → (cs : List Weight) (ls : Sizes) (start len : ℕ) {r : Bool}
+    → Distances-say t (accessible (t .states) t) cs ls r → r ≡ true → start ≡ t .start → Below (cost-at cs start) unreached → len ≡ by-state ls start .arcs
+    → path-cost t (follow len t (first-tight t (cost-at cs) (by-state ls)) start) ≡ cost-at cs start
+found-costs t z cs ls start len says on e there l =
+    let c : ℕ → Weight = cost-at cs in
+    let m : ℕ → Size = by-state ls in
+    let k : Settled t (accessible (t .states) t) c m = says .settled on in
+    let s : ℕ = t .start in
+    let some : Below (c s) unreached = rw e at there in
+    let f : Followed t z c m k s (m s .arcs) = followed t z c m k (m s .arcs) s (z .within .starts) (accessible-start (t .states) t) some refl in
+    rw (l, e) (sym (cost-start t (follow (m s .arcs) t (first-tight t c m) s)) ∙ f .costs)
 
 -- The path in its buffer, as it is told.
 pub record Stored (t : Transducer) (len : ℕ) (a' : List ℕ) : Type 0 where
   pub taken : take len a' ≡ shortest t
   pub inside : len ≤ length a'
+  pub long : length (take len a') ≡ len
   pub accepted : accepts t (take len a') ≡ true
 
 pub stored : (t : Transducer) (v : ℕ → ℕ) (start len : ℕ) (a a' : List ℕ) → Found t v start len → max-path ≤ length a
@@ -79,7 +96,11 @@ stored t v start len a a' f room put =
     let few : len ≤ max-path = f .few in
     let whole : length a' ≡ length a = ap length put ∙ length-filled (length a) p (omega arith) in
     let taken : take len a' ≡ p = ap (λ (x : List ℕ). take len x) put ∙ take-at p (replicate (length a - length p) 0) len many in
-    record { taken = taken ∙ f .is; inside = omega arith; accepted = rw taken (f .accepted) }
+    record { taken = taken ∙ f .is; inside = omega arith; long = ap length taken ∙ many; accepted = rw taken (f .accepted) }
+
+pub stored-costs : (t : Transducer) {v : ℕ → ℕ} {start len : ℕ} {a' : List ℕ} → Stored t len a' → Found t v start len → {x : Weight}
+    → path-cost t (follow len t v start) ≡ x → x ≡ path-cost t (take len a')
+stored-costs t st f e = sym e ∙ ap (path-cost t) (f .is ∙ sym (st .taken))
 
 module _ (bs : List ℕ) {a b : List ℕ} {n : ℕ} {r : Told} where
   -- 1 to 8
@@ -112,7 +133,7 @@ module _ (bs : List ℕ) {a b : List ℕ} {n : ℕ} {r : Told} where
 
   module _ (e : n ≡ refusal bs) (z : n ≡ 0) (la : max-path ≤ length a) (lb : max-path ≤ length b) where
     -- 16
-    pub shortest-none : {cs : List Weight} {ls : List ℕ} {start : ℕ} {d : Bool} → Sized (decode bs)
+    pub shortest-none : {cs : List Weight} {ls : Sizes} {start : ℕ} {d : Bool} → Sized (decode bs)
         → Distances-say (decode bs) (accessible (decode bs .states) (decode bs)) cs ls d → d ≡ true
         → start ≡ decode bs .start → At-most unreached (cost-at cs start)
         → r ≡ refused-told 16 → Shortest-says bs (shortest-refusal bs (length a) (length b)) r a a b b
@@ -128,7 +149,7 @@ module _ (bs : List ℕ) {a b : List ℕ} {n : ℕ} {r : Told} where
         (rw (ok, le-ltb (length a) max-path la, le-ltb (length b) max-path lb, none)) (λ q'. omega arith) h
 
     -- 19: some path accepts, and a cycle below zero lies on it.
-    pub shortest-falls : {cs : List Weight} {ls : List ℕ} {d : Bool} → Sized (decode bs)
+    pub shortest-falls : {cs : List Weight} {ls : Sizes} {d : Bool} → Sized (decode bs)
         → Distances-say (decode bs) (accessible (decode bs .states) (decode bs)) cs ls d → d ≡ false
         → r ≡ refused-told 19 → Shortest-says bs (shortest-refusal bs (length a) (length b)) r a a b b
     unfolding shortest-refusal or-else

@@ -6,42 +6,42 @@ use mathlib.Core.List.{List, [], _∷_}
 use mathlib.Core.List.{List·Memᴰ as Mem, List·Memᴰ·head as first, List·Memᴰ·tail as later, List·Memᴰ·not-nil as none-in}
 use mathlib.Core.List.{List·Memᴰ·cases-cons as first-or-later, List·Memᴰ·eq-of-singleton as only}
 use Prim.Native.Nat.{ℕ}
-use lib.ListN.{length}
 use borrow.Author.Tests.{not-true}
 use Rattle.wire.proofs.Bool.{clash, is-false, and-true, true-and, or-true, or-left, or-right}
 use Rattle.transducer.specs.Format.{Transducer}
 use Rattle.transducer.specs.Path.{path-cost}
 use Rattle.paths.specs.Count.{before}
 use Rattle.paths.proofs.Order.{Compared, earlier, same, after, before-total, before-irreflexive, before-transitive}
+use Rattle.distance.specs.Distance.{size-of}
 use Rattle.distance.specs.Nearest.{No-worse, Nearer}
 use Rattle.distance.proofs.Nearer.{nearer-true, true-nearer, nearer-false, false-nearer, nearer-no-worse, nearer-not, nearer-through}
 use Rattle.distance.proofs.Nearer.{through-nearer, no-worse-through, no-worse-same}
 use Rattle.shortest.specs.Shortest.{nearer-path, better, best-of, best}
 
--- A path against another, by cost and number of arcs.
+-- A path against another, by cost and size.
 
 abbrev pub Near : Transducer → (p q : List ℕ) → Type 0
-Near t p q = No-worse (path-cost t p) (length p) (path-cost t q) (length q)
+Near t p q = No-worse (path-cost t p) (size-of t p) (path-cost t q) (size-of t q)
 
-pub path-nearer : (t : Transducer) (p q : List ℕ) → nearer-path t p q ≡ true → Nearer (path-cost t p) (length p) (path-cost t q) (length q)
+pub path-nearer : (t : Transducer) (p q : List ℕ) → nearer-path t p q ≡ true → Nearer (path-cost t p) (size-of t p) (path-cost t q) (size-of t q)
 unfolding nearer-path
-path-nearer t p q h = nearer-true (path-cost t p) (length p) (path-cost t q) (length q) h
+path-nearer t p q h = nearer-true (path-cost t p) (size-of t p) (path-cost t q) (size-of t q) h
 
 pub path-not-nearer : (t : Transducer) (p q : List ℕ) → nearer-path t p q ≡ false → Near t q p
 unfolding nearer-path
-path-not-nearer t p q h = nearer-false (path-cost t p) (length p) (path-cost t q) (length q) h
+path-not-nearer t p q h = nearer-false (path-cost t p) (size-of t p) (path-cost t q) (size-of t q) h
 
 pub near-false : (t : Transducer) (p q : List ℕ) → Near t q p → nearer-path t p q ≡ false
 unfolding nearer-path
 near-false t p q n = false-nearer n
 
-pub nearer-path-true : (t : Transducer) (p q : List ℕ) → Nearer (path-cost t p) (length p) (path-cost t q) (length q) → nearer-path t p q ≡ true
+pub nearer-path-true : (t : Transducer) (p q : List ℕ) → Nearer (path-cost t p) (size-of t p) (path-cost t q) (size-of t q) → nearer-path t p q ≡ true
 unfolding nearer-path
-nearer-path-true t p q h = true-nearer (path-cost t p) (length p) (path-cost t q) (length q) h
+nearer-path-true t p q h = true-nearer (path-cost t p) (size-of t p) (path-cost t q) (size-of t q) h
 
 -- The two ways for a path to be better.
 pub data Wins (t : Transducer) (p q : List ℕ) : Type 0 where
-  nearer-wins : Nearer (path-cost t p) (length p) (path-cost t q) (length q) → Wins t p q
+  nearer-wins : Nearer (path-cost t p) (size-of t p) (path-cost t q) (size-of t q) → Wins t p q
   sooner : Near t p q → before p q ≡ true → Wins t p q
 
 pub better-wins : (t : Transducer) (p q : List ℕ) → better t p q ≡ true → Wins t p q
@@ -70,7 +70,7 @@ pub better-irreflexive : (t : Transducer) (p : List ℕ) → better t p p ≡ tr
 better-irreflexive t p h = on (better-wins t p p h)
   where
     on : Wins t p p → ⊥
-    on (nearer-wins n) = nearer-not n (no-worse-same (path-cost t p) (length p))
+    on (nearer-wins n) = nearer-not n (no-worse-same (path-cost t p) (size-of t p))
     on (sooner n b) = before-irreflexive p b
 
 pub not-better-same : (t : Transducer) (p : List ℕ) → better t p p ≡ false

@@ -12,7 +12,7 @@ use lib.ListN.{length}
 use borrow.Author.Tests.{leb-true, leb-false}
 use Rattle.wire.proofs.Bool.{clash}
 use Rattle.transducer.specs.Format.{Transducer}
-use Rattle.transducer.specs.Path.{accepts, path-cost}
+use Rattle.transducer.specs.Path.{accepts, written-by, path-cost}
 use Rattle.transducer.specs.Weight.{At-most}
 use Rattle.transducer.proofs.Runs.{accepts-accepting, accepting-accepts, Within}
 use Rattle.transducer.proofs.Weights.{sums}
@@ -20,16 +20,17 @@ use Rattle.reach.specs.Reach.{coaccessible}
 use Rattle.reach.proofs.Reach.{coaccessible-path, path-coaccessible}
 use Rattle.paths.specs.Count.{paths-from}
 use Rattle.paths.proofs.Listed.{in-paths-from, paths-from-has}
+use Rattle.distance.specs.Distance.{size-of}
 use Rattle.distance.proofs.Nearer.{no-worse-through}
 use Rattle.shortest.specs.Shortest.{better, shortest}
-use Rattle.least.specs.Cycles.{Falling, falling}
+use Rattle.least.specs.Cycles.{falling}
 use Rattle.least.proofs.Costs.{cost-start}
 use Rattle.least.proofs.Cycles.{Shorter, shorter}
 use Rattle.least.proofs.Falls.{falling-true}
 use Rattle.shortest.proofs.Best.{Near, Not-better, better-false, not-better, neither-better-same, best-in, best-least}
 
 module _ (t : Transducer) (w : Within t) (rises : falling t ≡ false) (p : List ℕ) (a : accepts t p ≡ true) where
-  -- An accepting path that is listed, no dearer and no longer.
+  -- An accepting path that is listed, no dearer and no longer, by labels and by arcs.
   listed : Shorter t (t .start) p
   listed = shorter t w (t .start) p (w .starts) (λ f. clash (falling-true t w f) rises) (accepts-accepting t p a)
 
@@ -37,9 +38,10 @@ module _ (t : Transducer) (w : Within t) (rises : falling t ≡ false) (p : List
   listed-in = paths-from-has (t .states) t (t .start) (listed .path) (listed .accepting) (omega (arith, listed .few))
 
   listed-near : Near t (listed .path) p
+  unfolding size-of
   listed-near =
       let costs : At-most (path-cost t (listed .path)) (path-cost t p) = rw (cost-start t (listed .path), cost-start t p) at (listed .costs) in
-      record { cost = costs; arcs = λ _. listed .arcs }
+      record { cost = costs; labels = λ _. listed .labels; arcs = λ _ _. listed .arcs }
 
   shortest-in : Mem (shortest t) (paths-from (t .states) t (t .start))
   unfolding shortest
@@ -56,6 +58,7 @@ module _ (t : Transducer) (w : Within t) (rises : falling t ≡ false) (p : List
   shortest-near = better-false t (listed .path) (shortest t) (least-listed (listed .path) listed-in) .near
 
   pub nothing-better : better t p (shortest t) ≡ false
+  unfolding size-of
   nothing-better = on (leb (length p) (t .states)) refl
     where
       on : (b : Bool) → leb (length p) (t .states) ≡ b → better t p (shortest t) ≡ false
@@ -68,7 +71,9 @@ module _ (t : Transducer) (w : Within t) (rises : falling t ≡ false) (p : List
             order = λ n.
                 let low : At-most (path-cost t (listed .path)) (path-cost t (shortest t)) = omega (arith, sums, n .cost, listed-near .cost) in
                 let high : At-most (path-cost t (shortest t)) (path-cost t p) = omega (arith, sums, shortest-near .cost, listed-near .cost) in
-                absurd (omega (arith, n .arcs high, shortest-near .arcs low, listed .few));
+                let more : length (written-by t (shortest t)) ≤ length (written-by t (listed .path)) = shortest-near .labels low in
+                let fewer : length (written-by t p) ≤ length (written-by t (shortest t)) = n .labels high in
+                absurd (omega (arith, n .arcs high (omega (arith, listed .labels)), shortest-near .arcs low (omega (arith, listed .labels)), listed .few));
           })
 
   -- Its cost is the least, however many arcs others have.
@@ -77,12 +82,13 @@ module _ (t : Transducer) (w : Within t) (rises : falling t ≡ false) (p : List
 
 -- The shortest path again, of which no more is asked than that something accepts.
 pub shortest-short : (t : Transducer) → Within t → falling t ≡ false → (p : List ℕ) → accepts t p ≡ true → length (shortest t) < t .states
+unfolding size-of
 shortest-short t w f p a =
     let m : List ℕ = shortest t in
     let b : accepts t m ≡ true = shortest-accepts t w f p a in
     let q : Shorter t (t .start) m = listed t w f m b in
     let n : Not-better t (q .path) m = better-false t (q .path) m (nothing-better t w f (q .path) (accepting-accepts t (q .path) (q .accepting))) in
-    let less : length m ≤ length (q .path) = n .near .arcs (listed-near t w f m b .cost) in
+    let less : length m ≤ length (q .path) = n .near .arcs (listed-near t w f m b .cost) (q .labels) in
     omega (arith, q .few)
 
 -- An accepting path that none is better than is the shortest one.

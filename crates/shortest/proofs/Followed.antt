@@ -20,8 +20,9 @@ use Rattle.paths.proofs.Ready.{Sized}
 use Rattle.least.specs.Costs.{cost-from}
 use Rattle.least.specs.Cycles.{falling}
 use Rattle.least.proofs.Costs.{cost-start, cost-cons}
-use Rattle.distance.specs.Nearest.{unreached, No-worse, cost-by, arcs-by, Reached, Settled}
-use Rattle.distance.proofs.Nearer.{no-worse-both}
+use Rattle.distance.specs.Distance.{Size, size-of}
+use Rattle.distance.specs.Nearest.{unreached, labels-of, longer, No-worse, cost-by, size-by, Reached, Settled}
+use Rattle.distance.proofs.Nearer.{no-worse-both, same-size, size-nil, size-cons}
 use Rattle.distance.proofs.Bounds.{cost-by-some, cost-by-there}
 use Rattle.distance.proofs.Settled.{By, by, Best, best, reached, reached-accepts, none-nearer, settled-rises}
 use Rattle.shortest.specs.Shortest.{better, shortest}
@@ -30,7 +31,7 @@ use Rattle.shortest.proofs.Best.{not-better}
 use Rattle.shortest.proofs.Cheapest.{shortest-is}
 use Rattle.shortest.proofs.Tight.{tight-first}
 
-module _ (t : Transducer) (z : Sized t) (c : ℕ → Weight) (l : ℕ → ℕ) (k : Settled t (accessible (t .states) t) c l) where
+module _ (t : Transducer) (z : Sized t) (c : ℕ → Weight) (l : ℕ → Size) (k : Settled t (accessible (t .states) t) c l) where
   abbrev pub next-arc : ℕ → ℕ
   next-arc = first-tight t c l
 
@@ -43,15 +44,15 @@ module _ (t : Transducer) (z : Sized t) (c : ℕ → Weight) (l : ℕ → ℕ) (
   start : Marked (t .start)
   start = accessible-start (t .states) t
 
-  -- A path of the least cost and the fewest arcs begins with a tight arc, and so does its rest.
+  -- A path of a state's cost and size begins with a tight arc, and so does its rest.
   record Step (s i : ℕ) (p : List ℕ) : Type 0 where
     leaves : arc t i .source ≡ s
     tight : Tight t c l i
     costs : cost-from t (arc t i .target) p ≡ c (arc t i .target)
-    arcs : length p ≡ l (arc t i .target)
+    size : size-of t p ≡ l (arc t i .target)
 
-  step : (s i : ℕ) (p : List ℕ) → s < t .states → Marked s → Accepting t s (i ∷ p) → cost-from t s (i ∷ p) ≡ c s → suc (length p) ≡ l s → Step s i p
-  unfolding arcs-by
+  step : (s i : ℕ) (p : List ℕ) → s < t .states → Marked s → Accepting t s (i ∷ p) → cost-from t s (i ∷ p) ≡ c s → size-of t (i ∷ p) ≡ l s → Step s i p
+  unfolding size-by longer
   step s i p b m a e f =
       let r : AcceptingBy t s i p = accepting-cons t s i p a in
       let u : ℕ = arc t i .target in
@@ -62,13 +63,21 @@ module _ (t : Transducer) (z : Sized t) (c : ℕ → Weight) (l : ℕ → ℕ) (
       let low : At-most (c s) (plus (arc t i .weight) (c u)) = rw (here .is) at (here .near .cost) in
       let same : cost-from t u p ≡ c u = omega (arith, sums, rest .near .cost) in
       let costs : cost-by t c i ≡ c s = here .is ∙ (ap (λ (x : Weight). plus (arc t i .weight) x) (sym same) ∙ whole) in
-      let few : l s ≤ l u + 1 = here .near .arcs (rw costs (omega (arith, sums))) in
-      let many : l u ≤ length p = rest .near .arcs (rw same (omega (arith, sums))) in
+      let long : longer (arc t i .output) (size-of t p) ≡ l s = sym (size-cons t i p) ∙ f in
+      let labels : size-of t p .labels + labels-of (arc t i .output) ≡ l s .labels = ap (λ (x : Size). x .labels) long in
+      let arcs : size-of t p .arcs + 1 ≡ l s .arcs = ap (λ (x : Size). x .arcs) long in
+      let one : At-most (cost-by t c i) (c s) = rw costs (omega (arith, sums)) in
+      let two : At-most (cost-from t u p) (c u) = rw same (omega (arith, sums)) in
+      let few-labels : l s .labels ≤ l u .labels + labels-of (arc t i .output) = here .near .labels one in
+      let many-labels : l u .labels ≤ size-of t p .labels = rest .near .labels two in
+      let few : l s .arcs ≤ l u .arcs + 1 = here .near .arcs one (omega arith) in
+      let many : l u .arcs ≤ size-of t p .arcs = rest .near .arcs two (omega arith) in
+      let is : size-of t p ≡ l u = same-size (size-of t p) (l u) (omega arith) (omega arith) in
       record {
         leaves = r .leaves;
-        tight = record { below = r .below; costs = rw (r .leaves) costs; arcs = rw (r .leaves) (omega arith) };
+        tight = record { below = r .below; costs = rw (r .leaves) costs; size = rw (r .leaves) (ap (longer (arc t i .output)) (sym is) ∙ long) };
         costs = same;
-        arcs = omega arith;
+        size = is;
       }
 
   -- The first arc of a state from which arcs are left.
@@ -76,29 +85,42 @@ module _ (t : Transducer) (z : Sized t) (c : ℕ → Weight) (l : ℕ → ℕ) (
     pub below : next-arc s < length (t .arcs)
     pub leaves : arc t (next-arc s) .source ≡ s
     pub costs : plus (arc t (next-arc s) .weight) (c (arc t (next-arc s) .target)) ≡ c s
-    pub arcs : l (arc t (next-arc s) .target) ≡ n
+    pub size : longer (arc t (next-arc s) .output) (l (arc t (next-arc s) .target)) ≡ l s
+    pub arcs : l (arc t (next-arc s) .target) .arcs ≡ n
     pub there : Below (c (arc t (next-arc s) .target)) unreached
 
-  tight-next : (s n : ℕ) → Below (c s) unreached → l s ≡ suc n → arc t (next-arc s) .source ≡ s → Tight t c l (next-arc s) → Next s n
-  unfolding arcs-by
+  tight-next : (s n : ℕ) → Below (c s) unreached → l s .arcs ≡ suc n → arc t (next-arc s) .source ≡ s → Tight t c l (next-arc s) → Next s n
+  unfolding size-by longer
   tight-next s n h e leaves tight =
       let costs : cost-by t c (next-arc s) ≡ c s = tight .costs ∙ ap c leaves in
-      let arcs : arcs-by t l (next-arc s) ≡ l s = tight .arcs ∙ ap l leaves in
+      let size : size-by t l (next-arc s) ≡ l s = tight .size ∙ ap l leaves in
+      let arcs : l (arc t (next-arc s) .target) .arcs + 1 ≡ l s .arcs = ap (λ (x : Size). x .arcs) size in
       let there : Below (c (arc t (next-arc s) .target)) unreached = cost-by-there t c (next-arc s) (rw costs h) in
-      record { below = tight .below; leaves = leaves; costs = sym (cost-by-some t c (next-arc s) there) ∙ costs; arcs = omega arith; there = there }
+      record {
+        below = tight .below;
+        leaves = leaves;
+        costs = sym (cost-by-some t c (next-arc s) there) ∙ costs;
+        size = size;
+        arcs = omega arith;
+        there = there;
+      }
 
   first-of : (s i : ℕ) (p : List ℕ) → Marked s → Step s i p → First t c l (next-arc s) i
   first-of s i p m st =
       rw (st .leaves) at
       (tight-first t (z .content) c l i (st .tight) (λ v b e. rw e at (k .by-arc v b (rw (e ∙ st .leaves) m))))
 
-  pub next : (s n : ℕ) → s < t .states → Marked s → Below (c s) unreached → l s ≡ suc n → Next s n
+  -- A path of that size has no arcs where it is empty.
+  none-of : (s : ℕ) → size-of t [] ≡ l s → l s .arcs ≡ 0
+  none-of s f = ap (λ (x : Size). x .arcs) (sym f ∙ size-nil t)
+
+  pub next : (s n : ℕ) → s < t .states → Marked s → Below (c s) unreached → l s .arcs ≡ suc n → Next s n
   next s n b m h e =
       let r : Reached t c l s = reached t z counts c l k s b h in
-      on (r .path) (reached-accepts t z counts c l k s b h) (r .costs) (r .arcs)
+      on (r .path) (reached-accepts t z counts c l k s b h) (r .costs) (r .size)
     where
-      on : (p : List ℕ) → Accepting t s p → cost-from t s p ≡ c s → length p ≡ l s → Next s n
-      on [] a g f = absurd (omega arith)
+      on : (p : List ℕ) → Accepting t s p → cost-from t s p ≡ c s → size-of t p ≡ l s → Next s n
+      on [] a g f = absurd (omega (arith, none-of s f))
       on (i ∷ p) a g f =
           let st : Step s i p = step s i p b m a g f in
           let fi : First t c l (next-arc s) i = first-of s i p m st in
@@ -115,17 +137,18 @@ module _ (t : Transducer) (z : Sized t) (c : ℕ → Weight) (l : ℕ → ℕ) (
   pub record Followed (s n : ℕ) : Type 0 where
     pub accepting : Accepting t s (follow n t next-arc s)
     pub costs : cost-from t s (follow n t next-arc s) ≡ c s
+    pub size : size-of t (follow n t next-arc s) ≡ l s
     pub arcs : length (follow n t next-arc s) ≡ n
 
-  pub followed : (n s : ℕ) → s < t .states → Marked s → Below (c s) unreached → l s ≡ n → Followed s n
-  unfolding follow
+  pub followed : (n s : ℕ) → s < t .states → Marked s → Below (c s) unreached → l s .arcs ≡ n → Followed s n
+  unfolding follow size-of
   followed zero s b m h e =
       let r : Reached t c l s = reached t z counts c l k s b h in
-      on (r .path) (reached-accepts t z counts c l k s b h) (r .costs) (r .arcs)
+      on (r .path) (reached-accepts t z counts c l k s b h) (r .costs) (r .size)
     where
-      on : (p : List ℕ) → Accepting t s p → cost-from t s p ≡ c s → length p ≡ l s → Followed s 0
-      on [] a g f = record { accepting = a; costs = g; arcs = refl }
-      on (i ∷ p) a g f = absurd (omega arith)
+      on : (p : List ℕ) → Accepting t s p → cost-from t s p ≡ c s → size-of t p ≡ l s → Followed s 0
+      on [] a g f = record { accepting = a; costs = g; size = f; arcs = refl }
+      on (i ∷ p) a g f = let some : suc (length p) ≡ l s .arcs = ap (λ (x : Size). x .arcs) f in absurd (omega arith)
   followed (suc n) s b m h e =
       let x : Next s n = next s n b m h e in
       let u : ℕ = arc t (next-arc s) .target in
@@ -133,15 +156,16 @@ module _ (t : Transducer) (z : Sized t) (c : ℕ → Weight) (l : ℕ → ℕ) (
       record {
         accepting = cons-accepting t s (next-arc s) (follow n t next-arc u) (record { below = x .below; leaves = x .leaves; rest = rest .accepting });
         costs = cost-cons t s (next-arc s) (follow n t next-arc u) ∙ (ap (λ (y : Weight). plus (arc t (next-arc s) .weight) y) (rest .costs) ∙ x .costs);
+        size = size-cons t (next-arc s) (follow n t next-arc u) ∙ (ap (longer (arc t (next-arc s) .output)) (rest .size) ∙ x .size);
         arcs = ap suc (rest .arcs);
       }
 
-  -- None of the same cost and number of arcs comes before it.
-  pub follow-first : (n s : ℕ) → s < t .states → Marked s → Below (c s) unreached → l s ≡ n → (q : List ℕ) → Accepting t s q → cost-from t s q ≡ c s
-      → length q ≡ n → before q (follow n t next-arc s) ≡ false
+  -- None of the same cost and size comes before it.
+  pub follow-first : (n s : ℕ) → s < t .states → Marked s → Below (c s) unreached → l s .arcs ≡ n → (q : List ℕ) → Accepting t s q → cost-from t s q ≡ c s
+      → size-of t q ≡ l s → before q (follow n t next-arc s) ≡ false
   unfolding follow before
   follow-first zero s b m h e q a g f = refl
-  follow-first (suc n) s b m h e [] a g f = absurd (omega arith)
+  follow-first (suc n) s b m h e [] a g f = absurd (omega (arith, none-of s f))
   follow-first (suc n) s b m h e (i ∷ q) a g f =
       on (before (i ∷ q) (next-arc s ∷ follow n t next-arc u)) refl
       (λ g' f'. follow-first n u (next-below s n x) (next-marked s n m x) (x .there) (x .arcs) q g' f')
@@ -153,13 +177,13 @@ module _ (t : Transducer) (z : Sized t) (c : ℕ → Weight) (l : ℕ → ℕ) (
       u = arc t (next-arc s) .target
 
       st : Step s i q
-      st = step s i q b m a g (f ∙ sym e)
+      st = step s i q b m a g f
 
       low : next-arc s ≤ i
       low = first-of s i q m st .first
 
       on : (d : Bool) → before (i ∷ q) (next-arc s ∷ follow n t next-arc u) ≡ d
-          → (Accepting t u q → cost-from t u q ≡ c u → length q ≡ n → before q (follow n t next-arc u) ≡ false)
+          → (Accepting t u q → cost-from t u q ≡ c u → size-of t q ≡ l u → before q (follow n t next-arc u) ≡ false)
           → before (i ∷ q) (next-arc s ∷ follow n t next-arc u) ≡ false
       on false d more = d
       on true d more = two (before-cons i (next-arc s) q (follow n t next-arc u) d)
@@ -168,7 +192,7 @@ module _ (t : Transducer) (z : Sized t) (c : ℕ → Weight) (l : ℕ → ℕ) (
           two (inl less) = absurd (omega (arith, low))
           two (inr (is, d')) =
               clash d'
-              (more (rw is at (accepting-cons t s i q a .rest)) (rw is at (st .costs)) (omega arith))
+              (more (rw is at (accepting-cons t s i q a .rest)) (rw is at (st .costs)) (rw is at (st .size)))
 
   -- From the start.
 
@@ -176,29 +200,29 @@ module _ (t : Transducer) (z : Sized t) (c : ℕ → Weight) (l : ℕ → ℕ) (
   unfolding falling
   rises = settled-rises t z counts c l k
 
-  pub follow-shortest : Below (c (t .start)) unreached → follow (l (t .start)) t next-arc (t .start) ≡ shortest t
+  pub follow-shortest : Below (c (t .start)) unreached → follow (l (t .start) .arcs) t next-arc (t .start) ≡ shortest t
   follow-shortest h = shortest-is t (z .within) rises p (accepting-accepts t p (f .accepting)) least
     where
       s : ℕ
       s = t .start
 
       p : List ℕ
-      p = follow (l s) t next-arc s
+      p = follow (l s .arcs) t next-arc s
 
-      f : Followed s (l s)
-      f = followed (l s) s (z .within .starts) start h refl
+      f : Followed s (l s .arcs)
+      f = followed (l s .arcs) s (z .within .starts) start h refl
 
       least : (q : List ℕ) → accepts t q ≡ true → better t q p ≡ false
       least q a =
           let b : Accepting t s q = accepts-accepting t q a in
-          let near : No-worse (c s) (l s) (cost-from t s q) (length q) = none-nearer t z counts c l k s q (z .within .starts) start b in
+          let near : No-worse (c s) (l s) (cost-from t s q) (size-of t q) = none-nearer t z counts c l k s q (z .within .starts) start b in
           let cp : path-cost t p ≡ c s = sym (cost-start t p) ∙ f .costs in
           let cq : cost-from t s q ≡ path-cost t q = cost-start t q in
-          let lp : length p ≡ l s = f .arcs in
+          let lp : size-of t p ≡ l s = f .size in
           not-better t q p (record {
             near = rw (cp, lp, ← cq) near;
             order = λ n.
-                let n' : No-worse (cost-from t s q) (length q) (c s) (l s) = rw (cp, lp, ← cq) at n in
+                let n' : No-worse (cost-from t s q) (size-of t q) (c s) (l s) = rw (cp, lp, ← cq) at n in
                 let both = no-worse-both n' near in
-                follow-first (l s) s (z .within .starts) start h refl q b (both .0) (both .1);
+                follow-first (l s .arcs) s (z .within .starts) start h refl q b (both .0) (both .1);
           })

@@ -2,7 +2,7 @@
 -- Paths: which is better, and the shortest one.
 pub mod Best
 pub mod Cheapest
--- An arc that gives its source's cost and number of arcs, and the path along such arcs.
+-- An arc that gives its source's cost and size, and the path along such arcs.
 pub mod Tight
 pub mod Followed
 -- The path put into its buffer, and what is answered.

@@ -1,6 +1,6 @@
--- A state's first tight arc: where some arc is tight, the first that gives its source's cost and number of arcs is tight and leaves the same state.
+-- A state's first tight arc: where some arc is tight, the first that gives its source's cost and size is tight and leaves the same state.
 -- Assumes nothing.
-use mathlib.Core.Path.{_≡_, refl, sym, ap, _∙_}
+use mathlib.Core.Path.{_≡_, refl, ap, _∙_}
 use mathlib.Core.Bool.{Bool, true, false, not, cond}
 use Prim.Native.Nat.{ℕ, zero, suc, _+_, _-_, _≤_, _<_}
 use native.Mathlib.Omega.{arith}
@@ -14,12 +14,12 @@ use Rattle.transducer.specs.Weight.{Weight}
 use Rattle.transducer.specs.Leaf.{arcs-below}
 use Rattle.transducer.proofs.Good.{Content}
 use Rattle.transducer.proofs.Index.{arcs-of-state, state-of-arcs}
-use Rattle.distance.specs.Distance.{nearer}
-use Rattle.distance.specs.Nearest.{No-worse, cost-by, arcs-by}
+use Rattle.distance.specs.Distance.{Size, nearer}
+use Rattle.distance.specs.Nearest.{No-worse, cost-by, size-by}
 use Rattle.distance.proofs.Nearer.{no-worse-same, no-worse-both, nearer-false, false-nearer}
 use Rattle.shortest.specs.Tight.{Tight, First, gives, first-giving, first-tight}
 
-module _ (t : Transducer) (c : ℕ → Weight) (l : ℕ → ℕ) (s : ℕ) where
+module _ (t : Transducer) (c : ℕ → Weight) (l : ℕ → Size) (s : ℕ) where
   -- The first arc that gives them, no later than any other.
   pub record Found-first (i j v : ℕ) : Type 0 where
     pub gives-them : gives t c l s v ≡ true
@@ -58,7 +58,7 @@ module _ (t : Transducer) (c : ℕ → Weight) (l : ℕ → ℕ) (s : ℕ) where
       let all : i ≡ first-giving (to - from) t c l s from = rw none at (k .whole) in
       omega (arith, k .high, all)
 
-  module _ (from to i : ℕ) (x : Weight) (m : ℕ) (k : Seeking from to i) (h : i < to) (ex : x ≡ cost-by t c i) (em : m ≡ arcs-by t l i) where
+  module _ (from to i : ℕ) (x : Weight) (m : Size) (k : Seeking from to i) (h : i < to) (ex : x ≡ cost-by t c i) (em : m ≡ size-by t l i) where
     more : to - i ≡ suc (to - (i + 1))
     more = omega arith
 
@@ -88,24 +88,24 @@ module _ (t : Transducer) (c : ℕ → Weight) (l : ℕ → ℕ) (s : ℕ) where
   unfolding first-tight
   giving-tight from to r e f q = rw (e, f) at q
 
--- Where no arc of the state makes it better, one that gives its cost and number of arcs is tight.
-giving-same : (t : Transducer) (c : ℕ → Weight) (l : ℕ → ℕ) (s v : ℕ) → gives t c l s v ≡ true → No-worse (c s) (l s) (cost-by t c v) (arcs-by t l v)
-    → (cost-by t c v ≡ c s) × (arcs-by t l v ≡ l s)
+-- Where no arc of the state makes it better, one that gives its cost and size is tight.
+giving-same : (t : Transducer) (c : ℕ → Weight) (l : ℕ → Size) (s v : ℕ) → gives t c l s v ≡ true → No-worse (c s) (l s) (cost-by t c v) (size-by t l v)
+    → (cost-by t c v ≡ c s) × (size-by t l v ≡ l s)
 unfolding gives
 giving-same t c l s v h n =
-    let back : No-worse (cost-by t c v) (arcs-by t l v) (c s) (l s) =
-    nearer-false (c s) (l s) (cost-by t c v) (arcs-by t l v) (not-true (nearer (c s) (l s) (cost-by t c v) (arcs-by t l v)) h) in
+    let back : No-worse (cost-by t c v) (size-by t l v) (c s) (l s) =
+    nearer-false (c s) (l s) (cost-by t c v) (size-by t l v) (not-true (nearer (c s) (l s) (cost-by t c v) (size-by t l v)) h) in
     no-worse-both back n
 
-same-gives : (t : Transducer) (c : ℕ → Weight) (l : ℕ → ℕ) (s v : ℕ) → cost-by t c v ≡ c s → arcs-by t l v ≡ l s → gives t c l s v ≡ true
+same-gives : (t : Transducer) (c : ℕ → Weight) (l : ℕ → Size) (s v : ℕ) → cost-by t c v ≡ c s → size-by t l v ≡ l s → gives t c l s v ≡ true
 unfolding gives
 same-gives t c l s v e f =
-    let n : nearer (c s) (l s) (cost-by t c v) (arcs-by t l v) ≡ false = false-nearer (rw (e, f) (no-worse-same (c s) (l s))) in
+    let n : nearer (c s) (l s) (cost-by t c v) (size-by t l v) ≡ false = false-nearer (rw (e, f) (no-worse-same (c s) (l s))) in
     rw n refl
 
-pub tight-first : (t : Transducer) → Content t → (c : ℕ → Weight) (l : ℕ → ℕ) (i : ℕ) → Tight t c l i
+pub tight-first : (t : Transducer) → Content t → (c : ℕ → Weight) (l : ℕ → Size) (i : ℕ) → Tight t c l i
     → ((v : ℕ) → v < length (t .arcs) → arc t v .source ≡ arc t i .source
-    → No-worse (c (arc t i .source)) (l (arc t i .source)) (cost-by t c v) (arcs-by t l v))
+    → No-worse (c (arc t i .source)) (l (arc t i .source)) (cost-by t c v) (size-by t l v))
     → First t c l (first-tight t c l (arc t i .source)) i
 unfolding first-tight
 tight-first t good c l i d none =
@@ -114,9 +114,9 @@ tight-first t good c l i d none =
     let to : ℕ = arcs-below (s + 1) (t .arcs) in
     let mine = arcs-of-state t i s good (d .below) refl in
     let f : Found-first t c l s from i (first-giving (to - from) t c l s from) =
-    first-found t c l s (to - from) from i (mine .0) (omega (arith, mine .0, mine .1)) (same-gives t c l s i (d .costs) (d .arcs)) in
+    first-found t c l s (to - from) from i (mine .0) (omega (arith, mine .0, mine .1)) (same-gives t c l s i (d .costs) (d .size)) in
     let v : ℕ = first-giving (to - from) t c l s from in
     let below : v < length (t .arcs) = omega (arith, f .high, d .below) in
     let leaves : arc t v .source ≡ s = state-of-arcs t v s good below (f .low) (omega (arith, f .high, mine .1)) in
     let both = giving-same t c l s v (f .gives-them) (none v below leaves) in
-    record { leaves = leaves; tight = record { below = below; costs = rw leaves (both .0); arcs = rw leaves (both .1) }; first = f .high }
+    record { leaves = leaves; tight = record { below = below; costs = rw leaves (both .0); size = rw leaves (both .1) }; first = f .high }

@@ -2,17 +2,16 @@
 use mathlib.Core.Bool.{Bool, _&&_, _||_, not, cond}
 use mathlib.Core.List.{List, [], _∷_}
 use Prim.Native.Nat.{ℕ}
-use lib.ListN.{length}
 use Rattle.transducer.specs.Format.{Transducer}
 use Rattle.transducer.specs.Path.{path-cost}
 use Rattle.paths.specs.Count.{before, paths-from}
-use Rattle.distance.specs.Distance.{nearer}
+use Rattle.distance.specs.Distance.{size-of, nearer}
 
--- Whether a path comes before another by cost and number of arcs.
+-- Whether a path comes before another by cost, number of labels and number of arcs.
 unfoldable pub nearer-path : Transducer → (p q : List ℕ) → Bool
-nearer-path t p q = nearer (path-cost t p) (length p) (path-cost t q) (length q)
+nearer-path t p q = nearer (path-cost t p) (size-of t p) (path-cost t q) (size-of t q)
 
--- Whether a path is better than another: less cost, then fewer arcs, then first in path order. No other definition compares paths.
+-- Whether a path is better than another: less cost, then fewer labels, then fewer arcs, then first in path order. No other definition compares paths.
 unfoldable pub better : Transducer → (p q : List ℕ) → Bool
 better t p q = nearer-path t p q || (not (nearer-path t q p) && before p q)
 

@@ -11,7 +11,7 @@ pub fn shortest_path(table: &[u8], arcs: &mut [u16], labels: &mut [u16]) -> Told
         (shortest-refusal (now (table .entry)) (length (now (arcs .entry))) (length (now (labels .entry))))
         r (now (arcs .entry)) (now (arcs .exit)) (now (labels .entry)) (now (labels .exit)) ⌝ }
 {
-    let seen = transducer::look(table);
+    let seen = transducer::look(table, true);
     let number = seen.refusal;
     if number != 0 {
         return paths::refused(number);
@@ -23,14 +23,12 @@ pub fn shortest_path(table: &[u8], arcs: &mut [u16], labels: &mut [u16]) -> Told
         return paths::refused(10);
     }
     let mut index = [0u16; transducer::INDEX_LEN];
-    let mut codes = [0u32; transducer::MAX_STATES];
-    let shape = transducer::prepare(table, &mut index, &mut codes);
-    let start = shape.start;
     let mut costs = [0i32; transducer::MAX_STATES];
-    distance::own_costs(shape.states, &codes, &mut costs);
-    let plain = distance::is_plain(shape.states, shape.arcs, seen.least, &costs);
-    let forward = distance::by_states(shape.states, shape.arcs, seen.least, seen.up);
-    let mut lens = [0u16; transducer::MAX_STATES];
+    let shape = distance::begin(table, &mut index, &mut costs);
+    let start = shape.start;
+    let plain = distance::is_plain(shape.states, seen.writes, seen.least, &costs);
+    let forward = distance::by_states(seen.writes, seen.least, seen.up);
+    let mut lens = [0u32; transducer::MAX_STATES];
     let settled = distance::distances(
         table,
         shape.first,
@@ -48,10 +46,12 @@ pub fn shortest_path(table: &[u8], arcs: &mut [u16], labels: &mut [u16]) -> Told
     if !settled {
         return paths::refused(19);
     }
-    if distance::UNREACHED <= costs[start] {
+    let cost = costs[start];
+    if distance::UNREACHED <= cost {
         return paths::refused(16);
     }
-    let len = lens[start] as usize;
+    let len = distance::arcs_of(lens[start]);
     walk::walk(table, shape.first, start, len, &index, &costs, &lens, arcs);
-    paths::tell(table, shape.first, start, &codes, arcs, len, labels)
+    let end = paths::put_labels(table, shape.first, start, arcs, len, labels);
+    paths::answer(cost as i64, len, end.labels)
 }

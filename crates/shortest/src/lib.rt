@@ -1,4 +1,4 @@
-// The shortest path: the accepting path of least cost, then fewest arcs, then first in path order.
+// The shortest path: the accepting path of least cost, then fewest labels written, then fewest arcs, then first in path order.
 mod entry;
 mod walk;
 

@@ -33,7 +33,7 @@ use Rattle.lattice.specs.ApplyEntry.{apply-room, apply-refusal}
 use Rattle.paths.specs.Count.{before, paths-from, paths, goes-on, endless, path-count, nth-path}
 use Rattle.paths.specs.Entry.{count-refusal, nth-refusal}
 use Rattle.least.specs.Cycles.{some-leaving, falls-to, falls-round, some-below, falling-among, falling}
-use Rattle.distance.specs.Distance.{nearer}
+use Rattle.distance.specs.Distance.{size-of, nearer}
 use Rattle.shortest.specs.Shortest.{nearer-path, better, best-of, best, shortest}
 use Rattle.shortest.specs.Entry.{shortest-refusal}
 use Rattle.listing.specs.Code.{labels-in}
@@ -87,8 +87,8 @@ unfolding two four low signed-four signed-low places every framed-from framed re
     string-good step arc-steps applied same-position applied-steps final-position entered some-arc accessible coaccessible useful
     arc-useful renumbered kept-arcs kept-finals kept-numbers trimmed origins-kept lattice lattice-origins apply-room apply-refusal before paths-from
     paths
-    goes-on endless path-count nth-path count-refusal nth-refusal nearer nearer-path better best-of best shortest some-leaving falls-to falls-round
-    some-below falling-among falling shortest-refusal labels-in digits
+    goes-on endless path-count nth-path count-refusal nth-refusal size-of nearer nearer-path better best-of best shortest some-leaving falls-to
+    falls-round some-below falling-among falling shortest-refusal labels-in digits
     decimal cost-text readings-word labels-text line line-of lines counted-text listing-text code-refusal applied-refusal text-unless listing-refusal text-of
     or-refused read-answer write-answer path-answer defined repeated
 all-hold x y z =

@@ -1,7 +1,7 @@
 -- The fields of arcs gathered in one number of eight bytes: by `bitOr`, which is never below either of two numbers, nor in any field; and by `bitAnd`, which
 -- is never above.
 --     or-above-l, or-above-r, or-input-.., or-output-.., or-target-..      bitOr only grows
---     and-target-l, and-target-r                                          bitAnd only falls
+--     and-target-.., and-output-..                                        bitAnd only falls
 --     eight-input, eight-output, eight-target                             what the fields are
 -- Assumes nothing.
 use mathlib.Core.Path.{_≡_, _∙_}
@@ -9,7 +9,7 @@ use mathlib.Core.List.{List}
 use Prim.Native.Nat.{ℕ, _+_, _*_, _/_, _%_, _≤_, _<_}
 use native.Mathlib.Nat.{add-mul-div-left, div-eq-of-lt, add-mul-mod-self-left, mod-eq-of-lt}
 use native.Mathlib.Omega.{arith}
-use lib.Bits.{bitOr, bitAnd, or-add-and, and-le-l, and-le-r, or-mod, or-shr}
+use lib.Bits.{bitOr, bitAnd, or-add-and, and-le-l, and-le-r, or-mod, or-shr, and-mod, and-shr}
 use lib.Dec.{lit<}
 use Rattle.wire.specs.Bytes.{Bytes, two, four}
 use Rattle.wire.proofs.Low.{two-below, four-below}
@@ -54,6 +54,15 @@ and-target-l a b = omega (arith, and-le-l a b)
 
 pub and-target-r : (a b : ℕ) → target-of (bitAnd a b) ≤ target-of b
 and-target-r a b = omega (arith, and-le-r a b)
+
+pub and-output : (a b : ℕ) → output-of (bitAnd a b) ≡ bitAnd (output-of a) (output-of b)
+and-output a b = rw (and-shr a b 32) (and-mod (a / 4294967296) (b / 4294967296) 16)
+
+pub and-output-l : (a b : ℕ) → output-of (bitAnd a b) ≤ output-of a
+and-output-l a b = rw (and-output a b) (and-le-l (output-of a) (output-of b))
+
+pub and-output-r : (a b : ℕ) → output-of (bitAnd a b) ≤ output-of b
+and-output-r a b = rw (and-output a b) (and-le-r (output-of a) (output-of b))
 
 -- Fields
 

@@ -4,7 +4,7 @@
 --     arc-passes, arcs-checked-snoc                       an arc that passes each test, and one more arc at the end
 --     under-none, under-next                              no target is below that of the gathered fields
 --     glanced-first, glanced-next, glanced-stop           the loop
---     glanced-lower, glanced-under                        a lower weight than any before; fields gathered anew
+--     glanced-lower                                       a lower weight than any before
 -- Assumes nothing.
 use mathlib.Core.Path.{_≡_, refl, sym, ap, _∙_}
 use mathlib.Core.Bool.{Bool, true, false, and-true}
@@ -29,11 +29,13 @@ use Rattle.transducer.specs.declared.Checks.{Checks}
 use Rattle.transducer.specs.declared.check.Glance.{Glance}
 use Rattle.transducer.specs.Format.{barred, arc-bytes, min-weight, max-weight, weight-good, weight-at, labels-good, arc-at}
 use Rattle.transducer.specs.Check.{arc-checked, arcs-checked, with-floor, arc-word, unsure, eight, input-of, output-of, target-of}
-use Rattle.transducer.specs.Check.{Good-up-to, Good-fields, Rows, Between, None-under, Glanced, Goes-on, None-below, Each-up, Glance-says}
+use Rattle.transducer.specs.Check.{Good-up-to, Good-fields, Rows, Between, None-under, Glanced, Goes-on, None-below, Each-up}
+use Rattle.transducer.specs.Check.{Each-writes, Glance-says}
 use Rattle.transducer.specs.Weight.{Weight, rebate, At-most}
 use Rattle.transducer.proofs.Labels.{unbarred-good}
 use Rattle.transducer.proofs.Weights.{good-range, range-good, most-trans}
 use Rattle.transducer.proofs.Fields.{or-input-l, or-input-r, or-output-l, or-output-r, or-target-l, or-target-r, and-target-l, and-target-r}
+use Rattle.transducer.proofs.Fields.{and-output-l, and-output-r}
 use Rattle.transducer.proofs.Fields.{eight-input, eight-output, eight-target}
 
 -- What is good up to bounds
@@ -102,23 +104,28 @@ pub none-below-good : (bs : List ℕ) (at count : ℕ) → None-below bs at coun
 none-below-good bs at count = record { light = λ k h good. good-range (arc-at bs (at + arc-bytes * k) .weight) good .low }
 
 pub says-unsure : (bs : List ℕ) (at count n floor : ℕ) (g : Glance) → g .last ≡ unsure → g .least ≡ min-weight → g .up ≡ false →
-    Glance-says bs at count n floor g
-says-unsure bs at count n floor g e f not-up =
+    g .writes ≡ false → Glance-says bs at count n floor g
+says-unsure bs at count n floor g e f not-up not-writes =
     record {
       plain = record { all-pass = λ h. absurd (h e) };
       light = rw f (none-below-good bs at count);
       up = λ u. clash u not-up;
+      writes = λ u. clash u not-writes;
     }
 
--- No target is below that of fields gathered by bitAnd.
+-- No target and no output is below that of fields gathered by bitAnd.
 
 pub under-none : (bs : List ℕ) (at all : ℕ) → None-under bs at all at
-under-none bs at all = record { leads = λ k h. absurd (omega (arith, h)) }
+under-none bs at all = record { leads = λ k h. absurd (omega (arith, h)); outputs = λ k h. absurd (omega (arith, h)) }
 
 pub under-next : {bs : List ℕ} {at all place : ℕ} (arcs : ℕ) → Bytes bs → place ≡ at + arc-bytes * arcs → None-under bs at all place →
     None-under bs at (bitAnd all (eight bs (place + 4))) (place + 16)
 unfolding arc-at
-under-next {bs} {at} {all} {place} arcs b there under = record { leads = λ k h. by-test (eqb k arcs) (this k) (before k h) }
+under-next {bs} {at} {all} {place} arcs b there under =
+    record {
+      leads = λ k h. by-test (eqb k arcs) (this k) (before k h);
+      outputs = λ k h. by-test (eqb k arcs) (this-output k) (before-output k h);
+    }
   where
     x : ℕ
     x = eight bs (place + 4)
@@ -131,6 +138,15 @@ under-next {bs} {at} {all} {place} arcs b there under = record { leads = λ k h.
     before : (k : ℕ) → at + 16 * k < place + 16 → eqb k arcs ≡ false → target-of (bitAnd all x) ≤ two bs (at + 16 * k + 10)
     before k h e =
         omega (arith, under .leads k (omega (arith, h, there, eqb-false k arcs e)), and-target-l all x)
+
+    this-output : (k : ℕ) → eqb k arcs ≡ true → output-of (bitAnd all x) ≤ two bs (at + 16 * k + 8)
+    this-output k e =
+        let same : at + 16 * k + 8 ≡ place + 4 + 4 = omega (arith, eqb-true k arcs e, there) in
+        rw (same, ← eight-output bs (place + 4) b) (and-output-r all x)
+
+    before-output : (k : ℕ) → at + 16 * k < place + 16 → eqb k arcs ≡ false → output-of (bitAnd all x) ≤ two bs (at + 16 * k + 8)
+    before-output k h e =
+        omega (arith, under .outputs k (omega (arith, h, there, eqb-false k arcs e)), and-output-l all x)
 
 -- The loop
 
@@ -214,10 +230,7 @@ module _ {bs : List ℕ} {at count n : ℕ} {each : Bool} {floor last any all pl
         under = under-next (g .arcs) b (g .there) (g .under);
       }
 
-  -- The arcs up to here, and from here on.
-  pub glanced-rows : Rows at place
-  glanced-rows = record { many = g .arcs; end-is = g .there }
-
+  -- The arcs from here on.
   pub glanced-rest : Rows place (at + arc-bytes * count)
   glanced-rest = record { many = count - g .arcs; end-is = omega (arith, g .there, g .within) }
 
@@ -233,10 +246,6 @@ module _ {bs : List ℕ} {at count n : ℕ} {each : Bool} {floor last any all pl
         under = g .under;
       }
 
-  pub glanced-under : (anew : ℕ) → None-under bs at anew place → Glanced bs at count n each floor last any anew least place
-  glanced-under anew u =
-      record { arcs = g .arcs; within = g .within; there = g .there; passing = g .passing; light = g .light; steps = g .steps; under = u }
-
   -- All arcs are seen.
   module _ (h : at + arc-bytes * count ≤ place) where
     seen-all : g .arcs ≡ count
@@ -249,19 +258,28 @@ module _ {bs : List ℕ} {at count n : ℕ} {each : Bool} {floor last any all pl
     seen-up u =
         record { rises = λ k l. omega (arith, g .steps k (omega (arith, l, seen-all)), u, g .under .leads k (omega (arith, l, seen-all, g .there))) }
 
+    seen-writes : 0 < output-of all → Each-writes bs at count
+    seen-writes u = record { some = λ k l. omega (arith, u, g .under .outputs k (omega (arith, l, seen-all, g .there))) }
+
     pub glanced-stop : last < n → Good-fields any n each → (r : Glance) → r .last ≡ last → r .least ≡ least → (r .up ≡ true → last < target-of all) →
-        Glance-says bs at count n floor r
-    glanced-stop below good r e f up =
+        (r .writes ≡ true → 0 < output-of all) → Glance-says bs at count n floor r
+    glanced-stop below good r e f up writes =
         record {
           plain = record { all-pass = λ _ c s. rw (e, ← seen-all) (g .passing below good c s) };
           light = rw f seen-light;
           up = λ u. seen-up (up u);
+          writes = λ u. seen-writes (writes u);
         }
 
     -- The least weight is known where the labels are not.
-    pub glanced-unsure : (r : Glance) → r .last ≡ unsure → r .least ≡ least → r .up ≡ false → Glance-says bs at count n floor r
-    glanced-unsure r e f not-up =
-        record { plain = record { all-pass = λ k. absurd (k e) }; light = rw f seen-light; up = λ u. clash u not-up }
+    pub glanced-unsure : (r : Glance) → r .last ≡ unsure → r .least ≡ least → r .up ≡ false → r .writes ≡ false → Glance-says bs at count n floor r
+    glanced-unsure r e f not-up not-writes =
+        record {
+          plain = record { all-pass = λ k. absurd (k e) };
+          light = rw f seen-light;
+          up = λ u. clash u not-up;
+          writes = λ u. clash u not-writes;
+        }
 
 -- A run, of which the arcs up to `place` are seen.
 pub record Running (bs : List ℕ) (from end n : ℕ) (each : Bool) (last any all : ℕ) (least : Weight) (before most lowest place : ℕ) : Type 0 where
@@ -297,29 +315,3 @@ rebate-lower a b h = omega (arith, sums, minus (pos a), minus (pos b))
 
 pub rebate-good : (a : ℕ) → a ≤ 1000000 → At-most min-weight (rebate a)
 rebate-good a h = rebate-lower a 1000000 h
-
--- The arcs up to a place, their fields gathered by bitAnd.
-pub record Gathered (bs : List ℕ) (at end all place : ℕ) : Type 0 where
-  pub arcs : ℕ
-  pub there : place ≡ at + arc-bytes * arcs
-  pub rows : Rows place end
-  pub under : None-under bs at all place
-
-pub gathered-first : {bs : List ℕ} {at end all : ℕ} → Rows at end → Gathered bs at end all at
-gathered-first {bs} {at} {end} {all} rows = record { arcs = 0; there = omega arith; rows = rows; under = under-none bs at all }
-
-module _ {bs : List ℕ} {at end all place : ℕ} (g : Gathered bs at end all place) where
-  pub gathered-room : place < end → place + 16 ≤ end
-  gathered-room h = omega (arith, h, g .rows .end-is)
-
-  pub gathered-next : place < end → Bytes bs → Gathered bs at end (bitAnd all (eight bs (place + 4))) (place + 16)
-  gathered-next h b =
-      record {
-        arcs = g .arcs + 1;
-        there = omega (arith, g .there);
-        rows = record { many = g .rows .many - 1; end-is = omega (arith, h, g .rows .end-is) };
-        under = under-next (g .arcs) b (g .there) (g .under);
-      }
-
-  pub gathered-all : end ≤ place → None-under bs at all end
-  gathered-all h = record { leads = λ k l. g .under .leads k (omega (arith, h, l)) }

@@ -1,10 +1,9 @@
 -- The tests of refusals 5 to 8, gathered in one pass over the finals and the arcs. Assumes nothing: these are definitions.
 use mathlib.Core.Path.{_≡_}
 use mathlib.Core.Bool.{Bool, true, false, _&&_, not, cond}
-use mathlib.Core.List.{List, [], _∷_}
+use mathlib.Core.List.{List}
 use Prim.Native.Nat.{ℕ, zero, suc, _+_, _*_, _/_, _%_, _≤_, _<_}
 use lib.Dec.{ltb, leb, eqb}
-use lib.ListN.{getD}
 use Rattle.wire.specs.Bytes.{four}
 use Rattle.transducer.specs.declared.Arc.{Arc}
 use Rattle.transducer.specs.declared.Final.{Final}
@@ -12,7 +11,7 @@ use Rattle.transducer.specs.declared.Checks.{Checks}
 use Rattle.transducer.specs.declared.check.Glance.{Glance}
 use Rattle.transducer.specs.Format.{head-bytes, final-bytes, arc-bytes, arcs-at, weight-good, labels-good, final-at, arc-at, framed, kinds-good, records}
 use Rattle.transducer.specs.Format.{head-good, head-states, head-arcs, head-finals, head-start}
-use Rattle.transducer.specs.Weight.{Weight, At-most}
+use Rattle.transducer.specs.Weight.{Weight, rebate, At-most}
 
 -- Length and kind of a final's and of an arc's record, as one number of four bytes.
 abbrev pub head-word : ℕ
@@ -96,9 +95,10 @@ pub record Rows (from end : ℕ) : Type 0 where
   pub many : ℕ
   pub end-is : end ≡ from + arc-bytes * many
 
--- No arc from `at` up to `end` leads to a state below the target of `all`.
+-- No arc from `at` up to `end` leads to a state below the target of `all`, nor has an output below its output.
 pub record None-under (bs : List ℕ) (at all end : ℕ) : Type 0 where
   pub leads : (k : ℕ) → at + arc-bytes * k < end → target-of all ≤ arc-at bs (at + arc-bytes * k) .target
+  pub outputs : (k : ℕ) → at + arc-bytes * k < end → output-of all ≤ arc-at bs (at + arc-bytes * k) .output
 
 -- How far a good weight is below zero at most.
 abbrev pub most-below : ℕ
@@ -110,7 +110,7 @@ pub record Between (low weight high : Weight) : Type 0 where
   pub not-above : At-most weight high
 
 -- What is seen of the arcs up to a place, of `count` from `at` on: if the last source is a state and the gathered fields are good, then each passes each
--- test. No weight is below `least`, no source is above the last, and no target is below that of `all`.
+-- test. No weight is below `least`, no source is above the last, and no target and no output is below that of `all`.
 pub record Glanced (bs : List ℕ) (at count n : ℕ) (each : Bool) (floor last any all : ℕ) (least : Weight) (place : ℕ) : Type 0 where
   pub arcs : ℕ
   pub within : arcs ≤ count
@@ -127,6 +127,11 @@ Goes-on bs from end n each last any all least before most lowest place =
     (at count floor : ℕ) → end ≡ at + arc-bytes * count → Glanced bs at count n each floor last any all least from →
     Glanced bs at count n each floor before most lowest least place
 
+-- What a first run leaves.
+abbrev pub Seen : (bs : List ℕ) (at end n : ℕ) (each : Bool) (floor last any all place : ℕ) → Type 0
+Seen bs at end n each floor last any all place =
+    (count : ℕ) → end ≡ at + arc-bytes * count → Glanced bs at count n each floor last any all (rebate 0) place
+
 -- What a glance at arcs answers: `unsure`, or the source of the last where each passes each test, the floor where there are none.
 abbrev pub unsure : ℕ
 unsure = 4294967295
@@ -142,10 +147,15 @@ pub record None-below (bs : List ℕ) (at count : ℕ) (least : Weight) : Type 0
 pub record Each-up (bs : List ℕ) (at count : ℕ) : Type 0 where
   pub rises : (k : ℕ) → k < count → arc-at bs (at + arc-bytes * k) .source < arc-at bs (at + arc-bytes * k) .target
 
+-- Each of them writes a label.
+pub record Each-writes (bs : List ℕ) (at count : ℕ) : Type 0 where
+  pub some : (k : ℕ) → k < count → 0 < arc-at bs (at + arc-bytes * k) .output
+
 pub record Glance-says (bs : List ℕ) (at count n floor : ℕ) (g : Glance) : Type 0 where
   pub plain : Plain bs at count n floor (g .last)
   pub light : None-below bs at count (g .least)
   pub up : g .up ≡ true → Each-up bs at count
+  pub writes : g .writes ≡ true → Each-writes bs at count
 
 -- The tests of all records, at the places that f finals and m arcs give.
 unfoldable pub all-checked : List ℕ → (n m f : ℕ) → Checks

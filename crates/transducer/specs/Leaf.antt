@@ -1,8 +1,8 @@
 -- What the leaves answer: the first-arc index, and final weights by state. Assumes nothing: these are definitions.
 use mathlib.Core.Path.{_≡_}
-use mathlib.Core.Bool.{Bool, true, false, cond}
+use mathlib.Core.Bool.{true, cond}
 use mathlib.Core.List.{List, [], _∷_}
-use Prim.Native.Nat.{ℕ, zero, suc, _+_, _*_, _≤_, _<_, max}
+use Prim.Native.Nat.{ℕ, suc, _+_, _≤_, _<_, max}
 use lib.Dec.{ltb}
 use lib.ListN.{length, getD}
 use Rattle.transducer.specs.declared.Arc.{Arc}
@@ -24,11 +24,12 @@ pub record Opened (bs : List ℕ) (first : ℕ) : Type 0 where
   pub first-is : first ≡ arcs-at (head-finals bs)
 
 -- What a look at bytes tells: the refusal or 0, and where they are accepted a weight that none of the arcs is below; `up` only where each arc leads to a
--- higher state.
+-- higher state, `writes` only where each writes a label.
 pub record Looked-says (bs : List ℕ) (r : Looked) : Type 0 where
   pub refusal-is : r .refusal ≡ refusal bs
   pub light : refusal bs ≡ 0 → (i : ℕ) → i < length (decode bs .arcs) → At-most (r .least) (arc (decode bs) i .weight)
   pub rises : refusal bs ≡ 0 → r .up ≡ true → (i : ℕ) → i < length (decode bs .arcs) → arc (decode bs) i .source < arc (decode bs) i .target
+  pub written : refusal bs ≡ 0 → r .writes ≡ true → (i : ℕ) → i < length (decode bs .arcs) → 0 < arc (decode bs) i .output
 
 -- How many arcs leave states below s. Sources never fall, so the arcs of s are those numbered from here to below the same of s + 1.
 unfoldable pub arcs-below : (s : ℕ) → List Arc → ℕ

@@ -1,14 +1,14 @@
 // Refusals 5 to 8 gathered in one pass over the records.
 ghost use mathlib.Core.Path.{_≡_};
 ghost use mathlib.Core.Bool.{true, false};
-ghost use Prim.Native.Nat.{ℕ, _+_, _*_, _≤_, _<_};
+ghost use Prim.Native.Nat.{_+_, _*_, _≤_, _<_};
 ghost use lib.ListN.{length};
 ghost use mir.Syntax.{w32};
 ghost use mir.Val.{toZ};
 ghost use Rattle.wire.specs.Bytes.{four};
 ghost use Rattle.transducer.specs.Format.{final-bytes, arc-bytes, final-at, arc-at, first-of, min-weight, max-weight};
-ghost use Rattle.transducer.specs.Check.{final-checked, arc-checked, finals-checked, arcs-checked, from-0, final-word, arc-word, unsure};
-ghost use Rattle.transducer.specs.Check.{most-below, eight, Good-up-to, Good-fields, Plain, Rows, None-under, Between, Goes-on, Glance-says};
+ghost use Rattle.transducer.specs.Check.{final-checked, arc-checked, finals-checked, arcs-checked, from-0, unsure};
+ghost use Rattle.transducer.specs.Check.{most-below, eight, Good-up-to, Good-fields, Plain, Rows, Between, Goes-on, Seen, Glance-says};
 ghost use Rattle.transducer.specs.Weight.{rebate};
 use crate::Arc;
 use crate::Checks;
@@ -143,40 +143,42 @@ pub fn check_arcs(bytes: &[u8], at: usize, count: usize, n: u32, c: Checks, last
     }
 }
 
-// What a glance at arcs tells: the source of the last, or UNSURE; a weight that none is below; and `up` only where each leads to a higher state, which is
-// told only where a weight is below zero.
+// What a glance at arcs tells: the source of the last, or UNSURE; a weight that none is below; and where the glance is close, `up` only where each leads to a
+// higher state and `writes` only where each writes a label.
 pub struct Glance {
     pub last: u32,
     pub least: i32,
     pub up: bool,
+    pub writes: bool,
 }
 
 // No arc is known to pass; no good weight is below this one.
 fn not_sure() -> Glance
-    ensures { λ r. ⌜ (r .last ≡ unsure) × (r .least ≡ min-weight) × (r .up ≡ false) ⌝ }
+    ensures { λ r. ⌜ (r .last ≡ unsure) × (r .least ≡ min-weight) × (r .up ≡ false) × (r .writes ≡ false) ⌝ }
 {
     Glance {
         last: UNSURE,
         least: bounds::MIN_WEIGHT,
         up: false,
+        writes: false,
     }
 }
 
 // The source of the last of these arcs, `floor` where there are none, if it is seen at a glance that each passes each test; else UNSURE.
 // Most often no weight is below zero. Else the run of arcs goes on with the weight that ended it, as long as that is lower than before.
-// Where the number of states is a power of two, targets gathered by `|` tell as much as each by itself, so none is tested alone. What the first run gathers
-// by `&` is not used, so that it costs nothing where no weight is below zero.
-pub fn glance_at(bytes: &[u8], at: usize, count: usize, n: u32, floor: u32) -> Glance
+// Where the number of states is a power of two, targets gathered by `|` tell as much as each by itself, so none is tested alone. Only a `close` glance gathers
+// by `&`, so that it costs nothing where it is not asked for.
+pub fn glance_at(bytes: &[u8], at: usize, count: usize, n: u32, floor: u32, close: bool) -> Glance
     requires { ⌜ at + arc-bytes * count ≤ length (now bytes) ⌝ }
     ensures { λ r. ⌜ Glance-says (now (bytes .entry)) at count n floor r ⌝ }
 {
     let end = at + bounds::ARC_BYTES * count;
     let each = n & std::num::wrapping_sub_u32(n, 1) != 0;
-    let rising = run_on(bytes, at, end, n, each, floor, 0, ALL_ONES, 0);
+    let rising = first_run(bytes, at, end, n, each, floor, close);
     let mut place = rising.place;
     let mut last = rising.last;
     let mut any = rising.any;
-    let mut all = lowest_before(bytes, at, place, end);
+    let mut all = rising.all;
     let mut below = 0;
     while place < end {
         // How far the weight is below zero; too much where it is above.
@@ -202,12 +204,14 @@ pub fn glance_at(bytes: &[u8], at: usize, count: usize, n: u32, floor: u32) -> G
             last: UNSURE,
             least: minus(below),
             up: false,
+            writes: false,
         };
     }
     Glance {
         last,
         least: minus(below),
         up: wide64(last) < all >> 48,
+        writes: 0 < (all >> 32) & 65535,
     }
 }
 
@@ -240,31 +244,6 @@ fn fields_at(bytes: &[u8], at: usize) -> u64
     ensures { λ r. ⌜ r ≡ eight (now (bytes .entry)) at ⌝ }
 {
     wide64(wire::u32_at(bytes, at)) + 4294967296 * wide64(wire::u32_at(bytes, at + 4))
-}
-
-// The fields of the arcs from `at` up to `place`, gathered by `&`; 0, which is not above any, where all arcs were passed.
-fn lowest_before(bytes: &[u8], at: usize, place: usize, end: usize) -> u64
-    requires { ⌜ (end ≤ length (now bytes)) × Rows at place ⌝ }
-    ensures { λ r. ⌜ None-under (now (bytes .entry)) at r place ⌝ }
-{
-    if end <= place {
-        return 0;
-    }
-    lowest(bytes, at, place)
-}
-
-// The same of all arcs up to `end`.
-fn lowest(bytes: &[u8], at: usize, end: usize) -> u64
-    requires { ⌜ (end ≤ length (now bytes)) × Rows at end ⌝ }
-    ensures { λ r. ⌜ None-under (now (bytes .entry)) at r end ⌝ }
-{
-    let mut all = ALL_ONES;
-    let mut place = at;
-    while place < end {
-        all = all & fields_at(bytes, place + 4);
-        place += bounds::ARC_BYTES;
-    }
-    all
 }
 
 // Where a run of arcs ends that pass each test but that of what is gathered, the source of the last, and their fields gathered: by `|`, which is never below
@@ -322,6 +301,25 @@ fn run_on(
         any: most,
         all: lowest,
     }
+}
+
+// The first run, with no weight below zero. Two calls: one that begins with 0 need not gather by `&`, as that stays 0.
+fn first_run(
+    bytes: &[u8],
+    at: usize,
+    end: usize,
+    n: u32,
+    each: bool,
+    floor: u32,
+    close: bool,
+) -> Run
+    requires { ⌜ (end ≤ length (now bytes)) × Rows at end ⌝ }
+    ensures { λ r. ⌜ Seen (now (bytes .entry)) at end n each floor (r .last) (r .any) (r .all) (r .place) ⌝ }
+{
+    if close {
+        return run_on(bytes, at, end, n, each, floor, 0, ALL_ONES, 0);
+    }
+    run_on(bytes, at, end, n, each, floor, 0, 0, 0)
 }
 
 // If true, all labels up to these are good, and unless each target was tested, all targets up to these are states.

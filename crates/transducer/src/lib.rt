@@ -76,11 +76,12 @@ pub struct Checks {
 }
 
 // What a look at bytes tells: the refusal or 0, and where they are accepted a weight that none of the arcs is below; `up` only where each arc leads to a
-// higher state.
+// higher state, `writes` only where each writes a label.
 pub struct Looked {
     pub refusal: u32,
     pub least: i32,
     pub up: bool,
+    pub writes: bool,
 }
 
 // What reading answers: the refusal or 0, then the head's numbers, 0 on refusal.

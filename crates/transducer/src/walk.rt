@@ -2,14 +2,17 @@
 // only where they are not there do the records' lengths and kinds say which of 1 to 4 it is.
 ghost use mathlib.Core.Path.{_≡_};
 ghost use mathlib.Core.Bool.{true, false};
-ghost use Prim.Native.Nat.{ℕ, _+_, _*_, _≤_, _<_};
+ghost use Prim.Native.Nat.{_+_, _*_, _<_};
 ghost use lib.ListN.{length};
 ghost use Rattle.transducer.specs.Format.{framed, kinds-good, kind-good, records, refusal, arcs-at, arc-bytes, min-weight};
-ghost use Rattle.transducer.specs.Check.{all-checked, walked, None-below, Each-up};
+ghost use Rattle.transducer.specs.Check.{all-checked, walked, None-below, Each-up, Each-writes};
 ghost use Rattle.transducer.specs.Leaf.{Looked-says};
 use crate::Checks;
 use crate::Looked;
 use crate::check;
+
+// So many arcs to a state make a close look worth its while.
+const MANY: u32 = 16;
 
 // 1: whether records follow one another to the very end.
 fn framing_ok(bytes: &[u8]) -> bool
@@ -87,18 +90,20 @@ fn walk(bytes: &[u8]) -> u32
     4
 }
 
-// The tests of all records, and a weight that none of the arcs is below; `up` only where each arc leads to a higher state.
+// The tests of all records, and a weight that none of the arcs is below; `up` only where each arc leads to a higher state, `writes` only where
+// each writes a label.
 struct All {
     checks: Checks,
     least: i32,
     up: bool,
+    writes: bool,
 }
 
-// The same for the records at the places that the head gives.
-fn check_all(bytes: &[u8], n: u32, m: usize, f: usize) -> All
+// The same for the records at the places that the head gives. The arcs come first: what is known of the finals would take registers from that loop.
+fn check_all(bytes: &[u8], n: u32, m: usize, f: usize, close: bool) -> All
     requires { ⌜ (length (now bytes) ≡ arcs-at f + arc-bytes * m) × (f < 65536) ⌝ }
     ensures { λ r. ⌜ (r .checks ≡ all-checked (now (bytes .entry)) n m f) × None-below (now (bytes .entry)) (arcs-at f) m (r .least)
-        × (r .up ≡ true → Each-up (now (bytes .entry)) (arcs-at f) m) ⌝ }
+        × (r .up ≡ true → Each-up (now (bytes .entry)) (arcs-at f) m) × (r .writes ≡ true → Each-writes (now (bytes .entry)) (arcs-at f) m) ⌝ }
 {
     let none = Checks {
         heads: true,
@@ -108,29 +113,32 @@ fn check_all(bytes: &[u8], n: u32, m: usize, f: usize) -> All
         weights: true,
         floor: 0,
     };
-    let finals = check::restart(check::check_finals(bytes, bounds::HEAD_BYTES, f, n, none));
     let at = bounds::arcs_at(f);
-    let seen = check::glance_at(bytes, at, m, n, 0);
+    let seen = check::glance_at(bytes, at, m, n, 0, close);
+    let finals = check::restart(check::check_finals(bytes, bounds::HEAD_BYTES, f, n, none));
     All {
         checks: check::check_arcs(bytes, at, m, n, finals, seen.last),
         least: seen.least,
         up: seen.up,
+        writes: seen.writes,
     }
 }
 
 // What is told of bytes whose records do not stand where the head says.
 fn misplaced(bytes: &[u8]) -> Looked
-    ensures { λ r. ⌜ (r .refusal ≡ walked (now (bytes .entry))) × (r .least ≡ min-weight) × (r .up ≡ false) ⌝ }
+    ensures { λ r. ⌜ (r .refusal ≡ walked (now (bytes .entry))) × (r .least ≡ min-weight) × (r .up ≡ false) × (r .writes ≡ false) ⌝ }
 {
     Looked {
         refusal: walk(bytes),
         least: bounds::MIN_WEIGHT,
         up: false,
+        writes: false,
     }
 }
 
-// Refusals 1 to 8 of bytes, or 0 where they are accepted, a weight that none of the arcs is below, and whether each is known to lead up. Linear in the bytes.
-pub fn look(bytes: &[u8]) -> Looked
+// Refusals 1 to 8 of bytes, or 0 where they are accepted, a weight that none of the arcs is below, and, if the look is `close` and states have many arcs,
+// whether each is known to lead up and to write a label. Linear in the bytes.
+pub fn look(bytes: &[u8], close: bool) -> Looked
     ensures { λ r. ⌜ Looked-says (now (bytes .entry)) r ⌝ }
 {
     if bytes.len() < bounds::HEAD_BYTES {
@@ -149,7 +157,7 @@ pub fn look(bytes: &[u8]) -> Looked
     if bytes.len() != bounds::arcs_at(f as usize) + bounds::ARC_BYTES * (m as usize) {
         return misplaced(bytes);
     }
-    let all = check_all(bytes, n, m as usize, f as usize);
+    let all = check_all(bytes, n, m as usize, f as usize, close & (MANY * n < m));
     let c = all.checks;
     if !c.heads {
         return misplaced(bytes);
@@ -158,6 +166,7 @@ pub fn look(bytes: &[u8]) -> Looked
         refusal: check::number(c),
         least: all.least,
         up: all.up,
+        writes: all.writes,
     }
 }
 
@@ -165,6 +174,6 @@ pub fn look(bytes: &[u8]) -> Looked
 pub fn refusal(bytes: &[u8]) -> u32
     ensures { λ r. ⌜ r ≡ refusal (now (bytes .entry)) ⌝ }
 {
-    let seen = look(bytes);
+    let seen = look(bytes, false);
     seen.refusal
 }

@@ -13,7 +13,7 @@ use native.Mathlib.Omega.{arith}
 use lib.Dec.{T, ltb, leb, leb→le, le→leb, ltb→lt, lt→ltb}
 use lib.IntN.{ℤ, pos, negsuc, _+ℤ_, _-ℤ_, negℤ, subℕ}
 use lib.Signed.{mag, leZ, ltZ, _≤ℤ_, _<ℤ_}
-use mir.Syntax.{Width}
+use mir.Syntax.{Width, w32, w64}
 use mir.Val.{SFits, toZ, ofZ}
 use mir.Facts.{toZ-ofZ}
 use borrow.Author.Tests.{ltb-true, ltb-false, leb-true, leb-false, lt-ltb, le-ltb, le-leb, lt-leb}
@@ -247,6 +247,11 @@ raised n x = over (x +ℤ pos n)
 
 pub raised-is : (n : ℕ) (x : ℤ) → negℤ (pos n) ≤ℤ x → raised n x + under x ≡ over x + n
 raised-is n x h = omega (arith, sums, sum x (pos n), minus (pos n), size (x +ℤ pos n))
+
+-- 32 bits go into 64.
+
+pub wider : (x : ℤ) → SFits w32 x → SFits w64 x
+wider x f = record { sfits = omega (arith, sums, size x, f .sfits) }
 
 -- A number that fits, read back from its bits.
 

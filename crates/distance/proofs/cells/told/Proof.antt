@@ -2,17 +2,14 @@
 use mathlib.Core.Path.{_≡_, refl, ap, _∙_}
 use mathlib.Core.Bool.{true, false}
 use native.Mathlib.Omega.{arith}
-use mir.Syntax.{w32, w64}
-use mir.Val.{SFits, toZ, ofZ}
+use mir.Syntax.{w64}
+use mir.Val.{toZ, ofZ}
 use mir.Facts.{toZ-ofZ}
-use Rattle.wire.proofs.Ints.{bits, sums, size}
+use Rattle.wire.proofs.Ints.{bits, wider}
 use Rattle.transducer.specs.Weight.{Weight, below}
 use Rattle.distance.specs.Nearest.{unreached, cost-told}
 use Rattle.distance.proofs.cells.told.Statement.{statement}
 use Rattle.distance.proofs.cells.told.Tie as tie
-
-wider : (x : Weight) → SFits w32 x → SFits w64 x
-wider x f = record { sfits = omega (arith, sums, size x, f .sfits) }
 
 cast-result : tie.Need-cast-result
 cast-result c = rw (toZ-ofZ (c .before .fits .cost)) (wider (c .before .args .cost) (c .before .fits .cost))

@@ -2,15 +2,13 @@
 use borrow.Author.Needs.{needs}
 use borrow.Author.Tests.{not-true, not-false}
 use mathlib.Core.Path.{_≡_, refl, sym, _∙_}
-use Prim.Native.Nat.{ℕ}
 use native.Mathlib.Omega.{arith}
-use lib.ListN.{replicate, length-replicate}
 use mir.Syntax.{w32}
 use mir.Facts.{toZ-ofZ}
 use Rattle.wire.specs.Bytes.{Bytes}
-use Rattle.transducer.specs.Format.{max-states, refusal, decode}
+use Rattle.transducer.specs.Format.{refusal, decode}
 use Rattle.paths.proofs.Ready.{Sized, sized}
-use Rattle.distance.proofs.EmptyPaths.{nearing-first, getD-zeros, plain-rising}
+use Rattle.distance.proofs.EmptyPaths.{nearing-first, no-sizes, none-yet, cells-first, plain-rising}
 use Rattle.distance.proofs.Answers.{costs-bad, costs-short, costs-fall, costs-told}
 use Rattle.distance.proofs.entry.costs_to_come.Statement.{statement}
 use Rattle.distance.proofs.entry.costs_to_come.Tie as tie
@@ -22,20 +20,17 @@ at-refusal c = c .before .before
 abbrev start : tie.Else2 → tie.Start
 start c = at-refusal c .before .before
 
-abbrev passed : tie.After-prepare → tie.Else2
+abbrev passed : tie.After-begin → tie.Else2
 passed c = c .before .before .before
 
-abbrev prepared : tie.After-own-costs → tie.After-prepare
-prepared c = c .before .before .before
-
-abbrev at-own : tie.After-is-plain → tie.After-own-costs
-at-own c = c .before .before .before
+abbrev begun-at : tie.After-is-plain → tie.After-begin
+begun-at c = c .before .before .before
 
 abbrev looked : tie.After-by-states → tie.After-is-plain
 looked c = c .before .before
 
-abbrev shape : tie.After-distances → tie.After-prepare
-shape c = prepared (at-own (looked (c .before .before .before .before .before)))
+abbrev shape : tie.After-distances → tie.After-begin
+shape c = begun-at (looked (c .before .before .before .before .before))
 
 -- The bytes are accepted.
 is-bytes : (c : tie.Else2) → Bytes (start c .args .table .now)
@@ -60,25 +55,24 @@ returns-2 c =
     let a = c .before .before .before .before .args in
     costs-short (a .table .now) (a .cells .now) (c .before .before .look .ensures .refusal-is) (c .before .if1 .left) (c .if2 .taken)
 
-prepare-requires : tie.Need-prepare-requires
-prepare-requires c κs = (accepted (c .before .before), refl, refl)
-
-own-costs-requires : tie.Need-own-costs-requires
-own-costs-requires c κs = let known = c .before .before .prepare .ensures in (known .few-states, refl, known .finals .small)
+begin-requires : tie.Need-begin-requires
+begin-requires c κs = (accepted (c .before .before), refl, refl)
 
 is-plain-requires : tie.Need-is-plain-requires
-is-plain-requires c κs = prepared (c .before .before) .prepare .ensures .few-states
+is-plain-requires c κs = c .before .before .begin .ensures .few-states
 
 by-states-requires : tie.Need-by-states-requires
-by-states-requires c κs = prepared (at-own (c .before)) .prepare .ensures .few-states
+by-states-requires c κs = tt
 
 distances-requires : tie.Need-distances-requires
 distances-requires c κs =
     let asked = c .before .before .before .before in
     let look = looked asked in
-    let own = at-own look in
-    let known = prepared own .prepare .ensures in
-    let at = passed (prepared own) in
+    let begun = begun-at look in
+    let known = begun .begin .ensures in
+    let own = known .own in
+    let costs = begun .begin .last .1 .1 .0 in
+    let at = passed begun in
     let least = toZ-ofZ {w = w32} {z = at-refusal at .look .result .least} (record { sfits = look .before .struct-told .given .1 .0 .1 }) in (
       known .opened,
       known .states-are,
@@ -86,27 +80,20 @@ distances-requires c κs =
       known .start-is,
       known .indexed,
       (λ e.
-          plain-rising (decode (start at .args .table .now)) (size at) (prepared own .prepare .last .1 .1 .0) (own .own-costs .last .1 .1 .0) (known .finals)
-          (λ s h. own .own-costs .ensures .1 s (omega (arith, known .states-are))) (known .states-are)
-          (at-refusal at .look .ensures .light (accepted at)) (rw least at (look .is-plain .ensures e))),
+          let told = look .is-plain .ensures e in
+          plain-rising (decode (start at .args .table .now)) (size at) (own .codes) costs (own .finals) (own .made) (known .states-are)
+          (at-refusal at .look .ensures .light (accepted at)) (at-refusal at .look .ensures .written (accepted at) (told .0)) (rw least at (told .1))),
       (λ e.
           let known' = asked .by-states .ensures e in
           record {
-            up = at-refusal at .look .ensures .rises (accepted at) (known' .0);
-            good = known' .1;
-            negative = known' .2;
+            up = at-refusal at .look .ensures .rises (accepted at) (known' .1);
+            writes = at-refusal at .look .ensures .written (accepted at) (known' .0);
+            good = known' .2;
+            negative = known' .3;
             light = rw least (at-refusal at .look .ensures .light (accepted at));
           }),
-      nearing-first (decode (start at .args .table .now)) (size at) (prepared own .prepare .last .1 .1 .0) (own .own-costs .last .1 .1 .0)
-          (replicate max-states 0)
-          (known .finals) (λ s h. own .own-costs .ensures .1 s (omega (arith, known .states-are))) (getD-zeros max-states),
-      record {
-        costs = own .own-costs .ensures .0;
-        lens = length-replicate {A = ℕ} max-states 0;
-        low = own .own-costs .ensures .2;
-        high = own .own-costs .ensures .3;
-        few = λ s. omega (arith, getD-zeros max-states s);
-      },
+      nearing-first (decode (start at .args .table .now)) (size at) (own .codes) costs no-sizes (own .finals) (own .made) none-yet,
+      cells-first costs (own .long) (own .low) (own .high),
     )
 
 returns-3 : tie.Need-returns-3
@@ -121,7 +108,7 @@ put-requires : tie.Need-put-requires
 put-requires c κs =
     let at = c .before .before .before in
     let cells = at .distances .ensures .cells in
-    (shape at .prepare .ensures .few-states, passed (shape at) .if2 .left, cells .low, cells .high)
+    (shape at .begin .ensures .few-states, passed (shape at) .if2 .left, cells .low, cells .high)
 
 same-length : tie.Need-same-length
 same-length c = search needs
@@ -133,7 +120,7 @@ returns-4 c =
     let all = passed (shape at) in
     let a = start all .args in
     costs-told (a .table .now) (a .cells .now) (at-refusal all .look .ensures .refusal-is) (all .before .if1 .left) (all .if2 .left) (size all)
-    (at .distances .ensures) (not-false (at .distances .result) (settled .if3 .left)) (shape at .prepare .ensures .states-are) (c .before .put .ensures)
+    (at .distances .ensures) (not-false (at .distances .result) (settled .if3 .left)) (shape at .begin .ensures .states-are) (c .before .put .ensures)
 
 pub costs-to-come-spec : {M : Type 1} → statement M
 costs-to-come-spec =
@@ -142,8 +129,7 @@ costs-to-come-spec =
     look-requires
     returns
     returns-2
-    prepare-requires
-    own-costs-requires
+    begin-requires
     is-plain-requires
     by-states-requires
     distances-requires

@@ -1,10 +1,12 @@
--- One test for each part of the order.
-use mathlib.Core.Path.{_≡_, refl}
+-- One test for the costs and one for the sizes, which compare as numbers do (`pair-order`).
+use mathlib.Core.Path.{_≡_, refl, sym}
 use mathlib.Core.Bool.{true, false}
 use native.Mathlib.Omega.{arith}
 use Rattle.wire.proofs.Ints.{bits}
 use Rattle.transducer.specs.Weight.{at-most, below}
 use Rattle.distance.specs.Distance.{nearer}
+use Rattle.distance.specs.Nearest.{unpacked}
+use Rattle.distance.proofs.Packed.{pair-order}
 use Rattle.distance.proofs.near.comes_first.Statement.{statement}
 use Rattle.distance.proofs.near.comes_first.Tie as tie
 
@@ -21,12 +23,12 @@ returns-2 c =
     rw (p, q) refl
 
 returns-3 : tie.Need-returns-3
-unfolding nearer
+unfolding nearer unpacked
 returns-3 c =
     let a = c .before .before .args in
     let p : below (a .cost) (a .other) ≡ false = omega (arith, bits) in
     let q : at-most (a .cost) (a .other) ≡ true = omega (arith, bits) in
-    rw (p, q) refl
+    rw (p, q) (sym (pair-order (a .size) (a .most)))
 
 pub comes-first-spec : {M : Type 1} → statement M
 comes-first-spec = tie.close (tie.spec returns returns-2 returns-3)

@@ -1,10 +1,6 @@
 -- The invariant: none of the costs before `s` is below zero.
-use borrow.Author.Needs.{needs}
-use mathlib.Core.Path.{_≡_}
-use mathlib.Core.Logic.{_⊎_, inl, inr}
 use Prim.Native.Nat.{ℕ, _-_, _<_}
 use native.Mathlib.Omega.{arith}
-use lib.ListN.{getD}
 use mir.Syntax.{w32}
 use mir.Val.{SFits}
 use Rattle.wire.proofs.Bool.{never}
@@ -46,7 +42,7 @@ loop-again c =
     let x = cost-at (turn .before .before .args .costs .now) (now' .s) in
     let f : SFits w32 x = record { sfits = c .before .if12 .given } in
     let here : At-most no-weight x = omega (arith, bits, c .if1 .left) in
-    one-more (cost-at (turn .before .before .args .costs .now)) (now' .s) (now' .inv) here
+    one-more (λ s. At-most no-weight (cost-at (turn .before .before .args .costs .now) s)) (now' .s) (now' .inv) here
 
 returns-2 : tie.Need-returns-2 Inv-loop μ-loop
 returns-2 c = λ e u h. c .before .loop .inv u (omega (arith, c .loop-test .left))

@@ -13,11 +13,11 @@ use Rattle.distance.proofs.near.drain.Statement.{statement}
 use Rattle.distance.proofs.near.drain.Tie as tie
 
 abbrev Inv-loop : tie.InvT-loop
-Inv-loop table first states arcs marks costs₀ lens₀ heads into ring₀ waits₀ count₀ head₀ costs lens ring waits count head =
+Inv-loop table first states arcs marks costs₀ lens₀ heads links ring₀ waits₀ count₀ head₀ costs lens ring waits count head =
     Draining (decode table) (mark marks) none costs lens ring waits head count
 
 abbrev μ-loop : tie.MeasureT-loop
-μ-loop table first states arcs marks costs₀ lens₀ heads into ring₀ waits₀ count₀ head₀ costs lens ring waits count head = to-do (decode table) costs lens count
+μ-loop table first states arcs marks costs₀ lens₀ heads links ring₀ waits₀ count₀ head₀ costs lens ring waits count head = to-do (decode table) costs lens count
 
 -- The entry, with what is known of the bytes.
 abbrev Entry : Type 0
@@ -31,7 +31,7 @@ size c =
     let bytes : Bytes (c .before .args .table .now) = λ i. omega (arith, c .shared-slice-known .given i) in
     sized (c .before .args .table .now) bytes (c .before .pre .0 .accepted)
 
--- The arcs are placed, and all were relaxed once.
+-- The arcs are in chains, and all were relaxed once.
 abbrev entry-of : tie.After-by-target Inv-loop μ-loop → Entry
 entry-of c = c .before .before .before
 
@@ -62,7 +62,7 @@ is-state c =
 by-target-requires : tie.Need-by-target-requires Inv-loop μ-loop
 by-target-requires c κs =
     let pre = c .before .before .before .pre in
-    (pre .0, pre .1, pre .2, refl, length-replicate {A = ℕ} max-arcs 0)
+    (pre .0, pre .2, refl, length-replicate {A = ℕ} max-arcs 0)
 
 relax-all-requires : tie.Need-relax-all-requires Inv-loop μ-loop
 relax-all-requires c κs =

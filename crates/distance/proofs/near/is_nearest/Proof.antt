@@ -2,12 +2,13 @@
 use mathlib.Core.Path.{refl}
 use mir.Facts.{toZ-ofZ}
 use Rattle.distance.specs.Nearest.{is-nearest}
+use Rattle.distance.proofs.Packed.{pack-unpack}
 use Rattle.distance.proofs.near.is_nearest.Statement.{statement}
 use Rattle.distance.proofs.near.is_nearest.Tie as tie
 
 returns : tie.Need-returns
 unfolding is-nearest
-returns c = rw (toZ-ofZ (c .fits .bar), toZ-ofZ (c .fits .cost)) refl
+returns c = rw (toZ-ofZ (c .fits .bar), toZ-ofZ (c .fits .cost), pack-unpack (c .args .size)) refl
 
 pub is-nearest-spec : {M : Type 1} → statement M
 is-nearest-spec = tie.close (tie.spec returns)

@@ -1,13 +1,11 @@
--- Plain only where both looks say so.
+-- Plain only where each look says so.
 use borrow.Author.Needs.{needs}
+use borrow.Author.Tests.{not-false}
 use native.Mathlib.Omega.{arith}
 use Rattle.wire.proofs.Bool.{never}
 use Rattle.wire.proofs.Ints.{bits}
 use Rattle.distance.proofs.near.is_plain.Statement.{statement}
 use Rattle.distance.proofs.near.is_plain.Tie as tie
-
-mul-if1 : tie.Need-mul-if1
-mul-if1 c = omega (arith, c .pre)
 
 returns : tie.Need-returns
 returns c = λ e. never e
@@ -23,7 +21,10 @@ returns-3 c =
     let some = c .before in
     let start = some .before .before in
     let fits = start .fits .least in
-    λ e. record { arcs = omega (arith, bits, some .if2 .left); costs = c .costs-rise .ensures e }
+    λ e. (
+      not-false (start .args .writing) (some .before .if1 .left),
+      record { arcs = omega (arith, bits, some .if2 .left); costs = c .costs-rise .ensures e },
+    )
 
 pub is-plain-spec : {M : Type 1} → statement M
-is-plain-spec = tie.close (tie.spec mul-if1 returns returns-2 costs-rise-requires returns-3)
+is-plain-spec = tie.close (tie.spec returns returns-2 costs-rise-requires returns-3)

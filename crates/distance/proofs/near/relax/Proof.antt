@@ -1,20 +1,23 @@
 -- The arc as it was read; it leaves its source as it was, makes it better, or would by a path of too many arcs (`relaxes`).
 use borrow.Author.Needs.{needs}
 use borrow.Author.Tests.{not-true, not-false}
-use mathlib.Core.Path.{_≡_, refl, ap, _∙_}
+use mathlib.Core.Path.{_≡_, ap, _∙_}
 use Prim.Native.Nat.{ℕ, _+_, _≤_, _<_}
 use native.Mathlib.Omega.{arith}
+use lib.ListN.{getD}
 use mir.Syntax.{w32}
-use mir.Val.{toZ, ofZ}
+use mir.Val.{SFits, toZ, ofZ}
 use mir.Facts.{toZ-ofZ}
 use Rattle.wire.specs.Bytes.{Bytes}
+use Rattle.wire.proofs.Ints.{bits}
 use Rattle.transducer.specs.Format.{max-states, decode}
-use Rattle.transducer.specs.Weight.{Weight}
+use Rattle.transducer.specs.Weight.{Weight, Below}
 use Rattle.paths.proofs.Ready.{Sized, sized}
 use Rattle.distance.specs.Distance.{nearer}
-use Rattle.distance.specs.Nearest.{by-state}
-use Rattle.distance.proofs.Bounds.{cell-back, weight-back, read-good, onward-back}
-use Rattle.distance.proofs.Relaxed.{relaxed-states, Relaxes, relaxes}
+use Rattle.distance.specs.Nearest.{unpacked, cost-at, by-state, longer}
+use Rattle.distance.proofs.Bounds.{cell-fits, cell-back, cell-most, weight-back, read-good, onward-back}
+use Rattle.distance.proofs.Packed.{unpack-longer}
+use Rattle.distance.proofs.Relaxed.{relaxed-states, relaxed-dearer, Relaxes, relaxes}
 use Rattle.distance.proofs.near.relax.Statement.{statement}
 use Rattle.distance.proofs.near.relax.Tie as tie
 
@@ -35,10 +38,14 @@ below : (c : Read) → (c .arc-of .result .source < max-states) × (c .arc-of .r
 below c =
     let a = start c .args in
     let pre = start c .pre in
-    relaxed-states (decode (a .table .now)) (size c) (a .costs .now) (a .lens .now) (pre .4) (pre .3) (a .i) (pre .1) (c .arc-of .result) (c .arc-of .ensures)
+    relaxed-states (decode (a .table .now)) (size c) (a .costs .now) (a .lens .now) (pre .4) (pre .3) (a .i) (pre .1)
+    (c .arc-of .result) (c .arc-of .ensures)
 
-few : (c : Read) → by-state (start c .args .lens .now) (c .arc-of .result .target) ≤ max-states
+few : (c : Read) → by-state (start c .args .lens .now) (c .arc-of .result .target) .arcs ≤ max-states
 few c = start c .pre .4 .few (c .arc-of .result .target)
+
+most : (c : Read) → getD (start c .args .lens .now) (c .arc-of .result .target) 0 ≤ 67109888
+most c = cell-most (start c .pre .4) (c .arc-of .result .target)
 
 abbrev Summed : Type 0
 Summed = tie.After-sum
@@ -46,11 +53,20 @@ Summed = tie.After-sum
 abbrev read : Summed → Read
 read c = c .before .before .before .before .before
 
+abbrev Measured : Type 0
+Measured = tie.After-arc-size
+
+abbrev summed-of : Measured → Summed
+summed-of c = c .before .before .before .before
+
 abbrev Compared : Type 0
 Compared = tie.After-comes-first
 
+abbrev measured : Compared → Measured
+measured c = c .before .before .before
+
 abbrev summed : Compared → Summed
-summed c = c .before .before .before .before
+summed c = summed-of (measured c)
 
 abbrev got : Compared → Read
 got c = read (summed c)
@@ -58,12 +74,17 @@ got c = read (summed c)
 abbrev from : Compared → tie.Start
 from c = start (got c)
 
--- The cost and the number of arcs by way of the arc.
+-- The cost and the size by way of the arc.
 abbrev cost : Compared → Weight
 cost c = toZ w32 (ofZ w32 (summed c .sum .result))
 
 abbrev len : Compared → ℕ
-len c = by-state (from c .args .lens .now) (got c .arc-of .result .target) + 1
+len c = getD (from c .args .lens .now) (got c .arc-of .result .target) 0 + measured c .arc-size .result
+
+len-is : (c : Compared) → unpacked (len c) ≡ longer (got c .arc-of .result .output) (by-state (from c .args .lens .now) (got c .arc-of .result .target))
+len-is c =
+    unpack-longer (getD (from c .args .lens .now) (got c .arc-of .result .target) 0) (got c .arc-of .result .output) (measured c .arc-size .result)
+    (omega (arith, few (got c))) (measured c .arc-size .ensures .0)
 
 -- What is left in each case.
 both : (c : Compared)
@@ -78,9 +99,9 @@ both c =
     let made = summed c .sum in
     relaxes t (size (got c)) (a .costs .now) (a .lens .now) (pre .4) (pre .3) (a .i) (pre .1) arc' is (cost c) (len c)
     (toZ-ofZ (record { sfits = made .ok }) ∙ onward-back t (size (got c)) (pre .4) (a .i) (pre .1) arc' is (made .ensures))
-    refl
+    (len-is c)
     (c .comes-first .ensures
-    ∙ ap (λ (x : Weight). nearer (cost c) (len c) x (by-state (a .lens .now) (arc' .source))) (cell-back (pre .4) (arc' .source)))
+    ∙ ap (λ (x : Weight). nearer (cost c) (unpacked (len c)) x (by-state (a .lens .now) (arc' .source))) (cell-back (pre .4) (arc' .source)))
 
 arc-of-requires : tie.Need-arc-of-requires
 arc-of-requires c κs = (c .before .pre .0, c .before .pre .1)
@@ -109,57 +130,83 @@ sum-requires c κs =
       rw (cell-back cells (arc' .target)) (cells .low (arc' .target)),
     )
 
+mul-if1 : tie.Need-mul-if1
+mul-if1 c = omega (arith, below (read c) .0)
+
+element-copy-out-if1 : tie.Need-element-copy-out-if1
+element-copy-out-if1 c = below (read c) .0
+
+returns : tie.Need-returns
+returns c =
+    let made = c .before .before .sum in
+    let at = read (c .before .before) in
+    let a = start at .args in
+    let pre = start at .pre in
+    let t = decode (a .table .now) in
+    let arc' = at .arc-of .result in
+    let is = at .arc-of .ensures in
+    let f : SFits w32 (cost-at (a .costs .now) (arc' .source)) = cell-fits (pre .4) (arc' .source) in
+    let g : SFits w32 (made .result) = record { sfits = made .ok } in
+    let less : Below (cost-at (a .costs .now) (arc' .source)) (made .result) = omega (arith, bits, c .if1 .taken) in
+    relaxed-dearer t (size at) (a .costs .now) (a .lens .now) (pre .4) (pre .3) (a .i) (pre .1) arc' is (made .result)
+    (onward-back t (size at) (pre .4) (a .i) (pre .1) arc' is (made .ensures)) less
+
 mul-len : tie.Need-mul-len
-mul-len c = omega (arith, below (read c) .1)
+mul-len c = omega (arith, below (read (c .before .before)) .1)
 
 element-copy-out-len : tie.Need-element-copy-out-len
-element-copy-out-len c = below (read c) .1
+element-copy-out-len c = below (read (c .before .before)) .1
+
+arc-size-requires : tie.Need-arc-size-requires
+arc-size-requires c κs = tt
 
 add-len : tie.Need-add-len
-add-len c = omega (arith, few (read (c .before)))
+add-len c = omega (arith, most (read (summed-of c)), c .arc-size .ensures .1)
 
 mul-comes-first : tie.Need-mul-comes-first
-mul-comes-first c = omega (arith, below (read (c .before)) .0)
+mul-comes-first c = omega (arith, below (read (summed-of c)) .0)
 
 element-copy-out-comes-first : tie.Need-element-copy-out-comes-first
-element-copy-out-comes-first c = below (read (c .before)) .0
+element-copy-out-comes-first c = below (read (summed-of c)) .0
 
 mul-comes-first-2 : tie.Need-mul-comes-first-2
-mul-comes-first-2 c = omega (arith, below (read (c .before .before)) .0)
+mul-comes-first-2 c = omega (arith, below (read (summed-of (c .before))) .0)
 
 element-copy-out-comes-first-2 : tie.Need-element-copy-out-comes-first-2
-element-copy-out-comes-first-2 c = below (read (c .before .before)) .0
+element-copy-out-comes-first-2 c = below (read (summed-of (c .before))) .0
 
 comes-first-requires : tie.Need-comes-first-requires
 comes-first-requires c κs = tt
 
-returns : tie.Need-returns
-returns c = both (c .before) .same (not-true (c .before .comes-first .result) (c .if1 .taken))
-
-cast-if2 : tie.Need-cast-if2
-cast-if2 c = omega (arith, few (got (c .before)))
-
 returns-2 : tie.Need-returns-2
-returns-2 c =
-    let at = c .before .before in
-    both at .long (not-false (at .comes-first .result) (c .before .if1 .left)) (omega (arith, from at .pre .2, c .if2 .taken))
+returns-2 c = both (c .before) .same (not-true (c .before .comes-first .result) (c .if2 .taken))
 
-mul-cost : tie.Need-mul-cost
-mul-cost c = omega (arith, below (got (c .before .before)) .0)
-
-element-set-from-cost : tie.Need-element-set-from-cost
-element-set-from-cost c = below (got (c .before .before)) .0
-
-mul-lens : tie.Need-mul-lens
-mul-lens c = omega (arith, below (got (c .before .before)) .0)
-
-element-write-lens : tie.Need-element-write-lens
-element-write-lens c = below (got (c .before .before)) .0
+arcs-of-requires : tie.Need-arcs-of-requires
+arcs-of-requires c κs = tt
 
 returns-3 : tie.Need-returns-3
 returns-3 c =
-    let at = c .before .before in
-    both at .put (not-false (at .comes-first .result) (c .before .if1 .left)) (omega (arith, from at .pre .2, c .if2 .left))
+    let at = c .before .before .before in
+    both at .long (not-false (at .comes-first .result) (c .before .before .if2 .left))
+    (omega (arith, from at .pre .2, c .before .arcs-of .ensures, c .if3 .taken))
+
+mul-cost : tie.Need-mul-cost
+mul-cost c = omega (arith, below (got (c .before .before .before)) .0)
+
+element-set-from-cost : tie.Need-element-set-from-cost
+element-set-from-cost c = below (got (c .before .before .before)) .0
+
+mul-lens : tie.Need-mul-lens
+mul-lens c = omega (arith, below (got (c .before .before .before)) .0)
+
+element-write-lens : tie.Need-element-write-lens
+element-write-lens c = below (got (c .before .before .before)) .0
+
+returns-4 : tie.Need-returns-4
+returns-4 c =
+    let at = c .before .before .before in
+    both at .put (not-false (at .comes-first .result) (c .before .before .if2 .left))
+    (omega (arith, from at .pre .2, c .before .arcs-of .ensures, c .if3 .left))
 
 pub relax-spec : {M : Type 1} → statement M
 relax-spec =
@@ -171,19 +218,23 @@ relax-spec =
     mul-sum
     element-copy-out-sum
     sum-requires
+    mul-if1
+    element-copy-out-if1
+    returns
     mul-len
     element-copy-out-len
+    arc-size-requires
     add-len
     mul-comes-first
     element-copy-out-comes-first
     mul-comes-first-2
     element-copy-out-comes-first-2
     comes-first-requires
-    returns
-    cast-if2
     returns-2
+    arcs-of-requires
+    returns-3
     mul-cost
     element-set-from-cost
     mul-lens
     element-write-lens
-    returns-3)
+    returns-4)

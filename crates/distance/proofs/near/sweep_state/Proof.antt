@@ -41,7 +41,7 @@ is-state c =
     let bs = start c .args .table .now in
     let bytes : Bytes bs = λ i. omega (arith, c .before .before .shared-slice-known .given i) in
     let size : Sized (decode bs) = sized bs bytes (start c .pre .0 .accepted) in
-    omega (arith, start c .pre .3 .state, size .states)
+    omega (arith, start c .pre .4 .state, size .states)
 
 -- An arc is relaxed.
 abbrev Relaxed-one : Type 0
@@ -67,7 +67,7 @@ gone c short =
     let a = start t .args in
     let pre = start t .pre in
     let now' = t .before .loop in
-    going-next (table (start t)) (pre .2) (a .s) (a .from) (a .to) (pre .3) (bar (start t)) (a .costs .now) (now' .i) (now' .costs) (now' .lens)
+    going-next (table (start t)) (pre .2) (pre .3) (a .s) (a .from) (a .to) (pre .4) (bar (start t)) (a .costs .now) (now' .i) (now' .costs) (now' .lens)
     (now' .inv) (t .loop-test .taken) (costs c) (lens c) (c .relax .result) (c .relax .ensures) short
 
 loop-holds : tie.Need-loop-holds Inv-loop μ-loop
@@ -75,7 +75,7 @@ loop-holds c =
     let a = c .before .args in
     let pre = c .before .pre in
     rw (toZ-ofZ (c .before .fits .bar))
-    (going-first (decode (a .table .now)) (a .s) (a .from) (a .to) (a .bar) (a .costs .now) (a .lens .now) (pre .4) (pre .5))
+    (going-first (decode (a .table .now)) (a .s) (a .from) (a .to) (a .bar) (a .costs .now) (a .lens .now) (pre .5) (pre .6))
 
 sub-i : tie.Need-sub-i Inv-loop μ-loop
 sub-i c = omega (arith, c .loop-test .taken)
@@ -87,7 +87,7 @@ relax-requires c κs =
     let pre = start t .pre in
     let now' = t .before .loop in (
       pre .0,
-      going-arc (table (start t)) (pre .2) (a .s) (a .from) (a .to) (pre .3) (bar (start t)) (a .costs .now) (now' .i) (now' .costs) (now' .lens)
+      going-arc (table (start t)) (pre .2) (pre .3) (a .s) (a .from) (a .to) (pre .4) (bar (start t)) (a .costs .now) (now' .i) (now' .costs) (now' .lens)
           (now' .inv) (t .loop-test .taken),
       pre .1,
       now' .inv .swept .nearing,
@@ -107,7 +107,7 @@ returns c =
     let a = start t .args in
     let pre = start t .pre in
     let now' = t .before .loop in
-    going-long (table (start t)) (pre .2) (a .s) (a .from) (a .to) (pre .3) (bar (start t)) (a .costs .now) (now' .i) (now' .costs) (now' .lens)
+    going-long (table (start t)) (pre .2) (pre .3) (a .s) (a .from) (a .to) (pre .4) (bar (start t)) (a .costs .now) (now' .i) (now' .costs) (now' .lens)
     (now' .inv) (t .loop-test .taken) _ _ (at .relax .result) (at .relax .ensures)
 
 mul-is-nearest : tie.Need-mul-is-nearest Inv-loop μ-loop
@@ -146,7 +146,7 @@ returns-2 c =
     let cell = cell-back (near .swept .cells) (a .s) in
     let e : is-nearest (bar s) (cost-at (costs at) (a .s)) l ≡ true =
     sym (asked .is-nearest .ensures ∙ ap (λ (x : Weight). is-nearest (bar s) x l) cell) ∙ c .if3 .taken in
-    going-passed (table s) (s .pre .2) (a .s) (a .from) (a .to) (s .pre .3) (bar s) (a .costs .now) (turn at .before .loop .i - 1) (costs at) (lens at) near e
+    going-passed (table s) (s .pre .2) (s .pre .3) (a .s) (a .from) (a .to) (s .pre .4) (bar s) (a .costs .now) (turn at .before .loop .i - 1) (costs at) (lens at) near e
 
 loop-less-2 : tie.Need-loop-less-2 Inv-loop μ-loop
 loop-less-2 c = omega (arith, turn (better-at (c .before)) .loop-test .taken)
@@ -159,7 +159,7 @@ returns-3 c =
     let s = c .before .before .before in
     let a = s .args in
     let now' = c .before .loop in
-    going-stop (table s) (s .pre .2) (a .s) (a .from) (a .to) (s .pre .3) (bar s) (a .costs .now) (now' .i) (now' .costs) (now' .lens) (now' .inv)
+    going-stop (table s) (s .pre .2) (s .pre .3) (a .s) (a .from) (a .to) (s .pre .4) (bar s) (a .costs .now) (now' .i) (now' .costs) (now' .lens) (now' .inv)
     (c .loop-test .left)
 
 pub sweep-state-spec : {M : Type 1} → statement M

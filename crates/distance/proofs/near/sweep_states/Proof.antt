@@ -106,6 +106,7 @@ sweep-state-requires c κs =
       pre .0,
       pre .1,
       pre .3 .up,
+      pre .3 .writes,
       range-leave (decode (a .table .now)) (size t) (state t) (from t) (to t) (is-state t) (arcs t),
       floored-barred (decode (a .table .now)) (size t) (now' .s) (toZ w32 (now' .floor)) (now' .costs) (now' .lens) (now' .inv) (t .loop-test .taken)
           (from t) (to t) (arcs t) (toZ w32 (ofZ w32 (a .least))) f (toZ w32 (ofZ w32 (made .result)))

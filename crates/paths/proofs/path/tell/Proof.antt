@@ -1,239 +1,95 @@
--- The invariant: the arcs from `i` on cost and write what is left of the path (`Telling`).
+-- `put_labels` has the labels and where the path ends; the last state's code gives what is left of its cost.
 use borrow.Author.Needs.{needs}
-use mathlib.Core.Path.{_≡_, refl, sym, ap, _∙_}
-use Prim.Native.Nat.{_-_, _<_}
+use mathlib.Core.Path.{_≡_, sym, ap, _∙_}
 use native.Mathlib.Omega.{arith}
-use lib.ListN.{length, getD, take}
-use lib.Seq.{length-take-le, getD-take}
+use lib.ListN.{getD, take}
+use lib.Seq.{length-take-le}
 use mir.Syntax.{w32, w64}
 use mir.Val.{toZ, ofZ}
 use mir.Facts.{toZ-ofZ}
 use Rattle.wire.specs.Bytes.{Bytes}
 use Rattle.transducer.specs.Format.{decode}
-use Rattle.transducer.specs.Weight.{plus, weight-of}
+use Rattle.transducer.specs.Weight.{Weight, plus, weight-of}
 use Rattle.paths.proofs.Ready.{Sized, sized}
-use Rattle.paths.proofs.Telling.{Telling, Told-all, telling-first, telling-arc, telling-room, telling-past, telling-put, telling-stop, tells}
+use Rattle.paths.proofs.Telling.{Last-code, last-code, tells-by}
 use Rattle.paths.proofs.path.tell.Statement.{statement}
 use Rattle.paths.proofs.path.tell.Tie as tie
 
-abbrev Inv-loop : tie.InvT-loop
-Inv-loop table first start codes arcs len labels₀ s₀ cost₀ m₀ i₀ labels s cost m i =
-    Telling (decode table) (take len arcs) (length labels₀) labels s (toZ w64 cost) m i
+-- The labels are put.
+abbrev Put : Type 0
+Put = tie.After-put-labels
 
-abbrev μ-loop : tie.MeasureT-loop
-μ-loop table first start codes arcs len labels₀ s₀ cost₀ m₀ i₀ labels s cost m i = len - i
+abbrev start : Put → tie.Start
+start c = c .before .before .before .before .before
 
--- The entry, with what is known of the bytes.
-abbrev Entry : Type 0
-Entry = tie.After-shared-slice-known Inv-loop μ-loop
-
-size : (c : Entry) → Sized (decode (c .before .args .table .now))
+size : (c : Put) → Sized (decode (start c .args .table .now))
 size c =
-    let bs = c .before .args .table .now in
-    let bytes : Bytes bs = λ i. omega (arith, c .shared-slice-known .given i) in
-    sized bs bytes (c .before .pre .0 .accepted)
+    let bs = start c .args .table .now in
+    let bytes : Bytes bs = λ i. omega (arith, c .before .before .before .before .shared-slice-known .given i) in
+    sized bs bytes (start c .pre .0 .accepted)
 
-long : (c : Entry) → length (take (c .before .args .len) (c .before .args .arcs .now)) ≡ c .before .args .len
-long c = length-take-le (c .before .args .len) (c .before .args .arcs .now) (c .before .pre .3)
+last : (c : Put)
+    → Last-code (decode (start c .args .table .now)) (take (start c .args .len) (start c .args .arcs .now)) (c .put-labels .result .cost)
+    (getD (start c .args .codes .now) (c .put-labels .result .state) 0)
+last c =
+    let a = start c .args in
+    last-code (decode (a .table .now)) (size c) (take (a .len) (a .arcs .now)) (a .codes .now) (start c .pre .5) (c .put-labels .ensures) (start c .pre .2)
 
--- A turn of the loop: its arc.
-abbrev Turn : Type 0
-Turn = tie.In-loop Inv-loop μ-loop
+-- The cost of the arcs, as it is handed on.
+abbrev put-of : tie.After-struct-told → Put
+put-of c = c .before .before .before .before .before
 
-abbrev entry : tie.At-loop Inv-loop μ-loop → Entry
-entry c = c .before .before .before
+cost-is : (c : tie.After-struct-told) → toZ w64 (ofZ w64 (put-of c .put-labels .result .cost)) ≡ put-of c .put-labels .result .cost
+cost-is c = toZ-ofZ (record { sfits = c .struct-told .given .1 .0 .1 })
 
-inside : (c : Turn) → c .before .loop .i < length (take (entry (c .before) .before .args .len) (entry (c .before) .before .args .arcs .now))
-inside c = omega (arith, c .loop-test .taken, long (entry (c .before)))
+put-labels-requires : tie.Need-put-labels-requires
+put-labels-requires c κs =
+    let pre = c .before .before .before .before .pre in
+    (pre .0, pre .1, pre .3, pre .4, pre .5, pre .6)
 
-number : (c : Turn) → getD (entry (c .before) .before .args .arcs .now) (c .before .loop .i) 0 ≡ getD (take (entry (c .before) .before .args .len) (entry (c .before) .before .args .arcs .now)) (c .before .loop .i) 0
-number c = let a = entry (c .before) .before .args in sym (getD-take (a .len) (a .arcs .now) (c .before .loop .i) 0 (c .loop-test .taken))
+mul-code : tie.Need-mul-code
+mul-code c = omega (arith, c .before .before .put-labels .ensures .inside)
 
-is-arc : (c : Turn) → getD (entry (c .before) .before .args .arcs .now) (c .before .loop .i) 0 < length (decode (entry (c .before) .before .args .table .now) .arcs)
-is-arc c =
-    let a = entry (c .before) .before .args in
-    let l = c .before .loop in
-    telling-arc (decode (a .table .now)) (take (a .len) (a .arcs .now)) (length (a .labels .now)) (l .labels) (l .s) (toZ w64 (l .cost)) (l .m) (l .i)
-    (getD (a .arcs .now) (l .i) 0) (l .inv) (inside c) (number c) .below
+element-copy-out-code : tie.Need-element-copy-out-code
+element-copy-out-code c = c .before .before .put-labels .ensures .inside
 
-loop-holds : tie.Need-loop-holds Inv-loop μ-loop
-loop-holds c =
-    let known = c .before .before in
-    let a = known .before .args in
-    let pre = known .before .pre in
-    telling-first (decode (a .table .now)) (size known) (take (a .len) (a .arcs .now)) (length (a .labels .now)) (a .labels .now) (a .start) (pre .1) (pre .5)
-    (omega (arith, long known, pre .4)) (pre .6) refl
+weight-of-requires : tie.Need-weight-of-requires
+weight-of-requires c κs = let code = last (c .before .before .before) in (code .some, code .low)
 
-mul-j : tie.Need-mul-j Inv-loop μ-loop
-mul-j c = omega (arith, c .loop-test .taken, entry (c .before) .before .pre .4)
+plus-requires : tie.Need-plus-requires
+plus-requires c κs = rw (cost-is c) (omega (arith, put-of c .put-labels .ensures .low))
 
-shared-slice-read-j : tie.Need-shared-slice-read-j Inv-loop μ-loop
-shared-slice-read-j c = omega (arith, c .before .loop-test .taken, entry (c .before .before) .before .pre .3)
+answer-requires : tie.Need-answer-requires
+answer-requires c κs = let put = put-of (c .before) in (start put .pre .4, put .put-labels .ensures .few)
 
-cast-j : tie.Need-cast-j Inv-loop μ-loop
-cast-j c = omega (arith, is-arc (c .before), size (entry (c .before .before)) .arcs)
+same-length : tie.Need-same-length
+same-length c = search needs
 
-arc-of-requires : tie.Need-arc-of-requires Inv-loop μ-loop
-arc-of-requires c κs = (entry (c .before .before) .before .pre .0, is-arc (c .before))
-
-add-i : tie.Need-add-i Inv-loop μ-loop
-add-i c = omega (arith, c .before .before .loop-test .taken, entry (c .before .before .before) .before .pre .4)
-
-plus-requires : tie.Need-plus-requires Inv-loop μ-loop
-plus-requires c κs =
-    let turn = c .before .before .before in
-    omega (arith, turn .before .loop .inv .low, turn .loop-test .taken, entry (turn .before) .before .pre .4)
-
--- The cost with this arc's weight.
-cost-is : (c : tie.After-plus Inv-loop μ-loop) →
-    let got = c .before .before in
-    toZ w64 (ofZ w64 (c .plus .result)) ≡ plus (toZ w64 (got .before .before .before .loop .cost)) (got .arc-of .result .weight)
-cost-is c =
-    let got = c .before .before in
-    let weight = toZ-ofZ {w = w32} {z = got .arc-of .result .weight} (record { sfits = c .before .struct-told .given .1 .1 .1 .1 .0 .1 }) in
-    toZ-ofZ {w = w64} (record { sfits = c .plus .ok }) ∙ (c .plus .ensures ∙ ap (plus (toZ w64 (got .before .before .before .loop .cost))) weight)
-
-cast-s : tie.Need-cast-s Inv-loop μ-loop
-cast-s c = search needs
-
-loop-less : tie.Need-loop-less Inv-loop μ-loop
-loop-less c = omega (arith, c .before .before .before .before .before .before .before .loop-test .taken)
-
-loop-again : tie.Need-loop-again Inv-loop μ-loop
-loop-again c =
-    let summed = c .before .before .before in
-    let got = summed .before .before in
-    let turn = got .before .before in
-    let l = turn .before .loop in
-    let known = entry (turn .before) in
-    let a = known .before .args in
-    rw (cost-is summed)
-    (telling-past (decode (a .table .now)) (size known) (take (a .len) (a .arcs .now)) (length (a .labels .now)) (l .labels) (l .s) (toZ w64 (l .cost)) (l .m)
-    (l .i) (getD (a .arcs .now) (l .i) 0) (l .inv) (inside turn) (number turn) (got .arc-of .result) (got .arc-of .ensures) (c .if1 .taken))
-
-free : (c : tie.Else1 Inv-loop μ-loop) → c .before .before .before .before .before .before .before .before .loop .m < 1023
-free c =
-    let turn = c .before .before .before .before .before .before .before in
-    let l = turn .before .loop in
-    let known = entry (turn .before) in
-    let a = known .before .args in
-    telling-room (decode (a .table .now)) (size known) (take (a .len) (a .arcs .now)) (length (a .labels .now)) (l .labels) (l .s) (toZ w64 (l .cost)) (l .m)
-    (l .i) (getD (a .arcs .now) (l .i) 0) (l .inv) (inside turn) (number turn)
-
-mul-labels : tie.Need-mul-labels Inv-loop μ-loop
-mul-labels c = omega (arith, free c)
-
-slice-write-labels : tie.Need-slice-write-labels Inv-loop μ-loop
-slice-write-labels c =
-    let l = c .before .before .before .before .before .before .before .before .loop in
-    omega (arith, free c, l .inv .long, l .inv .enough)
-
-add-m : tie.Need-add-m Inv-loop μ-loop
-add-m c = omega (arith, free c)
-
-loop-less-2 : tie.Need-loop-less-2 Inv-loop μ-loop
-loop-less-2 c = omega (arith, c .before .before .before .before .before .before .before .loop-test .taken)
-
-loop-again-2 : tie.Need-loop-again-2 Inv-loop μ-loop
-loop-again-2 c =
-    let summed = c .before .before .before in
-    let got = summed .before .before in
-    let turn = got .before .before in
-    let l = turn .before .loop in
-    let known = entry (turn .before) in
-    let a = known .before .args in
-    rw (cost-is summed)
-    (telling-put (decode (a .table .now)) (size known) (take (a .len) (a .arcs .now)) (length (a .labels .now)) (l .labels) (l .s) (toZ w64 (l .cost)) (l .m)
-    (l .i) (getD (a .arcs .now) (l .i) 0) (l .inv) (inside turn) (number turn) (got .arc-of .result) (got .arc-of .ensures) (c .if1 .left))
-
-clear16-requires : tie.Need-clear16-requires Inv-loop μ-loop
-clear16-requires c κs =
-    let k = c .before .before .loop .inv in
-    omega (arith, k .few, k .below, k .short, k .enough, k .long)
-
--- All arcs are told.
-at-state' : (c : tie.After-loop Inv-loop μ-loop) → c .before .loop .s < 1024
-at-state' c = omega (arith, c .before .loop .inv .inside, size (entry (c .before)) .states)
-
-told : (c : tie.After-loop Inv-loop μ-loop)
-    → Told-all (decode (entry (c .before) .before .args .table .now))
-    (take (entry (c .before) .before .args .len) (entry (c .before) .before .args .arcs .now)) (length (entry (c .before) .before .args .labels .now))
-    (c .before .loop .labels) (c .before .loop .s) (toZ w64 (c .before .loop .cost)) (c .before .loop .m)
-    (getD (entry (c .before) .before .args .codes .now) (c .before .loop .s) 0)
-told c =
-    let known = entry (c .before) in
-    let a = known .before .args in
-    let l = c .before .loop in
-    telling-stop (decode (a .table .now)) (size known) (take (a .len) (a .arcs .now)) (length (a .labels .now)) (l .labels) (a .codes .now) (l .s)
-    (toZ w64 (l .cost)) (l .m) (l .i) (getD (a .codes .now) (l .s) 0)
-    (l .inv) (omega (arith, c .loop-test .left, long known)) (known .before .pre .2) (at-state' c) refl
-
-abbrev stop : tie.After-code Inv-loop μ-loop → tie.After-loop Inv-loop μ-loop
-stop c = c .before .before .before .before .before
-
-mul-code : tie.Need-mul-code Inv-loop μ-loop
-mul-code c = omega (arith, at-state' (c .before .before .before .before))
-
-element-copy-out-code : tie.Need-element-copy-out-code Inv-loop μ-loop
-element-copy-out-code c = at-state' (c .before .before .before .before)
-
-weight-of-requires : tie.Need-weight-of-requires Inv-loop μ-loop
-weight-of-requires c κs = (told (stop c) .some, told (stop c) .code-low)
-
-plus-requires-2 : tie.Need-plus-requires-2 Inv-loop μ-loop
-plus-requires-2 c κs = omega (arith, told (stop (c .before)) .low)
-
-cast-t26 : tie.Need-cast-t26 Inv-loop μ-loop
-cast-t26 c = omega (arith, entry (stop (c .before .before) .before) .before .pre .4)
-
-cast-t29 : tie.Need-cast-t29 Inv-loop μ-loop
-cast-t29 c = omega (arith, told (stop (c .before .before)) .few)
-
-same-length : tie.Need-same-length Inv-loop μ-loop
-same-length c = c .before .before .before .before .before .clear16 .kept .0 ∙ stop (c .before .before) .before .loop .inv .long
-
-returns : tie.Need-returns Inv-loop μ-loop
+returns : tie.Need-returns
 returns c =
-    let after = c .before .before in
-    let known = entry (stop after .before) in
-    let a = known .before .args in
-    let l = stop after .before .loop in
-    let code = getD (a .codes .now) (l .s) 0 in
-    let weight = toZ-ofZ {w = w32} (record { sfits = c .before .weight-of .ok }) ∙ c .before .weight-of .ensures .0 in
-    let cost : toZ w64 (ofZ w64 (c .plus2 .result)) ≡ plus (toZ w64 (l .cost)) (weight-of code) =
-    toZ-ofZ {w = w64} (record { sfits = c .plus2 .ok }) ∙ (c .plus2 .ensures ∙ ap (plus (toZ w64 (l .cost))) weight) in
-    rw cost
-    (tells (decode (a .table .now)) (take (a .len) (a .arcs .now)) (l .labels) (c .before .before .before .before .before .clear16 .last .0)
-    (a .labels .now) (l .s)
-    (toZ w64 (l .cost)) (l .m) code (a .len) (told (stop after)) (sym (long known)) (c .before .before .before .before .before .clear16 .ensures))
+    let summed = c .before in
+    let put = put-of (summed .before) in
+    let a = start put .args in
+    let code = getD (a .codes .now) (put .put-labels .result .state) 0 in
+    let weighed = summed .before .before .weight-of in
+    let weight = toZ-ofZ {w = w32} (record { sfits = weighed .ok }) ∙ weighed .ensures .0 in
+    let cost : summed .plus .result ≡ plus (put .put-labels .result .cost) (weight-of code) =
+    summed .plus .ensures ∙ (ap (λ (z : Weight). plus z (toZ w32 (ofZ w32 (weighed .result)))) (cost-is (summed .before))
+    ∙ ap (plus (put .put-labels .result .cost)) weight) in
+    rw (c .answer .ensures)
+    (tells-by (decode (a .table .now)) (take (a .len) (a .arcs .now)) _ (a .len)
+    (toZ-ofZ {w = w64} (record { sfits = summed .plus .ok }) ∙ (cost ∙ last put .costs))
+    (sym (length-take-le (a .len) (a .arcs .now) (start put .pre .3))) (put .put-labels .ensures))
 
 pub tell-spec : {M : Type 1} → statement M
 tell-spec =
     tie.close
     (tie.spec
-    Inv-loop
-    μ-loop
-    loop-holds
-    mul-j
-    shared-slice-read-j
-    cast-j
-    arc-of-requires
-    add-i
-    plus-requires
-    cast-s
-    loop-less
-    loop-again
-    mul-labels
-    slice-write-labels
-    add-m
-    loop-less-2
-    loop-again-2
-    clear16-requires
+    put-labels-requires
     mul-code
     element-copy-out-code
     weight-of-requires
-    plus-requires-2
-    cast-t26
-    cast-t29
+    plus-requires
+    answer-requires
     same-length
     returns)

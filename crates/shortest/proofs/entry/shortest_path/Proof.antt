@@ -2,25 +2,26 @@
 -- the path.
 use borrow.Author.Needs.{needs}
 use borrow.Author.Tests.{not-true, not-false}
-use mathlib.Core.Path.{_≡_, refl, sym, _∙_}
+use mathlib.Core.Path.{_≡_, refl, sym, ap, _∙_}
 use mathlib.Core.Bool.{true}
 use mathlib.Core.List.{List}
 use Prim.Native.Nat.{ℕ}
 use native.Mathlib.Omega.{arith}
-use lib.ListN.{getD, replicate, length-replicate}
-use mir.Syntax.{w32}
-use mir.Val.{SFits}
+use mir.Syntax.{w32, w64}
+use mir.Val.{SFits, toZ, ofZ}
 use mir.Facts.{toZ-ofZ}
 use Rattle.wire.specs.Bytes.{Bytes}
-use Rattle.wire.proofs.Ints.{bits}
+use Rattle.wire.proofs.Ints.{bits, wider}
 use Rattle.transducer.specs.Weight.{Weight, At-most, Below}
-use Rattle.transducer.specs.Format.{max-states, refusal, decode}
+use Rattle.transducer.specs.Format.{refusal, decode}
+use Rattle.transducer.specs.Path.{path-cost}
 use Rattle.paths.proofs.Ready.{Sized, sized}
-use Rattle.distance.specs.Nearest.{unreached, cost-at, by-state}
+use Rattle.paths.proofs.Telling.{tells-by}
+use Rattle.distance.specs.Nearest.{Sizes, unreached, cost-at, by-state}
 use Rattle.distance.proofs.Bounds.{cell-fits}
-use Rattle.distance.proofs.EmptyPaths.{nearing-first, getD-zeros, plain-rising}
-use Rattle.shortest.specs.Tight.{first-tight}
-use Rattle.shortest.proofs.Answers.{Found, found, Stored, stored, shortest-bad, shortest-short-arcs, shortest-short-labels}
+use Rattle.distance.proofs.EmptyPaths.{nearing-first, no-sizes, none-yet, cells-first, plain-rising}
+use Rattle.shortest.specs.Tight.{first-tight, follow}
+use Rattle.shortest.proofs.Answers.{Found, found, found-costs, Stored, stored, stored-costs, shortest-bad, shortest-short-arcs, shortest-short-labels}
 use Rattle.shortest.proofs.Answers.{shortest-none, shortest-falls, shortest-told}
 use Rattle.shortest.proofs.entry.shortest_path.Statement.{statement}
 use Rattle.shortest.proofs.entry.shortest_path.Tie as tie
@@ -35,20 +36,17 @@ entry c = c .before .before .before .before
 abbrev start : tie.Else3 → tie.Start
 start c = entry (at-refusal c)
 
-abbrev passed : tie.After-prepare → tie.Else3
+abbrev passed : tie.After-begin → tie.Else3
 passed c = c .before .before .before
-
-abbrev prepared : tie.After-own-costs → tie.After-prepare
-prepared c = c .before .before .before
 
 abbrev looked : tie.After-by-states → tie.After-is-plain
 looked c = c .before .before
 
-abbrev at-own : tie.After-by-states → tie.After-own-costs
-at-own c = looked c .before .before .before
+abbrev begun-at : tie.After-is-plain → tie.After-begin
+begun-at c = c .before .before .before
 
-abbrev shape : tie.After-distances → tie.After-prepare
-shape c = prepared (at-own (c .before .before .before .before .before))
+abbrev shape : tie.After-distances → tie.After-begin
+shape c = begun-at (looked (c .before .before .before .before .before))
 
 abbrev start-of : tie.After-distances → tie.Start
 start-of c = start (passed (shape c))
@@ -67,17 +65,14 @@ size c = sized (start c .args .table .now) (is-bytes c) (accepted c)
 abbrev costs : tie.After-distances → List Weight
 costs c = c .distances .last .1 .1 .1 .1 .1 .1 .1 .1 .1 .1 .0
 
-abbrev lens : tie.After-distances → List ℕ
+abbrev lens : tie.After-distances → Sizes
 lens c = c .distances .last .1 .1 .1 .1 .1 .1 .1 .1 .1 .1 .1 .0
 
 abbrev firsts : tie.After-distances → ℕ → ℕ
 firsts c = first-tight (decode (start-of c .args .table .now)) (cost-at (costs c)) (by-state (lens c))
 
 abbrev begin : tie.After-distances → ℕ
-begin c = shape c .prepare .result .start
-
-abbrev len : tie.After-distances → ℕ
-len c = getD (lens c) (begin c) 0
+begin c = shape c .begin .result .start
 
 settled-at : (c : tie.Else4) → c .before .distances .result ≡ true
 settled-at c = not-false (c .before .distances .result) (c .if4 .left)
@@ -91,29 +86,48 @@ cost-fits c = cell-fits (c .distances .ensures .cells) (begin c)
 there : (c : tie.Else5) → Below (cost-at (costs (distances-of c)) (begin (distances-of c))) unreached
 there c = let f = cost-fits (distances-of c) in omega (arith, bits, c .if5 .left)
 
-path : (c : tie.Else5) → Found (decode (start-of (distances-of c) .args .table .now)) (firsts (distances-of c)) (begin (distances-of c)) (len (distances-of c))
-path c =
-    let at = distances-of c in
-    found (decode (start-of at .args .table .now)) (size (passed (shape at))) (costs at) (lens at) (begin at) (len at) (at .distances .ensures)
-    (settled-at (c .before .before)) (shape at .prepare .ensures .start-is) (there c) refl
+-- How many arcs the path has.
+abbrev Measured : Type 0
+Measured = tie.After-arcs-of
 
-abbrev walking : tie.After-walk → tie.Else5
+abbrev told-cost : Measured → tie.Else5
+told-cost c = c .before
+
+abbrev measured-at : Measured → tie.After-distances
+measured-at c = distances-of (told-cost c)
+
+abbrev len : Measured → ℕ
+len c = c .arcs-of .result
+
+path : (c : Measured) → Found (decode (start-of (measured-at c) .args .table .now)) (firsts (measured-at c)) (begin (measured-at c)) (len c)
+path c =
+    let at = measured-at c in
+    found (decode (start-of at .args .table .now)) (size (passed (shape at))) (costs at) (lens at) (begin at) (len c) (at .distances .ensures)
+    (settled-at (told-cost c .before .before)) (shape at .begin .ensures .start-is) (there (told-cost c)) (c .arcs-of .ensures)
+
+costs-of : (c : Measured)
+    → path-cost (decode (start-of (measured-at c) .args .table .now))
+    (follow (len c) (decode (start-of (measured-at c) .args .table .now)) (firsts (measured-at c)) (begin (measured-at c)))
+    ≡ cost-at (costs (measured-at c)) (begin (measured-at c))
+costs-of c =
+    let at = measured-at c in
+    found-costs (decode (start-of at .args .table .now)) (size (passed (shape at))) (costs at) (lens at) (begin at) (len c) (at .distances .ensures)
+    (settled-at (told-cost c .before .before)) (shape at .begin .ensures .start-is) (there (told-cost c)) (c .arcs-of .ensures)
+
+abbrev walking : tie.After-walk → Measured
 walking c = c .before .before .before .before .before
 
-abbrev walk-of : tie.After-tell-arg2 → tie.After-walk
-walk-of c = c .before .before .before .before .before
-
-abbrev tell-of : tie.After-slice-known4 → tie.After-tell
-tell-of c = c .before .before
+abbrev walk-of : tie.After-put-labels-arg2 → tie.After-walk
+walk-of c = c .before .before .before .before
 
 abbrev settled : tie.After-walk → tie.After-distances
-settled c = distances-of (walking c)
+settled c = measured-at (walking c)
 
-put : (c : tie.After-walk) → Stored (decode (start-of (settled c) .args .table .now)) (len (settled c)) (c .walk .last .1 .1 .1 .1 .1 .1 .1 .0)
+put : (c : tie.After-walk) → Stored (decode (start-of (settled c) .args .table .now)) (len (walking c)) (c .walk .last .1 .1 .1 .1 .1 .1 .1 .0)
 put c =
     let at = settled c in
     let a = start-of at .args in
-    stored (decode (a .table .now)) (firsts at) (begin at) (len at) (a .arcs .now) (c .walk .last .1 .1 .1 .1 .1 .1 .1 .0)
+    stored (decode (a .table .now)) (firsts at) (begin at) (len (walking c)) (a .arcs .now) (c .walk .last .1 .1 .1 .1 .1 .1 .1 .0)
     (path (walking c)) (passed (shape at) .before .if2 .left) (c .walk .ensures)
 
 look-requires : tie.Need-look-requires
@@ -145,25 +159,24 @@ returns-3 c =
     shortest-short-labels (a .table .now) (c .before .before .before .before .look .ensures .refusal-is) (c .before .before .before .if1 .left)
     (c .before .before .if2 .left) (c .before .if3 .taken) (c .refused3 .ensures)
 
-prepare-requires : tie.Need-prepare-requires
-prepare-requires c κs = (accepted (c .before .before), refl, refl)
-
-own-costs-requires : tie.Need-own-costs-requires
-own-costs-requires c κs = let known = c .before .before .prepare .ensures in (known .few-states, refl, known .finals .small)
+begin-requires : tie.Need-begin-requires
+begin-requires c κs = (accepted (c .before .before), refl, refl)
 
 is-plain-requires : tie.Need-is-plain-requires
-is-plain-requires c κs = prepared (c .before .before) .prepare .ensures .few-states
+is-plain-requires c κs = c .before .before .begin .ensures .few-states
 
 by-states-requires : tie.Need-by-states-requires
-by-states-requires c κs = prepared (c .before .before .before .before) .prepare .ensures .few-states
+by-states-requires c κs = tt
 
 distances-requires : tie.Need-distances-requires
 distances-requires c κs =
     let asked = c .before .before .before .before in
     let look = looked asked in
-    let own = at-own asked in
-    let known = prepared own .prepare .ensures in
-    let at = passed (prepared own) in
+    let begun = begun-at look in
+    let known = begun .begin .ensures in
+    let own = known .own in
+    let costs = begun .begin .last .1 .1 .0 in
+    let at = passed begun in
     let least = toZ-ofZ {w = w32} {z = at-refusal at .look .result .least} (record { sfits = look .before .struct-told .given .1 .0 .1 }) in (
       known .opened,
       known .states-are,
@@ -171,27 +184,20 @@ distances-requires c κs =
       known .start-is,
       known .indexed,
       (λ e.
-          plain-rising (decode (start at .args .table .now)) (size at) (prepared own .prepare .last .1 .1 .0) (own .own-costs .last .1 .1 .0) (known .finals)
-          (λ s h. own .own-costs .ensures .1 s (omega (arith, known .states-are))) (known .states-are)
-          (at-refusal at .look .ensures .light (accepted at)) (rw least at (look .is-plain .ensures e))),
+          let told = look .is-plain .ensures e in
+          plain-rising (decode (start at .args .table .now)) (size at) (own .codes) costs (own .finals) (own .made) (known .states-are)
+          (at-refusal at .look .ensures .light (accepted at)) (at-refusal at .look .ensures .written (accepted at) (told .0)) (rw least at (told .1))),
       (λ e.
           let known' = asked .by-states .ensures e in
           record {
-            up = at-refusal at .look .ensures .rises (accepted at) (known' .0);
-            good = known' .1;
-            negative = known' .2;
+            up = at-refusal at .look .ensures .rises (accepted at) (known' .1);
+            writes = at-refusal at .look .ensures .written (accepted at) (known' .0);
+            good = known' .2;
+            negative = known' .3;
             light = rw least (at-refusal at .look .ensures .light (accepted at));
           }),
-      nearing-first (decode (start at .args .table .now)) (size at) (prepared own .prepare .last .1 .1 .0) (own .own-costs .last .1 .1 .0)
-          (replicate max-states 0)
-          (known .finals) (λ s h. own .own-costs .ensures .1 s (omega (arith, known .states-are))) (getD-zeros max-states),
-      record {
-        costs = own .own-costs .ensures .0;
-        lens = length-replicate {A = ℕ} max-states 0;
-        low = own .own-costs .ensures .2;
-        high = own .own-costs .ensures .3;
-        few = λ s. omega (arith, getD-zeros max-states s);
-      },
+      nearing-first (decode (start at .args .table .now)) (size at) (own .codes) costs no-sizes (own .finals) (own .made) none-yet,
+      cells-first costs (own .long) (own .low) (own .high),
     )
 
 refused-requires-4 : tie.Need-refused-requires-4
@@ -205,11 +211,11 @@ returns-4 c =
     shortest-falls (a .table .now) (at-refusal all .look .ensures .refusal-is) (all .before .before .if1 .left) (all .before .if2 .left)
     (all .if3 .left) (size all) (at .distances .ensures) (not-true (at .distances .result) (c .before .if4 .taken)) (c .refused4 .ensures)
 
-mul-if5 : tie.Need-mul-if5
-mul-if5 c = omega (arith, shape (c .before) .prepare .ensures .start-below)
+mul-cost : tie.Need-mul-cost
+mul-cost c = omega (arith, shape (c .before) .begin .ensures .start-below)
 
-array-copy-out-if5 : tie.Need-array-copy-out-if5
-array-copy-out-if5 c = shape (c .before) .prepare .ensures .start-below
+array-copy-out-cost : tie.Need-array-copy-out-cost
+array-copy-out-cost c = shape (c .before) .begin .ensures .start-below
 
 refused-requires-5 : tie.Need-refused-requires-5
 refused-requires-5 c κs = tt
@@ -222,37 +228,47 @@ returns-5 c =
     let f = cost-fits at in
     let none : At-most unreached (cost-at (costs at) (begin at)) = omega (arith, bits, c .before .if5 .taken) in
     shortest-none (a .table .now) (at-refusal all .look .ensures .refusal-is) (all .before .before .if1 .left) (all .before .if2 .left)
-    (all .if3 .left) (size all) (at .distances .ensures) (settled-at (c .before .before .before)) (shape at .prepare .ensures .start-is)
+    (all .if3 .left) (size all) (at .distances .ensures) (settled-at (c .before .before .before)) (shape at .begin .ensures .start-is)
     none (c .refused5 .ensures)
 
-mul-len : tie.Need-mul-len
-mul-len c = omega (arith, shape (distances-of c) .prepare .ensures .start-below)
+mul-arcs-of : tie.Need-mul-arcs-of
+mul-arcs-of c = omega (arith, shape (distances-of c) .begin .ensures .start-below)
 
-array-read-len : tie.Need-array-read-len
-array-read-len c = shape (distances-of c) .prepare .ensures .start-below
+array-read-arcs-of : tie.Need-array-read-arcs-of
+array-read-arcs-of c = shape (distances-of c) .begin .ensures .start-below
 
-cast-len : tie.Need-cast-len
-cast-len c = omega (arith, path c .few)
+arcs-of-requires : tie.Need-arcs-of-requires
+arcs-of-requires c κs = tt
 
 walk-requires : tie.Need-walk-requires
 walk-requires c κs =
     let at = c .before .before .before .before in
-    let known = shape (distances-of at) .prepare .ensures in
-    let all = passed (shape (distances-of at)) in (
+    let known = shape (measured-at at) .begin .ensures in
+    let all = passed (shape (measured-at at)) in (
       known .opened,
       known .indexed,
       omega (arith, known .start-is, size all .within .starts),
       omega (arith, path at .few, all .before .if2 .left),
       path at .goes,
-      distances-of at .distances .ensures .cells,
+      measured-at at .distances .ensures .cells,
     )
 
-tell-requires : tie.Need-tell-requires
-tell-requires c κs =
+put-labels-requires : tie.Need-put-labels-requires
+put-labels-requires c κs =
     let walked = walk-of c in
     let at = shape (settled walked) in
-    let known = at .prepare .ensures in
-    (known .opened, known .start-is, known .finals, put walked .inside, path (walking walked) .few, put walked .accepted, passed at .if3 .left)
+    let known = at .begin .ensures in
+    (known .opened, known .start-is, put walked .inside, path (walking walked) .few, put walked .accepted, passed at .if3 .left)
+
+cast-answer : tie.Need-cast-answer
+cast-answer c =
+    let at = settled (walk-of (c .before .before .before)) in
+    rw (toZ-ofZ (cost-fits at)) (wider (cost-at (costs at) (begin at)) (cost-fits at))
+
+answer-requires : tie.Need-answer-requires
+answer-requires c κs =
+    let wrote = c .before .before in
+    (path (walking (walk-of (wrote .before))) .few, wrote .put-labels .ensures .few)
 
 same-length : tie.Need-same-length
 same-length c = search needs
@@ -262,11 +278,19 @@ same-length-2 c = search needs
 
 returns-6 : tie.Need-returns-6
 returns-6 c =
-    let walked = walk-of (tell-of c .before) in
-    let all = passed (shape (settled walked)) in
+    let wrote = c .before .before .before in
+    let walked = walk-of (wrote .before) in
+    let at = settled walked in
+    let all = passed (shape at) in
     let a = start all .args in
+    let cost = cost-at (costs at) (begin at) in
+    let costs' = ap (λ (z : Weight). toZ w64 (ofZ w64 z)) (toZ-ofZ (cost-fits at)) ∙ toZ-ofZ (wider cost (cost-fits at)) in
     shortest-told (a .table .now) (at-refusal all .look .ensures .refusal-is) (all .before .before .if1 .left) (all .before .if2 .left)
-    (all .if3 .left) (path (walking walked)) (walked .walk .ensures) (tell-of c .tell .ensures)
+    (all .if3 .left) (path (walking walked)) (walked .walk .ensures)
+    (rw (c .answer .ensures)
+    (tells-by (decode (a .table .now)) _ _ (len (walking walked))
+    (costs' ∙ stored-costs (decode (a .table .now)) (put walked) (path (walking walked)) (costs-of (walking walked)))
+    (sym (put walked .long)) (wrote .put-labels .ensures)))
 
 pub shortest-path-spec : {M : Type 1} → statement M
 shortest-path-spec =
@@ -279,22 +303,23 @@ shortest-path-spec =
     returns-2
     refused-requires-3
     returns-3
-    prepare-requires
-    own-costs-requires
+    begin-requires
     is-plain-requires
     by-states-requires
     distances-requires
     refused-requires-4
     returns-4
-    mul-if5
-    array-copy-out-if5
+    mul-cost
+    array-copy-out-cost
     refused-requires-5
     returns-5
-    mul-len
-    array-read-len
-    cast-len
+    mul-arcs-of
+    array-read-arcs-of
+    arcs-of-requires
     walk-requires
-    tell-requires
+    put-labels-requires
+    cast-answer
+    answer-requires
     same-length
     same-length-2
     returns-6)

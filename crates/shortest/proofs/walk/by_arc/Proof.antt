@@ -1,15 +1,17 @@
--- What `sum` makes of the arc that was read and its target's cost, and one arc more.
+-- What `sum` makes of the arc that was read and its target's cost, the labels that the arc writes, and one arc more.
 use borrow.Author.Needs.{needs}
-use mathlib.Core.Path.{_≡_, refl, ap, _∙_}
+use mathlib.Core.Path.{_≡_, ap, _∙_}
 use Prim.Native.Nat.{_+_, _≤_, _<_}
 use native.Mathlib.Omega.{arith}
+use lib.ListN.{getD}
 use mir.Facts.{toZ-ofZ}
 use Rattle.wire.specs.Bytes.{Bytes}
 use Rattle.transducer.specs.declared.Arc.{Arc}
 use Rattle.transducer.specs.Format.{max-states, decode}
 use Rattle.paths.proofs.Ready.{Sized, sized}
-use Rattle.distance.specs.Nearest.{by-state, arcs-by}
-use Rattle.distance.proofs.Bounds.{cell-back, weight-back, read-good, sum-by-arc}
+use Rattle.distance.specs.Nearest.{unpacked, by-state, longer, size-by}
+use Rattle.distance.proofs.Bounds.{cell-back, cell-most, weight-back, read-good, sum-by-arc}
+use Rattle.distance.proofs.Packed.{unpack-longer}
 use Rattle.shortest.proofs.walk.by_arc.Statement.{statement}
 use Rattle.shortest.proofs.walk.by_arc.Tie as tie
 
@@ -29,7 +31,7 @@ size c =
 below : (c : Read) → c .arc-of .result .target < max-states
 below c = rw (c .arc-of .ensures) (omega (arith, size c .within .arrives (start c .args .i) (start c .pre .1), size c .states))
 
-few : (c : Read) → by-state (start c .args .lens .now) (c .arc-of .result .target) ≤ max-states
+few : (c : Read) → by-state (start c .args .lens .now) (c .arc-of .result .target) .arcs ≤ max-states
 few c = start c .pre .2 .few (c .arc-of .result .target)
 
 arc-of-requires : tie.Need-arc-of-requires
@@ -56,24 +58,33 @@ sum-requires c κs =
       rw (cell-back cells (arc' .target)) (cells .low (arc' .target)),
     )
 
+abbrev read : tie.After-sum → Read
+read c = c .before .before .before .before
+
 mul-t13 : tie.Need-mul-t13
 mul-t13 c = search needs
 
 element-copy-out-t16 : tie.Need-element-copy-out-t16
-element-copy-out-t16 c = below (c .before .before .before .before)
+element-copy-out-t16 c = below (read c)
 
-add-t17 : tie.Need-add-t17
-add-t17 c = omega (arith, few (c .before .before .before .before .before))
+arc-size-requires : tie.Need-arc-size-requires
+arc-size-requires c κs = tt
+
+add-t18 : tie.Need-add-t18
+add-t18 c = omega (arith, cell-most (start (read (c .before .before)) .pre .2) (read (c .before .before) .arc-of .result .target), c .arc-size .ensures .1)
 
 returns : tie.Need-returns
-unfolding arcs-by
+unfolding size-by
 returns c =
-    let made = c .before .sum in
-    let got = c .before .before .before .before .before in
+    let made = c .before .before .sum in
+    let got = read (c .before .before) in
     let a = start got .args in
+    let to = got .arc-of .result .target in
     let is = got .arc-of .ensures in
     let sum' = sum-by-arc (decode (a .table .now)) (size got) (start got .pre .2) (a .i) (start got .pre .1) (got .arc-of .result) is (made .ensures) in
-    (toZ-ofZ (record { sfits = made .ok }) ∙ sum', ap (λ (x : Arc). by-state (a .lens .now) (x .target) + 1) is)
+    let one : unpacked (getD (a .lens .now) to 0 + c .arc-size .result) ≡ longer (got .arc-of .result .output) (by-state (a .lens .now) to) =
+    unpack-longer (getD (a .lens .now) to 0) (got .arc-of .result .output) (c .arc-size .result) (omega (arith, few got)) (c .arc-size .ensures .0) in
+    (toZ-ofZ (record { sfits = made .ok }) ∙ sum', one ∙ ap (λ (x : Arc). longer (x .output) (by-state (a .lens .now) (x .target))) is)
 
 pub by-arc-spec : {M : Type 1} → statement M
 by-arc-spec =
@@ -86,5 +97,6 @@ by-arc-spec =
     sum-requires
     mul-t13
     element-copy-out-t16
-    add-t17
+    arc-size-requires
+    add-t18
     returns)

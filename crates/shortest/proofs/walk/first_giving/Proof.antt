@@ -1,7 +1,6 @@
 -- The invariant: the arcs before `i` are not the one sought (`Seeking`).
-use borrow.Author.Needs.{needs}
 use mathlib.Core.Path.{_≡_, sym, ap, _∙_}
-use mathlib.Core.Bool.{Bool, true, false, not}
+use mathlib.Core.Bool.{not}
 use Prim.Native.Nat.{_-_, _<_}
 use native.Mathlib.Omega.{arith}
 use lib.ListN.{length}
@@ -12,8 +11,8 @@ use Rattle.wire.specs.Bytes.{Bytes}
 use Rattle.transducer.specs.Format.{decode}
 use Rattle.transducer.specs.Weight.{Weight}
 use Rattle.paths.proofs.Ready.{Sized, sized}
-use Rattle.distance.specs.Distance.{nearer}
-use Rattle.distance.specs.Nearest.{cost-at, by-state}
+use Rattle.distance.specs.Distance.{Size, nearer}
+use Rattle.distance.specs.Nearest.{unpacked, cost-at, by-state}
 use Rattle.distance.proofs.Bounds.{cell-back}
 use Rattle.shortest.proofs.Tight.{Seeking, seeking-first, seeking-here, seeking-next, seeking-stop}
 use Rattle.shortest.proofs.walk.first_giving.Statement.{statement}
@@ -45,7 +44,8 @@ loop-holds : tie.Need-loop-holds Inv-loop μ-loop
 loop-holds c =
     let start' = c .before in
     let a = start' .args in
-    seeking-first (decode (a .table .now)) (cost-at (a .costs .now)) (by-state (a .lens .now)) (a .s) (a .from) (a .to) (start' .pre .2)
+    seeking-first (decode (a .table .now)) (cost-at (a .costs .now)) (by-state (a .lens .now)) (a .s)
+    (a .from) (a .to) (start' .pre .2)
 
 by-arc-requires : tie.Need-by-arc-requires Inv-loop μ-loop
 by-arc-requires c κs = (start c .pre .0, is-arc c, start c .pre .4)
@@ -63,15 +63,17 @@ turn c = given c .before
 test : (c : Compared) →
     let a = start (turn c) .args in
     let by = given c .by-arc .result in
-    c .comes-first .result ≡ nearer (cost-at (a .costs .now) (a .s)) (by-state (a .lens .now) (a .s)) (by .cost) (by .arcs)
+    c .comes-first .result ≡ nearer (cost-at (a .costs .now) (a .s)) (by-state (a .lens .now) (a .s)) (by .cost)
+    (unpacked (by .size))
 test c =
     let a = start (turn c) .args in
     let by = given c .by-arc .result in
     let l = by-state (a .lens .now) (a .s) in
+    let m : Size = unpacked (by .size) in
     let cost = toZ-ofZ {w = w32} {z = by .cost} (record { sfits = c .before .struct-told .given .0 .1 }) in
     c .comes-first .ensures
-    ∙ (ap (λ (x : Weight). nearer x l (toZ w32 (ofZ w32 (by .cost))) (by .arcs)) (cell-back (start (turn c) .pre .4) (a .s))
-    ∙ ap (λ (x : Weight). nearer (cost-at (a .costs .now) (a .s)) l x (by .arcs)) cost)
+    ∙ (ap (λ (x : Weight). nearer x l (toZ w32 (ofZ w32 (by .cost))) m) (cell-back (start (turn c) .pre .4) (a .s))
+    ∙ ap (λ (x : Weight). nearer (cost-at (a .costs .now) (a .s)) l x m) cost)
 
 mul-comes-first : tie.Need-mul-comes-first Inv-loop μ-loop
 mul-comes-first c = omega (arith, start (c .before) .pre .1)
@@ -94,8 +96,9 @@ returns c =
     let by = given (c .before) .by-arc in
     let a = start at .args in
     let now' = at .before .loop in
-    seeking-here (decode (a .table .now)) (cost-at (a .costs .now)) (by-state (a .lens .now)) (a .s) (a .from) (a .to) (now' .i)
-    (by .result .cost) (by .result .arcs) (now' .inv) (at .loop-test .taken) (by .ensures .0) (by .ensures .1)
+    seeking-here (decode (a .table .now)) (cost-at (a .costs .now)) (by-state (a .lens .now)) (a .s)
+    (a .from) (a .to) (now' .i)
+    (by .result .cost) (unpacked (by .result .size)) (now' .inv) (at .loop-test .taken) (by .ensures .0) (by .ensures .1)
     (ap not (sym (test (c .before))) ∙ c .if1 .taken)
 
 add-i : tie.Need-add-i Inv-loop μ-loop
@@ -110,15 +113,17 @@ loop-again c =
     let by = given (c .before) .by-arc in
     let a = start at .args in
     let now' = at .before .loop in
-    seeking-next (decode (a .table .now)) (cost-at (a .costs .now)) (by-state (a .lens .now)) (a .s) (a .from) (a .to) (now' .i)
-    (by .result .cost) (by .result .arcs) (now' .inv) (at .loop-test .taken) (by .ensures .0) (by .ensures .1)
+    seeking-next (decode (a .table .now)) (cost-at (a .costs .now)) (by-state (a .lens .now)) (a .s)
+    (a .from) (a .to) (now' .i)
+    (by .result .cost) (unpacked (by .result .size)) (now' .inv) (at .loop-test .taken) (by .ensures .0) (by .ensures .1)
     (ap not (sym (test (c .before))) ∙ c .if1 .left)
 
 returns-2 : tie.Need-returns-2 Inv-loop μ-loop
 returns-2 c =
     let a = c .before .before .before .args in
     let now' = c .before .loop in
-    seeking-stop (decode (a .table .now)) (cost-at (a .costs .now)) (by-state (a .lens .now)) (a .s) (a .from) (a .to) (now' .i) (now' .inv)
+    seeking-stop (decode (a .table .now)) (cost-at (a .costs .now)) (by-state (a .lens .now)) (a .s)
+    (a .from) (a .to) (now' .i) (now' .inv)
     (c .loop-test .left)
 
 pub first-giving-spec : {M : Type 1} → statement M

@@ -21,7 +21,7 @@ Inv-loop table first start len index costs lens out₀ s₀ n₀ out s n =
 abbrev μ-loop : tie.MeasureT-loop
 μ-loop table first start len index costs lens out₀ s₀ n₀ out s n = len - n
 
--- The first tight arcs, by the costs and numbers of arcs that were handed in.
+-- The first tight arcs, by the costs and sizes that were handed in.
 abbrev firsts : tie.Start Inv-loop μ-loop → ℕ → ℕ
 firsts x = let a = x .args in first-tight (decode (a .table .now)) (cost-at (a .costs .now)) (by-state (a .lens .now))
 

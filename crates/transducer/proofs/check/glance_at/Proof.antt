@@ -5,26 +5,26 @@ use mathlib.Core.Bool.{Bool, not}
 use Prim.Native.Nat.{_+_, _-_, _/_, _≤_}
 use native.Mathlib.Omega.{arith}
 use borrow.Author.Tests.{ltb-true, not-false}
-use lib.Bits.{bitAnd}
+use lib.Bits.{bitAnd, and-mask}
 use lib.Dec.{eqb}
 use lib.ListN.{length}
 use mir.Facts.{toZ-ofZ}
 use Rattle.transducer.specs.Check.{Glanced}
 use Rattle.transducer.specs.Weight.{rebate}
-use Rattle.transducer.proofs.Glance.{Looking, says-unsure, glanced-first, glanced-rows, glanced-rest, glanced-lower, glanced-under, glanced-stop}
+use Rattle.transducer.proofs.Glance.{Looking, says-unsure, glanced-rest, glanced-lower, glanced-stop}
 use Rattle.transducer.proofs.Glance.{glanced-unsure, rebate-lower}
 use Rattle.transducer.proofs.check.glance_at.Statement.{statement}
 use Rattle.transducer.proofs.check.glance_at.Tie as tie
 
 abbrev Inv-loop : tie.InvT-loop
-Inv-loop bytes at count n floor end each place₀ last₀ any₀ all₀ below₀ place last any all below = Looking bytes at count n each floor last any all below place
+Inv-loop bytes at count n floor close end each place₀ last₀ any₀ all₀ below₀ place last any all below = Looking bytes at count n each floor last any all below place
 
 abbrev μ-loop : tie.MeasureT-loop
-μ-loop bytes at count n floor end each place₀ last₀ any₀ all₀ below₀ place last any all below = 1000000 - below
+μ-loop bytes at count n floor close end each place₀ last₀ any₀ all₀ below₀ place last any all below = 1000000 - below
 
 -- The first run, and the head of a further one.
 abbrev First : Type 0
-First = tie.After-run-on Inv-loop μ-loop
+First = tie.After-first-run Inv-loop μ-loop
 
 abbrev begun : First → tie.Start Inv-loop μ-loop
 begun f = f .before .before .before
@@ -33,17 +33,14 @@ abbrev each : First → Bool
 each f = not (eqb (bitAnd (begun f .args .n) (f .before .wrapping-sub-u32 .result)) 0)
 
 first : (f : First) → Glanced (begun f .args .bytes .now) (begun f .args .at) (begun f .args .count) (begun f .args .n) (each f) (begun f .args .floor)
-    (f .run-on .result .last) (f .run-on .result .any) (f .run-on .result .all) (rebate 0) (f .run-on .result .place)
-first f =
-    let a = begun f .args in
-    f .run-on .ensures (a .at) (a .count) (a .floor) refl
-    (glanced-first (a .bytes .now) (a .at) (a .count) (a .n) (each f) (a .floor) 0 18446744073709551615 (rebate 0))
+    (f .first-run .result .last) (f .first-run .result .any) (f .first-run .result .all) (rebate 0) (f .first-run .result .place)
+first f = f .first-run .ensures (begun f .args .count) refl
 
 abbrev Turn : Type 0
 Turn = tie.In-loop Inv-loop μ-loop
 
 abbrev start : Turn → tie.Start Inv-loop μ-loop
-start t = begun (t .before .before .before)
+start t = begun (t .before .before)
 
 room : (t : Turn) → t .before .loop .place + 16 ≤ length (start t .args .bytes .now)
 room t = let g = t .before .loop .inv .glanced in omega (arith, t .loop-test .taken, g .there, start t .pre)
@@ -64,17 +61,11 @@ add-end c = search needs
 wrapping-sub-u32-requires : tie.Need-wrapping-sub-u32-requires Inv-loop μ-loop
 wrapping-sub-u32-requires c κs = search needs
 
-run-on-requires : tie.Need-run-on-requires Inv-loop μ-loop
-run-on-requires c κs =
-    let a = c .before .before .args in
-    (c .before .before .pre, record { many = a .count; end-is = refl }, omega arith)
-
-lowest-before-requires : tie.Need-lowest-before-requires Inv-loop μ-loop
-lowest-before-requires c κs = (begun c .pre, glanced-rows (first c))
+first-run-requires : tie.Need-first-run-requires Inv-loop μ-loop
+first-run-requires c κs = (c .before .before .pre, record { many = c .before .before .args .count; end-is = refl })
 
 loop-holds : tie.Need-loop-holds Inv-loop μ-loop
-loop-holds c =
-    record { glanced = glanced-under (first (c .before)) (c .lowest-before .result) (c .lowest-before .ensures); small = omega arith }
+loop-holds c = record { glanced = first c; small = omega arith }
 
 add-u32-at : tie.Need-add-u32-at Inv-loop μ-loop
 add-u32-at c = search needs
@@ -89,7 +80,7 @@ not-sure-requires : tie.Need-not-sure-requires Inv-loop μ-loop
 not-sure-requires c κs = search needs
 
 returns : tie.Need-returns Inv-loop μ-loop
-returns c = let r = c .not-sure .ensures in says-unsure _ _ _ _ _ _ (r .0) (r .1) (r .2)
+returns c = let r = c .not-sure .ensures in says-unsure _ _ _ _ _ _ (r .0) (r .1) (r .2) (r .3)
 
 cast-if2 : tie.Need-cast-if2 Inv-loop μ-loop
 cast-if2 c = search needs
@@ -98,10 +89,10 @@ not-sure-requires-2 : tie.Need-not-sure-requires-2 Inv-loop μ-loop
 not-sure-requires-2 c κs = search needs
 
 returns-2 : tie.Need-returns-2 Inv-loop μ-loop
-returns-2 c = let r = c .not-sure2 .ensures in says-unsure _ _ _ _ _ _ (r .0) (r .1) (r .2)
+returns-2 c = let r = c .not-sure2 .ensures in says-unsure _ _ _ _ _ _ (r .0) (r .1) (r .2) (r .3)
 
-run-on-requires-2 : tie.Need-run-on-requires-2 Inv-loop μ-loop
-run-on-requires-2 c κs = (start (turn c) .pre, glanced-rest (turn c .before .loop .inv .glanced), omega (arith, c .if2 .left))
+run-on-requires : tie.Need-run-on-requires Inv-loop μ-loop
+run-on-requires c κs = (start (turn c) .pre, glanced-rest (turn c .before .loop .inv .glanced), omega (arith, c .if2 .left))
 
 loop-less : tie.Need-loop-less Inv-loop μ-loop
 loop-less c = omega (arith, c .before .before .if1 .left, c .before .if2 .left)
@@ -114,7 +105,7 @@ loop-again c =
     let below = lower .before .before .wrapping-sub-u322 .result in
     record {
       glanced =
-          c .run-on2 .ensures (a .at) (a .count) (a .floor) refl
+          c .run-on .ensures (a .at) (a .count) (a .floor) refl
           (glanced-lower (l .inv .glanced) (rebate below) (rebate-lower (l .below) below (omega (arith, lower .before .if1 .left))));
       small = omega (arith, lower .if2 .left);
     }
@@ -123,7 +114,7 @@ not-sure-requires-3 : tie.Need-not-sure-requires-3 Inv-loop μ-loop
 not-sure-requires-3 c κs = search needs
 
 returns-3 : tie.Need-returns-3 Inv-loop μ-loop
-returns-3 c = let r = c .not-sure3 .ensures in says-unsure _ _ _ _ _ _ (r .0) (r .1) (r .2)
+returns-3 c = let r = c .not-sure3 .ensures in says-unsure _ _ _ _ _ _ (r .0) (r .1) (r .2) (r .3)
 
 good-at-a-glance-requires : tie.Need-good-at-a-glance-requires Inv-loop μ-loop
 good-at-a-glance-requires c κs = search needs
@@ -134,7 +125,7 @@ minus-requires c κs = c .before .before .before .before .loop .inv .small
 returns-4 : tie.Need-returns-4 Inv-loop μ-loop
 returns-4 c =
     let stop = c .before .before .before .before in
-    glanced-unsure (stop .before .loop .inv .glanced) (stop .loop-test .left) _ refl (toZ-ofZ (record { sfits = c .minus .ok }) ∙ c .minus .ensures) refl
+    glanced-unsure (stop .before .loop .inv .glanced) (stop .loop-test .left) _ refl (toZ-ofZ (record { sfits = c .minus .ok }) ∙ c .minus .ensures) refl refl
 
 minus-requires-2 : tie.Need-minus-requires-2 Inv-loop μ-loop
 minus-requires-2 c κs = c .before .before .before .before .loop .inv .small
@@ -151,6 +142,7 @@ returns-5 c =
     (glance .good-at-a-glance .ensures (not-false (glance .good-at-a-glance .result) (c .before .before .if4 .left))) _ refl
     (toZ-ofZ (record { sfits = c .before .minus2 .ok }) ∙ c .before .minus2 .ensures)
     (λ e. omega (arith, c .wide64 .ensures, ltb-true (c .wide64 .result) (l .all / 281474976710656) e))
+    (λ e. omega (arith, and-mask (l .all / 4294967296) 16, ltb-true 0 (bitAnd (l .all / 4294967296) 65535) e))
 
 pub glance-at-spec : {M : Type 1} → statement M
 glance-at-spec =
@@ -161,8 +153,7 @@ glance-at-spec =
     mul-end
     add-end
     wrapping-sub-u32-requires
-    run-on-requires
-    lowest-before-requires
+    first-run-requires
     loop-holds
     add-u32-at
     u32-at-requires
@@ -172,7 +163,7 @@ glance-at-spec =
     cast-if2
     not-sure-requires-2
     returns-2
-    run-on-requires-2
+    run-on-requires
     loop-less
     loop-again
     not-sure-requires-3

@@ -23,26 +23,29 @@ check-arcs-requires : tie.Need-check-arcs-requires
 unfolding from-0
 check-arcs-requires c κs =
     let start = c .before .before .before .before .before in
-    (omega (arith, c .before .arcs-at .ensures, start .pre .0), rw (c .before .before .restart .ensures) (c .glance-at .ensures .plain))
+    let glance = c .before .before in
+    (omega (arith, glance .before .arcs-at .ensures, start .pre .0), rw (c .restart .ensures) (glance .glance-at .ensures .plain))
 
 returns : tie.Need-returns
 unfolding all-checked
 returns c =
-    let glance = c .before .before in
+    let finals = c .before .before in
+    let glance = finals .before .before in
     let placed = glance .before in
     let least = toZ-ofZ {w = w32} {z = glance .glance-at .result .least} (record { sfits = c .struct-told .given .1 .0 .1 }) in (
-      rw (c .before .check-arcs .ensures, placed .arcs-at .ensures, placed .before .restart .ensures, placed .before .before .check-finals .ensures),
+      rw (c .before .check-arcs .ensures, placed .arcs-at .ensures, finals .restart .ensures, finals .before .check-finals .ensures),
       rw (least, ← placed .arcs-at .ensures) (glance .glance-at .ensures .light),
       rw (← placed .arcs-at .ensures) (glance .glance-at .ensures .up),
+      rw (← placed .arcs-at .ensures) (glance .glance-at .ensures .writes),
     )
 
 pub check-all-spec : {M : Type 1} → statement M
 check-all-spec =
     tie.close
     (tie.spec
-    check-finals-requires
-    restart-requires
     arcs-at-requires
     glance-at-requires
+    check-finals-requires
+    restart-requires
     check-arcs-requires
     returns)

@@ -70,9 +70,9 @@ all-tested k =
     rw (← states-read h, ← arcs-read h, ← finals-read h) (k .check-all .ensures .0)
 
 -- Where the walk is taken, it says which refusal it is.
-misplaced : (bs : List ℕ) → Bytes bs → (r : Looked) → (r .refusal ≡ walked bs) × (r .least ≡ min-weight) × (r .up ≡ false) → refusal bs ≡ walked bs →
+misplaced : (bs : List ℕ) → Bytes bs → (r : Looked) → (r .refusal ≡ walked bs) × (r .least ≡ min-weight) × (r .up ≡ false) × (r .writes ≡ false) → refusal bs ≡ walked bs →
     Looked-says bs r
-misplaced bs b r says e = looked-misplaced bs b r (says .0 ∙ sym e) (says .1) (says .2)
+misplaced bs b r says e = looked-misplaced bs b r (says .0 ∙ sym e) (says .1) (says .2) (says .3)
 
 misplaced-requires : tie.Need-misplaced-requires
 misplaced-requires c κs = search needs
@@ -163,6 +163,9 @@ cast-check-all c = search needs
 cast-check-all-2 : tie.Need-cast-check-all-2
 cast-check-all-2 c = search needs
 
+mul-check-all : tie.Need-mul-check-all
+mul-check-all c = search needs
+
 check-all-requires : tie.Need-check-all-requires
 check-all-requires c κs = search needs
 
@@ -195,6 +198,7 @@ returns-6 c =
     let told : c .before .number .result ≡ first (k .check-all .result .checks) = c .before .number .ensures in
     looked-light bs (is-bytes h) _ (told ∙ ap first (all-tested k) ∙ refusal-checked bs (is-bytes h) word good long heads)
     (rw (least, ← finals-read h, ← arcs-read h) (k .check-all .ensures .1)) (rw (← finals-read h, ← arcs-read h) (k .check-all .ensures .2))
+    (rw (← finals-read h, ← arcs-read h) (k .check-all .ensures .3))
 
 pub look-spec : {M : Type 1} → statement M
 look-spec =
@@ -225,6 +229,7 @@ look-spec =
     returns-4
     cast-check-all
     cast-check-all-2
+    mul-check-all
     check-all-requires
     misplaced-requires-5
     returns-5
