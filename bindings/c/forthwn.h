@@ -186,8 +186,9 @@ uint32_t forthwn_count(const uint8_t *table, size_t table_len, uint32_t *count);
 uint32_t forthwn_nth(const uint8_t *table, size_t table_len, uint32_t k, uint16_t *arcs, size_t arcs_len,
                      uint16_t *labels, size_t labels_len, forthwn_path *path);
 
-/* The accepting path of least cost, then of fewest arcs, then first in path order, told as forthwn_nth does. There is one where
- * accepting paths are infinitely many, too, but where a cycle on one of them sums below 0: then no cost is the least.
+/* The accepting path of least cost, then of fewest labels (an empty output is none), then of fewest arcs, then first in path order, told
+ * as forthwn_nth does. There is one where accepting paths are infinitely many, too, but where a cycle on one of them sums below 0: then
+ * no cost is the least.
  * Lent: FORTHWN_PATH_LEN arcs, FORTHWN_PATH_LEN labels. Refusals: 1 to 8, 10, 16, 19.
  * One pass over the arcs where they lead to higher states; else by a queue, at worst states times arcs, which took 10 milliseconds. */
 uint32_t forthwn_shortest(const uint8_t *table, size_t table_len, uint16_t *arcs, size_t arcs_len,

@@ -316,7 +316,8 @@ def nth(table, k: int) -> Path:
 
 
 def shortest(table) -> Path:
-    """The accepting path of least cost, then of fewest arcs, then first in path order. Refusals 1 to 8, 16, 19.
+    """The accepting path of least cost, then of fewest labels (an empty output is none), then of fewest arcs, then first in path order.
+    Refusals 1 to 8, 16, 19.
 
     >>> rebate = Table(2, 0, [Final(1, 0)], [Arc(0, 1, 2, 1, 5), Arc(0, 1, 3, 1, -7)])
     >>> shortest(write(rebate))

@@ -181,6 +181,28 @@ def signed_rows():
     yield s(19, "19 at the least lengths", PAYING, room=EXACT)
 
 
+# Equal cost: fewest labels, then fewest arcs, then path order. An empty output is no label.
+def tie_rows():
+    s = shortest_row
+    yield s(0, "fewest labels before fewest arcs", sound(n=3, start=0, finals=((2, 0),), arcs=((0, 1, 7, 2, 5), (0, 2, 0, 1, 2), (1, 3, 0, 2, 3))), (5, 2, 0))
+    yield s(0, "least cost before fewest labels", sound(n=3, start=0, finals=((2, 0),), arcs=((0, 1, 7, 2, 5), (0, 2, 0, 1, 3), (1, 3, 0, 2, 3))), (5, 1, 1))
+    yield s(0, "fewest arcs at as many labels", sound(n=3, start=0, finals=((2, 0),), arcs=((0, 1, 0, 1, 2), (0, 2, 7, 2, 5), (1, 3, 7, 2, 3))), (5, 1, 1))
+    both = ((0, 1, 7, 1, 2), (0, 2, 0, 2, 2), (1, 3, 0, 3, 3), (2, 3, 7, 3, 3))
+    yield s(0, "path order at as many labels and arcs", sound(n=4, start=0, finals=((3, 0),), arcs=both), (5, 2, 1))
+    yield s(0, "stopping early before a silent arc at the same cost", sound(n=2, start=0, finals=((0, 4), (1, 0)), arcs=((0, 1, 0, 1, 4),)), (4, 0, 0))
+    yield s(0, "a silent ring of cost 0", sound(n=3, start=0, finals=((2, 0),), arcs=((0, 0, 0, 1, 0), (1, 0, 0, 0, 0), (1, 0, 8, 2, 3))), (3, 2, 1))
+    silent = ((0, 1, 8, 2, 0), (0, 0, 0, 1, 0), (1, 0, 0, 0, 0), (1, 0, 0, 2, 0))
+    yield s(0, "a silent way of cost 0", sound(n=3, start=0, finals=((2, 0),), arcs=silent), (0, 2, 0))
+    rebate = ((0, 1, 7, 2, -4), (0, 0, 0, 1, 0), (1, 0, 0, 0, 0), (1, 0, 0, 2, -4))
+    yield s(0, "a silent way at a cost below 0", sound(n=3, start=0, finals=((2, -1),), arcs=rebate), (-5, 2, 0))
+    many = [(0, 1, 7, 1, 0)] * 40 + [(0, 0, 0, 2, 0)] + [(0, 1, 7, 1, 0)] * 40 + [(2, 0, 0, 1, 0)]
+    yield s(0, "a silent way among many arcs of weight 0", sound(n=3, start=0, finals=((1, 0),), arcs=many), (0, 2, 0))
+    below = [(0, 1, 7, 1, -1)] * 40 + [(0, 0, 0, 2, 0)] + [(0, 1, 7, 1, -1)] * 40 + [(2, 0, 0, 1, -1)]
+    yield s(0, "a silent way among many arcs below 0", sound(n=3, start=0, finals=((1, 0),), arcs=below), (-1, 2, 0))
+    loops_of_7 = [(0, 1, 7, 1, 1)] * 40 + [(0, 1, 7, 1, 0)] * 40
+    yield s(0, "many arcs that all write a label", sound(n=2, start=0, finals=((1, 0),), arcs=loops_of_7), (0, 1, 1))
+
+
 def shortest_rows():
     s = shortest_row
     yield s(0, "paper 01's last case", LATTICE, (11, 3, 2))
@@ -190,6 +212,7 @@ def shortest_rows():
     yield s(0, "fewest arcs before path order", sound(n=3, start=0, finals=((2, 0),), arcs=((0, 1, 1, 1, 2), (0, 2, 2, 2, 5), (1, 3, 3, 2, 3))), (5, 1, 1))
     yield s(0, "path order last", sound(n=3, start=0, finals=((2, 0),), arcs=((0, 1, 1, 2, 6), (0, 2, 2, 2, 5), (0, 3, 3, 2, 5), (1, 3, 3, 2, 3))), (5, 1, 1))
     yield s(0, "least cost before fewest arcs", sound(n=3, start=0, finals=((2, 0),), arcs=((0, 1, 1, 2, 6), (0, 2, 2, 1, 2), (1, 3, 3, 2, 3))), (5, 2, 2))
+    yield from tie_rows()
     yield s(0, "stopping early at the same cost", sound(n=2, start=0, finals=((0, 4), (1, 0)), arcs=((0, 1, 2, 1, 4),)), (4, 0, 0))
     yield s(0, "a ring of weight 0 on the way", sound(n=3, start=0, finals=((2, 0),), arcs=((0, 0, 7, 1, 0), (1, 0, 7, 0, 0), (1, 0, 8, 2, 3))), (3, 2, 2))
     dear = sound(n=STATES, start=0, finals=((STATES - 1, 1000000),), arcs=[(i, 1, 2, i + 1, 1000000) for i in range(STATES - 1)])

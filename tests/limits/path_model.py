@@ -111,20 +111,21 @@ def ring_below_zero(t):
 
 
 def shortest(t):
-    """The accepting path of least cost, then fewest arcs, then first in path order, where something accepts and no ring below zero lies on
-    an accepting path. From each state on an accepting path the best one known, until no arc makes a better one."""
+    """The accepting path of least cost, then fewest non-empty output labels, then fewest arcs, then first in path order, where something
+    accepts and no ring below zero lies on an accepting path. From each state on an accepting path the best one known, until no arc makes a
+    better one."""
     kept, numbers = trimmed(t)
-    best = {s: (w, 0, []) for s, w in kept.finals}
+    best = {s: (w, 0, 0, []) for s, w in kept.finals}
     changed = True
     while changed:
         changed = False
         for i, a in reversed(list(enumerate(kept.arcs))):
             if a.target in best:
-                c, n, path = best[a.target]
-                other = (c + a.weight, n + 1, [numbers[i]] + path)
+                c, printed, n, path = best[a.target]
+                other = (c + a.weight, printed + (a.output != 0), n + 1, [numbers[i]] + path)
                 if a.source not in best or other < best[a.source]:
                     best[a.source], changed = other, True
-    return best[kept.start][2]
+    return best[kept.start][3]
 
 
 def shortest_conditions(data, lengths):

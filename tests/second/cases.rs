@@ -768,6 +768,20 @@ pub fn fixed() -> Vec<Case> {
         &[(0, 1, 2, 2, 1), (0, 1, 2, 1, 2), (0, 1, 2, 1, 2), (2, 0, 2, 1, 1)],
     );
     out.push(given("ties", d, copy(), &[1], ok));
+    // Equal cost: fewer labels against fewer arcs.
+    let d = Draft::new(3, 0, &[(2, 0)], &[(0, 1, 2, 2, 5), (0, 1, 0, 1, 2), (1, 0, 0, 2, 3)]);
+    out.push(given("ties, fewer labels", d, copy(), &[1], ok));
+    // Equal cost and labels: fewer arcs against earlier arcs.
+    let d = Draft::new(3, 0, &[(2, 0)], &[(0, 1, 0, 1, 2), (0, 1, 2, 2, 5), (1, 0, 2, 2, 3)]);
+    out.push(given("ties, fewer arcs", d, copy(), &[1], ok));
+    // Equal in all three: earlier arcs.
+    let d = Draft::new(4, 0, &[(3, 0)], &[(0, 1, 2, 1, 2), (0, 1, 0, 2, 2), (1, 0, 0, 3, 3), (2, 0, 2, 3, 3)]);
+    out.push(given("ties, earlier arcs", d, copy(), &[1], ok));
+    // A silent ring of cost 0 on the way, and one that saves a label.
+    let d = Draft::new(3, 0, &[(2, 0)], &[(0, 0, 0, 1, 0), (1, 0, 0, 0, 0), (1, 1, 2, 2, 3)]);
+    out.push(given("silent ring", d, copy(), &[1], ok));
+    let d = Draft::new(3, 0, &[(2, 0)], &[(0, 1, 2, 2, 0), (0, 0, 0, 1, 0), (1, 0, 0, 0, 0), (1, 1, 0, 2, 0)]);
+    out.push(given("silent ring, fewer labels", d, copy(), &[1], ok));
     out.push(given("1,024 states up", line(1_024, 1, 2, 1_000), copy(), &[1; 64], ok));
     out.push(given("1,024 states down", line_down(1_024, 1, 2, 1_000_000), loops(1, 2, 0, 0), &[1; 64], ok));
     let mut ring: Vec<Given> = (0..1_024).map(|s| (s, 0, 2, (s + 1) % 1_024, 1)).collect();

@@ -77,6 +77,11 @@ FAULTS = [
      "let all = Table { finals: (0..t.states).map(|s| (s, 0)).collect(), ..t.clone() }; "
      "return Err(if ring_below_zero(&all, &to_come(&all)) { 19 } else { 16 })"),
     ("a ring of sum zero refused", "fn ring_below_zero", "cost < least", "cost <= least"),
+    # The order of ties.
+    ("arcs before labels", "fn least_path", "let least = least_below(t, layers, t.start)?;",
+     "let cost = least_below(t, layers, t.start)?.0; "
+     "let least = layers.iter().filter_map(|layer| layer[t.start]).find(|x| x.0 == cost)?;"),
+    ("empty labels counted", "fn adds", "i64::from(a.output != 0)", "1"),
     ("cost cut to 32 bits without sign", "fn tell", "path_cost(t, path),", "path_cost(t, path) as u32 as i64,"),
     # Costs to come.
     ("costs to come without final weights", "pub fn costs_back", "t.final_weight(s)", "t.final_weight(s).map(|_| 0)"),

@@ -86,7 +86,7 @@ fn cheapest_by_paths(t: &Table, done: &mut Done) -> Check {
 }
 
 fn best(t: &Table, paths: Vec<Vec<u16>>) -> Result<Vec<u16>, u32> {
-    paths.into_iter().min_by_key(|p| (path_cost(t, p), p.len(), p.clone())).ok_or(16)
+    paths.into_iter().min_by_key(|p| (path_cost(t, p), path_writes(t, p).len(), p.len(), p.clone())).ok_or(16)
 }
 
 /// Where so many paths are too many: those of fewer arcs than states, with

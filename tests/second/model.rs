@@ -721,21 +721,29 @@ pub fn nth(bytes: &[u8], k: u32, arcs: &mut [u16], labels: &mut [u16]) -> (u32, 
     tell(&t, &paths[k as usize], arcs, labels)
 }
 
+/// A cost, and how many labels are written at it.
+type Sum = (i64, i64);
+
+/// What an arc adds: its weight, and its output label where that is not empty.
+fn adds(a: &Arc) -> Sum {
+    (a.weight, i64::from(a.output != 0))
+}
+
 /// To come: by number of arcs k and then by state, the least cost of going on
-/// by exactly k arcs and accepting there. Only states and arcs that lie on an
-/// accepting path are in it; it stops where k arcs are too many for all, and
-/// at k = n.
-fn to_come(t: &Table) -> Vec<Vec<Option<i64>>> {
+/// by exactly k arcs and accepting there, and the fewest labels at that cost.
+/// Only states and arcs that lie on an accepting path are in it; it stops
+/// where k arcs are too many for all, and at k = n.
+fn to_come(t: &Table) -> Vec<Vec<Option<Sum>>> {
     let live = live(t);
-    let at_once = |s: usize| if live[s] { t.final_weight(s) } else { None };
+    let at_once = |s: usize| if live[s] { t.final_weight(s).map(|w| (w, 0)) } else { None };
     let mut layers = vec![(0..t.states).map(at_once).collect::<Vec<_>>()];
     while layers.len() <= t.states {
         let last = &layers[layers.len() - 1];
         let mut next = vec![None; t.states];
         for a in t.arcs.iter().filter(|a| live[a.source]) {
             let Some(rest) = last[a.target] else { continue };
-            let sum = a.weight + rest;
-            next[a.source] = Some(next[a.source].map_or(sum, |old: i64| old.min(sum)));
+            let sum = (adds(a).0 + rest.0, adds(a).1 + rest.1);
+            next[a.source] = Some(next[a.source].map_or(sum, |old: Sum| old.min(sum)));
         }
         if next.iter().all(|x| x.is_none()) {
             break;
@@ -745,8 +753,9 @@ fn to_come(t: &Table) -> Vec<Vec<Option<i64>>> {
     layers
 }
 
-/// The least cost to come of a state by fewer arcs than there are states.
-fn least_below(t: &Table, layers: &[Vec<Option<i64>>], state: usize) -> Option<i64> {
+/// The least cost to come of a state by fewer arcs than there are states, and
+/// the fewest labels at that cost.
+fn least_below(t: &Table, layers: &[Vec<Option<Sum>>], state: usize) -> Option<Sum> {
     layers.iter().take(t.states).filter_map(|layer| layer[state]).min()
 }
 
@@ -754,24 +763,26 @@ fn least_below(t: &Table, layers: &[Vec<Option<i64>>], state: usize) -> Option<i
 /// Going on by n arcs passes some state twice. Where no ring pays, cutting it
 /// out costs no more, so n arcs are never better than fewer; and where they
 /// are better for no state, nor are more of them, ever.
-fn ring_below_zero(t: &Table, layers: &[Vec<Option<i64>>]) -> bool {
+fn ring_below_zero(t: &Table, layers: &[Vec<Option<Sum>>]) -> bool {
     let Some(by_n) = layers.get(t.states) else { return false };
-    (0..t.states).any(|s| by_n[s].is_some_and(|cost| least_below(t, layers, s).map_or(true, |least| cost < least)))
+    (0..t.states).any(|s| by_n[s].is_some_and(|(cost, _)| least_below(t, layers, s).map_or(true, |(least, _)| cost < least)))
 }
 
-/// The accepting path of least cost, then fewest arcs, then first in path
-/// order: at each state the first arc that keeps to that cost and number.
-/// Only for tables without a ring below zero.
-fn least_path(t: &Table, layers: &[Vec<Option<i64>>]) -> Option<Vec<u16>> {
+/// The accepting path of least cost, then fewest labels that are not empty,
+/// then fewest arcs, then first in path order: at each state the first arc
+/// that keeps to that cost and those numbers. Only for tables without a ring
+/// below zero.
+fn least_path(t: &Table, layers: &[Vec<Option<Sum>>]) -> Option<Vec<u16>> {
     let least = least_below(t, layers, t.start)?;
     let mut left = layers.iter().position(|layer| layer[t.start] == Some(least))?;
-    let (mut state, mut cost, mut path) = (t.start, least, Vec::new());
+    let (mut state, mut sum, mut path) = (t.start, least, Vec::new());
     while left > 0 {
         left -= 1;
-        let keeps = |a: &Arc| a.source == state && layers[left][a.target] == Some(cost - a.weight);
+        let rest = |a: &Arc| (sum.0 - adds(a).0, sum.1 - adds(a).1);
+        let keeps = |a: &Arc| a.source == state && layers[left][a.target] == Some(rest(a));
         let i = t.arcs.iter().position(keeps)?;
         path.push(i as u16);
-        (state, cost) = (t.arcs[i].target, cost - t.arcs[i].weight);
+        (state, sum) = (t.arcs[i].target, rest(&t.arcs[i]));
     }
     Some(path)
 }

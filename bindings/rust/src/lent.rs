@@ -217,7 +217,8 @@ pub fn nth(table: &[u8], k: u32, arcs: &mut [u16], labels: &mut [u16]) -> Result
     answer(refusal, told)
 }
 
-/// The accepting path of least cost, then of fewest arcs, then first in path order. Lent: [`PATH`] twice. Refusals 1 to 8, 10, 16, 19.
+/// The accepting path of least cost, then of fewest labels, then of fewest arcs, then first in path order. Lent: [`PATH`] twice. Refusals 1
+/// to 8, 10, 16, 19.
 pub fn shortest(table: &[u8], arcs: &mut [u16], labels: &mut [u16]) -> Result<Told, Refusal> {
     let mut told = Told::default();
     // SAFETY: each pointer and length are those of one slice, mutable ones overlap nothing, `told` is three numbers of 64 bits.

@@ -201,8 +201,9 @@ impl Table {
         path(|arcs, labels| lent::nth(&self.bytes, k, arcs, labels))
     }
 
-    /// The accepting path of least cost, then of fewest arcs, then first in path order; there is one where accepting paths are infinitely
-    /// many, too, but where a cycle on one of them sums below 0: then no cost is the least. Refusals 16 and 19.
+    /// The accepting path of least cost, then of fewest labels (an empty output is none), then of fewest arcs, then first in path order; there
+    /// is one where accepting paths are infinitely many, too, but where a cycle on one of them sums below 0: then no cost is the least.
+    /// Refusals 16 and 19.
     ///
     /// ```
     /// use forthwn::{Arc, Final, Refusal, Table};
