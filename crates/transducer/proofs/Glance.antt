@@ -29,7 +29,7 @@ use Rattle.transducer.specs.declared.Checks.{Checks}
 use Rattle.transducer.specs.declared.check.Glance.{Glance}
 use Rattle.transducer.specs.Format.{barred, arc-bytes, min-weight, max-weight, weight-good, weight-at, labels-good, arc-at}
 use Rattle.transducer.specs.Check.{arc-checked, arcs-checked, with-floor, arc-word, unsure, eight, input-of, output-of, target-of}
-use Rattle.transducer.specs.Check.{Good-up-to, Good-fields, Rows, Between, None-under, Glanced, Goes-on, None-below, Each-up}
+use Rattle.transducer.specs.Check.{Good-up-to, Good-fields, Rows, Between, Passing, None-under, Glanced, Goes-on, None-below, Each-up}
 use Rattle.transducer.specs.Check.{Each-writes, Glance-says}
 use Rattle.transducer.specs.Weight.{Weight, rebate, At-most}
 use Rattle.transducer.proofs.Labels.{unbarred-good}
@@ -213,20 +213,19 @@ module _ {bs : List ℕ} {at count n : ℕ} {each : Bool} {floor last any all pl
       on false e = omega (arith, order, g .steps k (omega (arith, h, eqb-false k (g .arcs) e)))
 
   -- One more arc.
-  pub glanced-next : (source : ℕ) → Bytes bs → place < at + arc-bytes * count → At-most min-weight least →
-      Between least (weight-at bs (place + 12)) max-weight → (each ≡ true → two bs (place + 10) < n) → four bs place ≡ arc-word →
-      source ≡ two bs (place + 4) → last ≤ source →
+  pub glanced-next : (source : ℕ) → Bytes bs → place < at + arc-bytes * count → At-most min-weight least → Passing bs place n each last least source →
       Glanced bs at count n each floor source (bitOr any (eight bs (place + 4))) (bitAnd all (eight bs (place + 4))) least (place + 16)
-  glanced-next source b h low weight target word from order =
+  glanced-next source b h low p =
       let w : Weight = weight-at bs (place + 12) in
-      let good : weight-good w ≡ true = range-good w (record { low = most-trans min-weight least w low (weight .not-below); high = weight .not-above }) in
+      let good : weight-good w ≡ true =
+      range-good w (record { low = most-trans min-weight least w low (p .weight .not-below); high = p .weight .not-above }) in
       record {
         arcs = g .arcs + 1;
         within = omega (arith, h, g .there);
         there = omega (arith, g .there);
-        passing = passing-more source b word from order target good;
-        light = light-more (weight .not-below);
-        steps = steps-more source from order;
+        passing = passing-more source b (p .head) (p .source-is) (p .order) (p .target) good;
+        light = light-more (p .weight .not-below);
+        steps = steps-more source (p .source-is) (p .order);
         under = under-next (g .arcs) b (g .there) (g .under);
       }
 
@@ -295,15 +294,19 @@ module _ {bs : List ℕ} {from end n : ℕ} {each : Bool} {last any all : ℕ} {
   pub running-room : place + 16 ≤ end
   running-room = omega (arith, h, r .rows .end-is)
 
-  pub running-next : (source : ℕ) → Bytes bs → At-most min-weight least → Between least (weight-at bs (place + 12)) max-weight →
-      (each ≡ true → two bs (place + 10) < n) → four bs place ≡ arc-word → source ≡ two bs (place + 4) → before ≤ source →
+  pub running-next : (source : ℕ) → Bytes bs → At-most min-weight least → Passing bs place n each before least source →
       Running bs from end n each last any all least source (bitOr most (eight bs (place + 4))) (bitAnd lowest (eight bs (place + 4))) (place + 16)
-  running-next source b low weight target word from-is order =
+  running-next source b low p =
       record {
         rows = record { many = r .rows .many - 1; end-is = omega (arith, h, r .rows .end-is) };
-        goes-on = λ at count floor e g.
-            glanced-next (r .goes-on at count floor e g) source b (rw e at h) low weight target word from-is order;
+        goes-on = λ at count floor e g. glanced-next (r .goes-on at count floor e g) source b (rw e at h) low p;
       }
+
+-- A run behind a run.
+pub running-on : {bs : List ℕ} {from end n : ℕ} {each : Bool} {last any all : ℕ} {least : Weight} {before most lowest place last' any' all' place' : ℕ} →
+    Running bs from end n each last any all least before most lowest place → Goes-on bs place end n each before most lowest least last' any' all' place' →
+    Goes-on bs from end n each last any all least last' any' all' place'
+running-on r more at count floor e g = more at count floor e (r .goes-on at count floor e g)
 
 -- What is known between two runs: no weight is lower than `below` below zero.
 pub record Looking (bs : List ℕ) (at count n : ℕ) (each : Bool) (floor last any all below place : ℕ) : Type 0 where

@@ -4,13 +4,13 @@ use mathlib.Core.Bool.{Bool, true, false, _&&_, not, cond}
 use mathlib.Core.List.{List}
 use Prim.Native.Nat.{ℕ, zero, suc, _+_, _*_, _/_, _%_, _≤_, _<_}
 use lib.Dec.{ltb, leb, eqb}
-use Rattle.wire.specs.Bytes.{four}
+use Rattle.wire.specs.Bytes.{two, four}
 use Rattle.transducer.specs.declared.Arc.{Arc}
 use Rattle.transducer.specs.declared.Final.{Final}
 use Rattle.transducer.specs.declared.Checks.{Checks}
 use Rattle.transducer.specs.declared.check.Glance.{Glance}
 use Rattle.transducer.specs.Format.{head-bytes, final-bytes, arc-bytes, arcs-at, weight-good, labels-good, final-at, arc-at, framed, kinds-good, records}
-use Rattle.transducer.specs.Format.{head-good, head-states, head-arcs, head-finals, head-start}
+use Rattle.transducer.specs.Format.{head-good, head-states, head-arcs, head-finals, head-start, max-weight, weight-at}
 use Rattle.transducer.specs.Weight.{Weight, rebate, At-most}
 
 -- Length and kind of a final's and of an arc's record, as one number of four bytes.
@@ -120,6 +120,14 @@ pub record Glanced (bs : List ℕ) (at count n : ℕ) (each : Bool) (floor last 
   pub light : (k : ℕ) → k < arcs → At-most least (arc-at bs (at + arc-bytes * k) .weight)
   pub steps : (k : ℕ) → k < arcs → arc-at bs (at + arc-bytes * k) .source ≤ last
   pub under : None-under bs at all place
+
+-- An arc that passes each test but that of what is gathered: its weight is not below `least` and not too high, and its source is not below `before`.
+pub record Passing (bs : List ℕ) (place n : ℕ) (each : Bool) (before : ℕ) (least : Weight) (source : ℕ) : Type 0 where
+  pub weight : Between least (weight-at bs (place + 12)) max-weight
+  pub target : each ≡ true → two bs (place + 10) < n
+  pub head : four bs place ≡ arc-word
+  pub source-is : source ≡ two bs (place + 4)
+  pub order : before ≤ source
 
 -- A run from one place to another: whatever was known of the arcs before it goes on.
 abbrev pub Goes-on : (bs : List ℕ) (from end n : ℕ) (each : Bool) (last any all : ℕ) (least : Weight) (before most lowest place : ℕ) → Type 0

@@ -5,23 +5,23 @@ use Rattle.transducer.proofs.Glance.{glanced-first}
 use Rattle.transducer.proofs.check.first_run.Statement.{statement}
 use Rattle.transducer.proofs.check.first_run.Tie as tie
 
-run-on-requires : tie.Need-run-on-requires
-run-on-requires c κs = (c .before .before .pre .0, c .before .before .pre .1, omega arith)
+run-by-two-requires : tie.Need-run-by-two-requires
+run-by-two-requires c κs = (c .before .before .pre .0, c .before .before .pre .1, omega arith)
 
 returns : tie.Need-returns
 returns c =
     let a = c .before .before .before .args in
     λ count e.
-    c .run-on .ensures (a .at) count (a .floor) e (glanced-first (a .bytes .now) (a .at) count (a .n) (a .each) (a .floor) 0 18446744073709551615 (rebate 0))
+    c .run-by-two .ensures (a .at) count (a .floor) e (glanced-first (a .bytes .now) (a .at) count (a .n) (a .each) (a .floor) 0 18446744073709551615 (rebate 0))
 
-run-on-requires-2 : tie.Need-run-on-requires-2
-run-on-requires-2 c κs = (c .before .before .pre .0, c .before .before .pre .1, omega arith)
+run-on-requires : tie.Need-run-on-requires
+run-on-requires c κs = (c .before .before .pre .0, c .before .before .pre .1, omega arith)
 
 returns-2 : tie.Need-returns-2
 returns-2 c =
     let a = c .before .before .before .args in
     λ count e.
-    c .run-on2 .ensures (a .at) count (a .floor) e (glanced-first (a .bytes .now) (a .at) count (a .n) (a .each) (a .floor) 0 0 (rebate 0))
+    c .run-on .ensures (a .at) count (a .floor) e (glanced-first (a .bytes .now) (a .at) count (a .n) (a .each) (a .floor) 0 0 (rebate 0))
 
 pub first-run-spec : {M : Type 1} → statement M
-first-run-spec = tie.close (tie.spec run-on-requires returns run-on-requires-2 returns-2)
+first-run-spec = tie.close (tie.spec run-by-two-requires returns run-on-requires returns-2)
