@@ -190,7 +190,7 @@ pub fn glance_at(bytes: &[u8], at: usize, count: usize, n: u32, floor: u32, clos
             return not_sure();
         }
         below = lower;
-        let next = run_by_two(bytes, place, end, n, each, last, any, all, below);
+        let next = run_on(bytes, place, end, n, each, last, any, all, below);
         place = next.place;
         last = next.last;
         any = next.any;
@@ -315,7 +315,7 @@ fn run_on(
     }
 }
 
-// The same by two arcs at a time as far as both pass, which takes fewer instructions to an arc.
+// The same by two arcs at a time as far as both pass: one test of the end for two. Called once only, so that the compiler knows `below` in its loop.
 fn run_by_two(
     bytes: &[u8],
     from: usize,
@@ -327,14 +327,15 @@ fn run_by_two(
     all: u64,
     below: u32,
 ) -> Run
-    requires { ⌜ (end ≤ length (now bytes)) × Rows from end × (below ≤ most-below) ⌝ }
+    requires { ⌜ (end ≤ length (now bytes)) × Rows from end × (below ≤ most-below) × (arc-bytes ≤ end) ⌝ }
     ensures { λ r. ⌜ Goes-on (now (bytes .entry)) from end n each last any all (rebate below) (r .last) (r .any) (r .all) (r .place) ⌝ }
 {
     let mut before = last;
     let mut most = any;
     let mut lowest = all;
     let mut place = from;
-    while place + bounds::ARC_BYTES < end {
+    let pairs = end - bounds::ARC_BYTES;
+    while place < pairs {
         let between = passing(bytes, place, n, each, before, below);
         if between == UNSURE {
             break;
@@ -367,7 +368,7 @@ fn first_run(
     requires { ⌜ (end ≤ length (now bytes)) × Rows at end ⌝ }
     ensures { λ r. ⌜ Seen (now (bytes .entry)) at end n each floor (r .last) (r .any) (r .all) (r .place) ⌝ }
 {
-    if close {
+    if close & (bounds::ARC_BYTES <= end) {
         return run_by_two(bytes, at, end, n, each, floor, 0, ALL_ONES, 0);
     }
     run_on(bytes, at, end, n, each, floor, 0, 0, 0)

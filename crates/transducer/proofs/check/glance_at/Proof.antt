@@ -91,8 +91,8 @@ not-sure-requires-2 c κs = search needs
 returns-2 : tie.Need-returns-2 Inv-loop μ-loop
 returns-2 c = let r = c .not-sure2 .ensures in says-unsure _ _ _ _ _ _ (r .0) (r .1) (r .2) (r .3)
 
-run-by-two-requires : tie.Need-run-by-two-requires Inv-loop μ-loop
-run-by-two-requires c κs = (start (turn c) .pre, glanced-rest (turn c .before .loop .inv .glanced), omega (arith, c .if2 .left))
+run-on-requires : tie.Need-run-on-requires Inv-loop μ-loop
+run-on-requires c κs = (start (turn c) .pre, glanced-rest (turn c .before .loop .inv .glanced), omega (arith, c .if2 .left))
 
 loop-less : tie.Need-loop-less Inv-loop μ-loop
 loop-less c = omega (arith, c .before .before .if1 .left, c .before .if2 .left)
@@ -105,7 +105,7 @@ loop-again c =
     let below = lower .before .before .wrapping-sub-u322 .result in
     record {
       glanced =
-          c .run-by-two .ensures (a .at) (a .count) (a .floor) refl
+          c .run-on .ensures (a .at) (a .count) (a .floor) refl
           (glanced-lower (l .inv .glanced) (rebate below) (rebate-lower (l .below) below (omega (arith, lower .before .if1 .left))));
       small = omega (arith, lower .if2 .left);
     }
@@ -163,7 +163,7 @@ glance-at-spec =
     cast-if2
     not-sure-requires-2
     returns-2
-    run-by-two-requires
+    run-on-requires
     loop-less
     loop-again
     not-sure-requires-3

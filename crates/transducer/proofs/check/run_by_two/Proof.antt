@@ -10,11 +10,11 @@ use Rattle.transducer.proofs.check.run_by_two.Statement.{statement}
 use Rattle.transducer.proofs.check.run_by_two.Tie as tie
 
 abbrev Inv-loop : tie.InvT-loop
-Inv-loop bytes from end n each last any all below before₀ most₀ lowest₀ place₀ before most lowest place =
+Inv-loop bytes from end n each last any all below before₀ most₀ lowest₀ place₀ pairs before most lowest place =
     Running bytes from end n each last any all (rebate below) before most lowest place
 
 abbrev μ-loop : tie.MeasureT-loop
-μ-loop bytes from end n each last any all below before₀ most₀ lowest₀ place₀ before most lowest place = end - place
+μ-loop bytes from end n each last any all below before₀ most₀ lowest₀ place₀ pairs before most lowest place = end - place
 
 -- A turn.
 abbrev Turn : Type 0
@@ -27,11 +27,11 @@ start c = c .before .before .before
 room : (c : Turn) → c .before .loop .place + 32 ≤ length (start c .args .bytes .now)
 room c = omega (arith, c .before .loop .inv .rows .end-is, c .loop-test .taken, start c .pre .0)
 
+sub-pairs : tie.Need-sub-pairs Inv-loop μ-loop
+sub-pairs c = search needs
+
 loop-holds : tie.Need-loop-holds Inv-loop μ-loop
 loop-holds c = running-first (c .before .pre .1)
-
-add-loop : tie.Need-add-loop Inv-loop μ-loop
-add-loop c = omega (arith, c .loop .inv .rows .end-is, c .before .before .pre .0, c .before .before .good)
 
 passing-requires : tie.Need-passing-requires Inv-loop μ-loop
 passing-requires c κs = (omega (arith, room c), start c .pre .2)
@@ -76,7 +76,7 @@ loop-again c =
     rw (c .before .fields-at .ensures, c .fields-at2 .ensures)
     (running-next
     (running-next (l .inv) (omega (arith, turn .loop-test .taken)) (passed .result) bytes low (passed .ensures (first .if1 .left)))
-    (turn .loop-test .taken)
+    (omega (arith, turn .loop-test .taken))
     (passed2 .result)
     bytes
     low
@@ -96,8 +96,8 @@ run-by-two-spec =
     (tie.spec
     Inv-loop
     μ-loop
+    sub-pairs
     loop-holds
-    add-loop
     passing-requires
     add-next
     passing-requires-2
