@@ -1,14 +1,19 @@
 -- What is claimed of three transducers in either bracket holds of any four compositions that were not refused, and of any string applied to both
 -- results. Assumes nothing.
+use mathlib.Core.Path.{_≡_}
+use mathlib.Core.Bool.{true}
 use mathlib.Core.List.{List}
 use Prim.Native.Nat.{ℕ}
 use Rattle.transducer.specs.Format.{Good, decode}
+use Rattle.transducer.specs.Each.{plain}
+use Rattle.transducer.proofs.Fits.{named-plain}
+use Rattle.transducer.proofs.GoodParts.{good-parts}
 use Rattle.transducer.proofs.RoundTrip.{accepted-good}
 use Rattle.trim.specs.Trim.{through}
 use Rattle.claim.specs.Kind.{Paths-are}
 use Rattle.claim.proofs.Answers.{Composed-well, composed-well, Applied-well, applied-well}
 use Rattle.claim.proofs.Chain.{lattice-paths}
-use Rattle.claim.proofs.HandedOn.{composition-good, composition-accepted, composition-pairs, applied-good, applied-accepted, applied-reads}
+use Rattle.claim.proofs.HandedOn.{composition-good, composition-plain, composition-accepted, composition-pairs, applied-good, applied-accepted, applied-reads}
 use Rattle.associate.specs.Associate.{Composition, composed-bytes, Brackets, Application, lattice-bytes, Triple-of, Triples, Triples-of, Three-paths}
 use Rattle.associate.specs.Associate.{Holds, left-result, right-result, left-leads, right-leads, Associates, Applied-alike}
 use Rattle.associate.proofs.Triples.{left-paths, right-paths}
@@ -44,15 +49,28 @@ module _ {a b c : List ℕ} (r : Brackets a b c) where
   good-right : Good (decode (right-result r))
   good-right = composition-good good-a good-bc (composing (r .a-bc))
 
+  -- The second transducer has no arc for any symbol, by 18 of its composition with the third.
+  plain-b : plain (decode b) ≡ true
+  plain-b = named-plain (decode b) (good-parts (decode b) good-b .labels-are) (composing (r .bc) .left-named)
+
+  plain-bc : plain (decode (composed-bytes (r .bc))) ≡ true
+  plain-bc = composition-plain good-b good-c (composing (r .bc))
+
+  plain-left : plain (decode (left-result r)) ≡ true
+  plain-left = composition-plain good-ab good-c (composing (r .ab-c))
+
+  plain-right : plain (decode (right-result r)) ≡ true
+  plain-right = composition-plain good-a good-bc (composing (r .a-bc))
+
   left : Paths-are (Triples (decode a) (decode b) (decode c)) (decode (left-result r)) (left-leads r)
   left =
       left-paths (decode a) (decode b) (decode c) (decode (composed-bytes (r .ab))) (decode (left-result r)) (r .ab .origins-left) (r .ab-c .origins-left)
-      (composition-pairs good-a good-b (composing (r .ab))) (composition-pairs good-ab good-c (composing (r .ab-c)))
+      plain-b (composition-pairs good-a good-b (composing (r .ab))) (composition-pairs good-ab good-c (composing (r .ab-c)))
 
   right : Paths-are (Triples (decode a) (decode b) (decode c)) (decode (right-result r)) (right-leads r)
   right =
       right-paths (decode a) (decode b) (decode c) (decode (composed-bytes (r .bc))) (decode (right-result r)) (r .bc .origins-left)
-      (r .a-bc .origins-left) (composition-pairs good-b good-c (composing (r .bc))) (composition-pairs good-a good-bc (composing (r .a-bc)))
+      (r .a-bc .origins-left) plain-b plain-bc (composition-pairs good-b good-c (composing (r .bc))) (composition-pairs good-a good-bc (composing (r .a-bc)))
 
   pub associates : Associates r
   associates =
@@ -63,18 +81,18 @@ module _ {a b c : List ℕ} (r : Brackets a b c) where
       good-right right)
 
   -- A lattice of either result: its paths are the triples of the string.
-  applied-holds : (string zs : List ℕ) (x : Application string zs) (to : List ℕ → Three-paths) → Good (decode zs)
+  applied-holds : (string zs : List ℕ) (x : Application string zs) (to : List ℕ → Three-paths) → Good (decode zs) → plain (decode zs) ≡ true
       → Paths-are (Triples (decode a) (decode b) (decode c)) (decode zs) to
       → Holds (Triples-of (decode a) (decode b) (decode c) string) (lattice-bytes x) (λ p. to (through (x .origins-left) p))
-  applied-holds string zs x to good are =
+  applied-holds string zs x to good none are =
       holds (Triples-of (decode a) (decode b) (decode c) string) (lattice-bytes x) (λ p. to (through (x .origins-left) p))
       (applied-accepted good (applying x)) (applied-good good (applying x))
       (lattice-paths (Triples (decode a) (decode b) (decode c)) (Triple-of (decode a) (decode b) (decode c) string) string
-      (λ y t h. record { triple = t; reads = h }) (λ y t. (t .triple, t .reads)) (decode zs) (decode (lattice-bytes x)) (x .origins-left) to are
+      (λ y t h. record { triple = t; reads = h }) (λ y t. (t .triple, t .reads)) (decode zs) (decode (lattice-bytes x)) (x .origins-left) to are none
       (applied-reads good (applying x)))
 
   pub applied-alike : (string : List ℕ) (x : Application string (left-result r)) (y : Application string (right-result r)) → Applied-alike r string x y
   applied-alike string x y =
       agree (Triples-of (decode a) (decode b) (decode c) string) (lattice-bytes x) (lattice-bytes y) (λ p. left-leads r (through (x .origins-left) p))
-      (λ p. right-leads r (through (y .origins-left) p)) (applied-holds string (left-result r) x (left-leads r) good-left left)
-      (applied-holds string (right-result r) y (right-leads r) good-right right)
+      (λ p. right-leads r (through (y .origins-left) p)) (applied-holds string (left-result r) x (left-leads r) good-left plain-left left)
+      (applied-holds string (right-result r) y (right-leads r) good-right plain-right right)

@@ -11,6 +11,7 @@ use Rattle.wire.specs.Bytes.{Bytes}
 use Rattle.transducer.specs.declared.Written.{Written}
 use Rattle.transducer.specs.Format.{max-path, Transducer, decode}
 use Rattle.transducer.specs.Path.{accepts, read-by, written-by, path-cost}
+use Rattle.transducer.specs.Each.{path-fits, path-passed}
 use Rattle.transducer.specs.Weight.{Weight, plus, Below}
 use Rattle.compose.specs.Claim.{met-at, Least}
 use Rattle.compose.specs.Entry.{compose-refusal, Compose-says}
@@ -92,13 +93,14 @@ pub record Three-paths : Type 0 where
   pub middle : List ℕ
   pub right : List ℕ
 
--- A triple: accepting paths of the three, each of which reads what the one before it writes. Any may be empty.
+-- A triple: accepting paths of the three, each of which, arc by arc, fits what the one before it writes. Any may be empty. (Only the right transducer
+-- may have an arc for any symbol, by 18 of the four compositions, so that the middle path writes its own output.)
 pub record Triple (a b c : Transducer) (x : Three-paths) : Type 0 where
   pub left-accepts : accepts a (x .left) ≡ true
   pub middle-accepts : accepts b (x .middle) ≡ true
   pub right-accepts : accepts c (x .right) ≡ true
-  pub left-meets : written-by a (x .left) ≡ read-by b (x .middle)
-  pub right-meets : written-by b (x .middle) ≡ read-by c (x .right)
+  pub left-meets : path-fits b (written-by a (x .left)) (x .middle) ≡ true
+  pub right-meets : path-fits c (written-by b (x .middle)) (x .right) ≡ true
 
 -- One whose left path reads a string.
 pub record Triple-of (a b c : Transducer) (string : List ℕ) (x : Three-paths) : Type 0 where
@@ -109,14 +111,15 @@ pub record Triple-of (a b c : Transducer) (string : List ℕ) (x : Three-paths) 
 abbrev pub triple-cost : (a b c : Transducer) → Three-paths → Weight
 triple-cost a b c x = plus (path-cost a (x .left)) (plus (path-cost b (x .middle)) (path-cost c (x .right)))
 
--- The triples as a kind of things that paths stand for: a triple reads what its left path reads and writes what its right path writes.
+-- The triples as a kind of things that paths stand for: a triple reads what its left path reads and writes what its right path writes for what the
+-- middle one writes.
 abbrev pub Triples : (a b c : Transducer) → Kind
 Triples a b c =
     record {
       Thing = Three-paths;
       Is = Triple a b c;
       input = λ x. read-by a (x .left);
-      output = λ x. written-by c (x .right);
+      output = λ x. path-passed c (written-by b (x .middle)) (x .right);
       cost = triple-cost a b c;
     }
 

@@ -1,7 +1,7 @@
 -- The limits of paper 01, and the tests of numbers against them. Assumes nothing: these are definitions.
 use mathlib.Core.Bool.{Bool, _&&_, not, cond}
 use Prim.Native.Nat.{ℕ, _+_, _*_, _-_}
-use lib.Dec.{ltb, leb}
+use lib.Dec.{ltb, leb, eqb}
 use lib.IntN.{ℤ, pos, negsuc}
 use lib.Signed.{leZ}
 
@@ -57,17 +57,21 @@ arcs-at f = head-bytes + final-bytes * f
 abbrev pub max-bytes : ℕ
 max-bytes = arcs-at max-states + arc-bytes * max-arcs
 
--- The label that no arc may bear.
+-- No symbol: strings may not hold it.
 abbrev pub barred : ℕ
 barred = 65535
+
+-- As an input it fits any symbol, as an output it passes on the symbol read (paper 02, Point 5).
+abbrev pub any : ℕ
+any = barred
 
 -- 3: the head's numbers are in range
 unfoldable pub head-good : (states arcs finals start : ℕ) → Bool
 head-good n m f s = (leb 1 n && leb n max-states) && (leb m max-arcs && (leb f n && ltb s n))
 
--- 7: whether an arc may bear these two labels.
+-- 7: whether an arc may bear these two labels, of 16 bits: only one that reads any symbol passes it on.
 unfoldable pub labels-good : (input output : ℕ) → Bool
-labels-good input output = ltb input barred && ltb output barred
+labels-good input output = cond (eqb input any) (leb output any) (ltb input any && ltb output any)
 
 -- 8: whether a weight is in range.
 unfoldable pub weight-good : ℤ → Bool

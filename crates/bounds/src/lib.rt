@@ -1,6 +1,6 @@
 // The limits of paper 01, the sizes of records in bytes, and the tests of numbers against them.
 ghost use mathlib.Core.Path.{_≡_};
-ghost use Prim.Native.Nat.{ℕ, _<_};
+ghost use Prim.Native.Nat.{_<_};
 ghost use Rattle.bounds.specs.Bounds.{arcs-at, weight-good, labels-good, head-good, first-of};
 
 pub const MAX_STATES: usize = 1024;
@@ -14,8 +14,11 @@ pub const MAX_WEIGHT: i32 = 1000000;
 
 pub const MIN_WEIGHT: i32 = -1000000;
 
-// The label that no arc may bear.
+// No symbol: strings may not hold it.
 pub const BARRED: u16 = 65535;
+
+// As an input it fits any symbol, as an output it passes on the symbol read.
+pub const ANY: u16 = BARRED;
 
 // The longest string.
 pub const MAX_SYMBOLS: usize = 64;
@@ -56,11 +59,14 @@ pub fn head_ok(n: u32, m: u32, f: u32, start: u32) -> bool
     ((1 <= n) & (n <= MAX_STATES as u32)) & ((m <= MAX_ARCS as u32) & ((f <= n) & (start < n)))
 }
 
-// 7: whether an arc may bear these two labels.
+// 7: whether an arc may bear these two labels: only one that reads any symbol passes it on.
 pub fn labels_ok(input: u16, output: u16) -> bool
     ensures { λ r. ⌜ r ≡ labels-good input output ⌝ }
 {
-    (input < BARRED) & (output < BARRED)
+    if input == ANY {
+        return true;
+    }
+    (input < ANY) & (output < ANY)
 }
 
 // 8: whether a weight is in range.

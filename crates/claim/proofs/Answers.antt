@@ -7,14 +7,15 @@ use Prim.Native.Nat.{ℕ, _≤_, _<_}
 use native.Mathlib.Omega.{arith}
 use lib.Dec.{ltb, leb, eqb}
 use lib.ListN.{length, take, length-take}
-use borrow.Author.Tests.{eqb-true, eqb-false, eq-eqb, ne-eqb, le-ltb, lt-leb}
+use borrow.Author.Tests.{eqb-true, le-ltb, lt-leb}
 use Rattle.wire.specs.Bytes.{filled}
 use Rattle.wire.proofs.Places.{take-filled}
 use Rattle.wire.proofs.Bool.{passed-last, raised-last, not-raised}
 use Rattle.transducer.specs.declared.Written.{Written}
 use Rattle.transducer.specs.Format.{Transducer, refusal, decode}
 use Rattle.transducer.specs.Encode.{encode}
-use Rattle.transducer.specs.Entry.{or-else, unless, left-in}
+use Rattle.transducer.specs.Each.{named, any-refusal}
+use Rattle.transducer.specs.Entry.{or-else, unless}
 use Rattle.transducer.proofs.Answers.{or-else-none, none-or-else, unless-none, left-in-none, cost-unless-none}
 use Rattle.transducer.specs.Path.{written-by, path-cost}
 use Rattle.explore.specs.Explore.{built-refusal}
@@ -41,6 +42,7 @@ front-fits len xs out l e = omega (arith, length-take len out, ap length e)
 -- The bytes handed on, and the origins left behind with zeros behind them.
 pub record Composed-well (xs ys bs os : List ℕ) : Type 0 where
   pub left-good : refusal xs ≡ 0
+  pub left-named : named (decode xs) ≡ true
   pub right-good : refusal ys ≡ 0
   pub fine : built-refusal (composed (decode xs) (decode ys) .result) ≡ 0
   pub bytes : bs ≡ encode (composed (decode xs) (decode ys) .result)
@@ -50,17 +52,19 @@ pub record Composed-well (xs ys bs os : List ℕ) : Type 0 where
 pub composed-well : (xs ys : List ℕ) (r : Written) (a a' b b' c c' : List ℕ)
     → Compose-says xs ys (compose-refusal xs ys (length a) (length b) (length c)) r a a' b b' c c' → r .refusal ≡ 0
     → Composed-well xs ys (take (r .len) a') b'
-unfolding compose-refusal
+unfolding compose-refusal any-refusal
 composed-well xs ys r a a' b b' c c' says well =
     let z : Transducer = composed (decode xs) (decode ys) .result in
     let number : ℕ = compose-refusal xs ys (length a) (length b) (length c) in
     let none : number ≡ 0 = sym (says .refusal-is) ∙ well in
     let rest : ℕ = or-else (compose-room (length a) (length b) (length c)) (built-refusal z) in
-    let one = or-else-none (refusal xs) (or-else (refusal ys) rest) none in
-    let two = or-else-none (refusal ys) rest (one .1) in
+    let one = or-else-none (refusal xs) (or-else (cond (named (decode xs)) 0 18) (or-else (refusal ys) rest)) none in
+    let all = or-else-none (cond (named (decode xs)) 0 18) (or-else (refusal ys) rest) (one .1) in
+    let two = or-else-none (refusal ys) rest (all .1) in
     let three = or-else-none (compose-room (length a) (length b) (length c)) (built-refusal z) (two .1) in
     record {
       left-good = one .0;
+      left-named = passed-last (named (decode xs)) 17 (all .0);
       right-good = two .0;
       fine = three .1;
       bytes =

@@ -15,7 +15,7 @@ use Rattle.claim.specs.Claim.{Pairs, to-pair}
 use Rattle.claim.proofs.Answers.{Composed-well, Applied-well}
 use Rattle.claim.proofs.Chain.{chain-pairs}
 use Rattle.claim.proofs.Counting.{counts}
-use Rattle.claim.proofs.HandedOn.{composition-good, composition-pairs, applied-read, applied-good, applied-accepted, applied-reads}
+use Rattle.claim.proofs.HandedOn.{composition-good, composition-plain, composition-pairs, applied-read, applied-good, applied-accepted, applied-reads}
 
 -- The calls: zs and ws are the composition's and the lattice's bytes as handed on, os and ls their origins as left behind, r the count's answer.
 pub record Chained (xs ys cs zs os ws ls : List ℕ) (r : Counted) : Type 0 where
@@ -47,7 +47,7 @@ module _ {xs ys cs zs os ws ls : List ℕ} {r : Counted} (chained : Chained xs y
   pub paths-are-pairs : Paths-are (Pairs xs ys cs) (decode ws) (to-pair os ls)
   paths-are-pairs =
       chain-pairs xs ys cs (decode zs) (decode ws) os ls (composition-pairs good-xs good-ys (chained .composing))
-      (applied-reads good-zs (chained .applying))
+      (composition-plain good-xs good-ys (chained .composing)) (applied-reads good-zs (chained .applying))
 
   pub counts-pairs : Counts (Pairs xs ys cs) r
   counts-pairs = counts (Pairs xs ys cs) ws (to-pair os ls) lattice-accepted lattice-within paths-are-pairs r (chained .counting)

@@ -1,4 +1,4 @@
--- What stands in the bytes handed on: the paths of a composition lead to its pairs, and those of a lattice to the paths that read the string, by the
+-- What stands in the bytes handed on: the paths of a composition lead to its pairs, and those of a lattice to the paths that fit the string, by the
 -- origins as they were left behind. Assumes nothing.
 use mathlib.Core.Path.{_≡_, sym, ap, _∙_}
 use mathlib.Core.Bool.{true}
@@ -6,13 +6,14 @@ use mathlib.Core.List.{List}
 use Prim.Native.Nat.{ℕ}
 use Rattle.wire.specs.Bytes.{filled}
 use Rattle.transducer.specs.Format.{Transducer, Good, refusal, decode}
-use Rattle.transducer.specs.Path.{accepts, read-by}
+use Rattle.transducer.specs.Path.{accepts}
+use Rattle.transducer.specs.Each.{path-fits, plain}
 use Rattle.compose.specs.Claim.{met-at, Pair, Stands-for, One-to-one}
 use Rattle.compose.specs.Compose.{composed}
 use Rattle.compose.specs.Entry.{origin-pairs}
 use Rattle.compose.proofs.Claimed.{composed-one-to-one}
 use Rattle.compose.proofs.MetPaths.{met-filled}
-use Rattle.compose.proofs.Written.{composed-good, refusal-composed, decode-composed}
+use Rattle.compose.proofs.Written.{composed-plain, composed-good, refusal-composed, decode-composed}
 use Rattle.trim.specs.Trim.{through}
 use Rattle.lattice.specs.Lattice.{lattice, lattice-origins, Reads-as, Reads-one-to-one}
 use Rattle.lattice.proofs.LatticeGood.{lattice-good, refusal-lattice, decode-lattice}
@@ -48,19 +49,22 @@ reads-filled cs z w ls ls' room is one = record { leads = leads; never-two = nev
     never-two : (p q : List ℕ) → accepts w p ≡ true → accepts w q ≡ true → through ls' p ≡ through ls' q → p ≡ q
     never-two p q h k e = one .never-two p q h k (sym (same p) ∙ e ∙ same q)
 
-    every : (x : List ℕ) → accepts z x ≡ true → read-by z x ≡ cs → (p : List ℕ) × (accepts w p ≡ true) × (through ls' p ≡ x)
+    every : (x : List ℕ) → accepts z x ≡ true → path-fits z cs x ≡ true → (p : List ℕ) × (accepts w p ≡ true) × (through ls' p ≡ x)
     every x h e = let r = one .every x h e in (r .0, r .1, same (r .0) ∙ r .2)
 
 -- A composition: zs are its bytes as handed on, os its origins as left behind.
 module _ {xs ys zs os : List ℕ} (good-xs : Good (decode xs)) (good-ys : Good (decode ys)) (well : Composed-well xs ys zs os) where
   pub composition-read : decode zs ≡ composed (decode xs) (decode ys) .result
-  composition-read = ap decode (well .bytes) ∙ decode-composed (decode xs) (decode ys) good-xs good-ys (well .fine)
+  composition-read = ap decode (well .bytes) ∙ decode-composed (decode xs) (decode ys) good-xs (well .left-named) good-ys (well .fine)
 
   pub composition-good : Good (decode zs)
-  composition-good = rw composition-read (composed-good (decode xs) (decode ys) good-xs good-ys (well .fine))
+  composition-good = rw composition-read (composed-good (decode xs) (decode ys) good-xs (well .left-named) good-ys (well .fine))
+
+  pub composition-plain : plain (decode zs) ≡ true
+  composition-plain = rw composition-read (composed-plain (decode xs) (decode ys) good-xs (well .left-named) good-ys)
 
   pub composition-accepted : refusal zs ≡ 0
-  composition-accepted = rw (well .bytes) (refusal-composed (decode xs) (decode ys) good-xs good-ys (well .fine))
+  composition-accepted = rw (well .bytes) (refusal-composed (decode xs) (decode ys) good-xs (well .left-named) good-ys (well .fine))
 
   pub composition-pairs : One-to-one (decode xs) (decode ys) (decode zs) os
   composition-pairs =

@@ -7,6 +7,7 @@ pub mod Chain
 pub mod ChainCounted
 -- The claim, and the answers of the one call.
 pub mod Claimed
+pub mod Plain
 pub mod ReadingsSays
 -- Names passed on to crates that still look for them here.
 pub mod Pigeonhole

@@ -9,6 +9,7 @@ use Rattle.wire.specs.Bytes.{Bytes}
 use Rattle.transducer.specs.declared.Written.{Written}
 use Rattle.transducer.specs.Format.{max-path, max-count, Transducer, decode}
 use Rattle.transducer.specs.Path.{accepts, read-by, written-by, path-cost}
+use Rattle.transducer.specs.Each.{path-fits, path-passed}
 use Rattle.transducer.specs.Weight.{Weight, plus}
 use Rattle.compose.specs.Claim.{met-at, Two-paths}
 use Rattle.compose.specs.Entry.{compose-refusal, Compose-says}
@@ -78,16 +79,18 @@ pub record Answered (c : Calls) : Type 0 where
   pub arcs-room : (k : ℕ) → k < c .counting .count → max-path ≤ length (c .arcs k)
   pub labels-room : (k : ℕ) → k < c .counting .count → max-path ≤ length (c .labels k)
 
--- A pair: an accepting left path that reads the string, and an accepting right path that reads what the left one writes. Either may be empty.
+-- A pair: an accepting left path that reads the string, and an accepting right path that, arc by arc, fits what the left one writes. Either may be
+-- empty. (A left transducer has no arc for any symbol, by 18.)
 pub record Pair (left right string : List ℕ) (x : Two-paths) : Type 0 where
   pub left-accepts : accepts (decode left) (x .left) ≡ true
   pub left-reads : read-by (decode left) (x .left) ≡ string
   pub right-accepts : accepts (decode right) (x .right) ≡ true
-  pub meets : written-by (decode left) (x .left) ≡ read-by (decode right) (x .right)
+  pub meets : path-fits (decode right) (written-by (decode left) (x .left)) (x .right) ≡ true
 
--- A pair's output is what its right path writes; its cost is the sum of both paths' costs, final weights included.
-abbrev pub pair-output : (right : List ℕ) → Two-paths → List ℕ
-pair-output right x = written-by (decode right) (x .right)
+-- A pair's output is what its right path writes for what the left one writes, with the symbols that it passes on; its cost is the sum of both paths'
+-- costs, final weights included.
+abbrev pub pair-output : (left right : List ℕ) → Two-paths → List ℕ
+pair-output left right x = path-passed (decode right) (written-by (decode left) (x .left)) (x .right)
 
 abbrev pub pair-cost : (left right : List ℕ) → Two-paths → Weight
 pair-cost left right x = plus (path-cost (decode left) (x .left)) (path-cost (decode right) (x .right))
@@ -104,7 +107,7 @@ Pairs left right string =
       Thing = Two-paths;
       Is = Pair left right string;
       input = λ x. read-by (decode left) (x .left);
-      output = pair-output right;
+      output = pair-output left right;
       cost = pair-cost left right;
     }
 
@@ -127,7 +130,7 @@ pub record Tells (c : Calls) (k : ℕ) (x : Two-paths) : Type 0 where
   pub well : c .telling k .refusal ≡ 0
   pub accepting : accepts (lattice-of c) (told-arcs c k) ≡ true
   pub pair : Pair (c .left) (c .right) (c .string) x
-  pub output : told-labels c k ≡ pair-output (c .right) x
+  pub output : told-labels c k ≡ pair-output (c .left) (c .right) x
   pub cost : c .telling k .cost ≡ pair-cost (c .left) (c .right) x
 
 -- What is claimed.

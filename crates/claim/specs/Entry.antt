@@ -4,6 +4,7 @@ use mathlib.Core.Bool.{cond}
 use mathlib.Core.List.{List}
 use Prim.Native.Nat.{ℕ}
 use Rattle.transducer.specs.Format.{Transducer, refusal, decode}
+use Rattle.transducer.specs.Each.{any-refusal}
 use Rattle.transducer.specs.Entry.{or-else, unless}
 use Rattle.explore.specs.Explore.{built-refusal}
 use Rattle.compose.specs.Compose.{composed}
@@ -21,9 +22,10 @@ composition xs ys = composed (decode xs) (decode ys) .result
 abbrev pub composition-lattice : (left right string : List ℕ) → Transducer
 composition-lattice xs ys cs = lattice cs (composition xs ys)
 
--- The composition: the left transducer's 1 to 8, the right one's, then 11 to 13.
+-- The composition: the left transducer's 1 to 8, 18 for an arc of it that is for any symbol, the right one's 1 to 8, then 11 to 13.
 unfoldable pub composition-refusal : (left right : List ℕ) → ℕ
-composition-refusal xs ys = or-else (refusal xs) (or-else (refusal ys) (built-refusal (composition xs ys)))
+composition-refusal xs ys =
+    or-else (refusal xs) (or-else (any-refusal (decode xs)) (or-else (refusal ys) (built-refusal (composition xs ys))))
 
 -- The application of a string to a transducer: 9, then 11 and 12.
 unfoldable pub application-refusal : (string : List ℕ) → Transducer → ℕ

@@ -2,11 +2,12 @@
 use mathlib.Core.Path.{_≡_, sym, ap, _∙_}
 use mathlib.Core.Bool.{true}
 use mathlib.Core.List.{List}
-use Prim.Native.Nat.{ℕ, _+_, _≤_}
+use Prim.Native.Nat.{ℕ, _≤_}
 use lib.ListN.{length}
 use Rattle.wire.specs.Bytes.{Bytes}
 use Rattle.transducer.specs.Format.{Transducer, Good, refusal, decode}
 use Rattle.transducer.specs.Encode.{encode}
+use Rattle.transducer.specs.Each.{named}
 use Rattle.transducer.specs.Path.{accepts, read-by, written-by, path-cost}
 use Rattle.transducer.proofs.RoundTrip.{accepted-good}
 use Rattle.transducer.specs.Weight.{plus}
@@ -78,7 +79,8 @@ module _ (t u : Transducer) (good-t : Good t) (good-u : Good u) (fine : built-re
       let r : Steps-of p = steps-of p h in
       met-rights (composed t u) t u p (first-state t u) (r .last) (r .accepted .trail) (good-arcs-below u good-u)
 
-  pub composed-leads : (p : List ℕ) → accepts (composed t u .result) p ≡ true → Stands-for t u (composed t u .result) p (met-at origins 0 p) (met-at origins 1 p)
+  pub composed-leads : (p : List ℕ) → accepts (composed t u .result) p ≡ true
+      → Stands-for t u (composed t u .result) p (met-at origins 0 p) (met-at origins 1 p)
   composed-leads p h =
       let r : Steps-of p = steps-of p h in
       let l : Leads t u (first-state t u) (taken p) (r .last) = trail-leads t u (first-state t u) (taken p) (r .last) (r .accepted .trail) in
@@ -121,13 +123,13 @@ module _ (t u : Transducer) (good-t : Good t) (good-u : Good u) (fine : built-re
   composed-least-sums = one-to-one-least-sums t u (composed t u .result) (origin-pairs (composed t u .steps)) composed-one-to-one
 
 -- The same from the bytes of two transducers to those of their composition.
-module _ (xs ys : List ℕ) (bytes-xs : Bytes xs) (bytes-ys : Bytes ys) (good-xs : refusal xs ≡ 0) (good-ys : refusal ys ≡ 0)
-    (fine : built-refusal (composed (decode xs) (decode ys) .result) ≡ 0) where
+module _ (xs ys : List ℕ) (bytes-xs : Bytes xs) (bytes-ys : Bytes ys) (good-xs : refusal xs ≡ 0)
+    (all : named (decode xs) ≡ true) (good-ys : refusal ys ≡ 0) (fine : built-refusal (composed (decode xs) (decode ys) .result) ≡ 0) where
   pub bytes-refusal : refusal (encode (composed (decode xs) (decode ys) .result)) ≡ 0
-  bytes-refusal = refusal-composed (decode xs) (decode ys) (accepted-good xs bytes-xs good-xs) (accepted-good ys bytes-ys good-ys) fine
+  bytes-refusal = refusal-composed (decode xs) (decode ys) (accepted-good xs bytes-xs good-xs) all (accepted-good ys bytes-ys good-ys) fine
 
   pub bytes-decode : decode (encode (composed (decode xs) (decode ys) .result)) ≡ composed (decode xs) (decode ys) .result
-  bytes-decode = decode-composed (decode xs) (decode ys) (accepted-good xs bytes-xs good-xs) (accepted-good ys bytes-ys good-ys) fine
+  bytes-decode = decode-composed (decode xs) (decode ys) (accepted-good xs bytes-xs good-xs) all (accepted-good ys bytes-ys good-ys) fine
 
   pub bytes-one-to-one : One-to-one (decode xs) (decode ys) (decode (encode (composed (decode xs) (decode ys) .result)))
       (origin-pairs (composed (decode xs) (decode ys) .steps))

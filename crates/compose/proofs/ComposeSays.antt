@@ -1,30 +1,29 @@
 -- The answers of composing: which refusal it is, and what is said and left behind; one law for each answer, in the order of the tests. Assumes nothing.
 use mathlib.Core.Path.{_≡_, refl, sym, ap, subst, _∙_}
-use mathlib.Core.Bool.{Bool, true, false, _&&_, not, cond}
+use mathlib.Core.Bool.{Bool, true, false}
 use mathlib.Core.List.{List, []}
 use Prim.Native.Nat.{ℕ, _+_, _*_, _≤_, _<_}
 use native.Mathlib.Omega.{arith}
-use lib.Dec.{leb, eqb}
 use lib.ListN.{length, getD, take}
 use lib.Seq.{sets, length-sets}
 use borrow.Author.Tests.{lt-ltb, le-ltb, ne-eqb}
 use Rattle.wire.specs.Bytes.{Bytes, cleared}
 use Rattle.transducer.specs.declared.Final.{Final}
 use Rattle.transducer.specs.declared.Written.{Written}
-use Rattle.transducer.specs.Format.{Transducer, Good, refusal, content-refusal, first-of, decode, framed, kinds-good, records, head-good, weights-good}
-use Rattle.transducer.specs.Format.{head-states, head-arcs, head-finals, head-start, states-good, order-good, all-labels-good}
+use Rattle.transducer.specs.Format.{Transducer, Good, refusal, decode}
 use Rattle.transducer.specs.Encode.{head-record, final-records, arc-records, encode}
+use Rattle.transducer.specs.Each.{named, any-refusal}
 use Rattle.transducer.specs.Entry.{or-else, unless}
 use Rattle.transducer.specs.Leaf.{Finals-by-state}
 use Rattle.transducer.proofs.Most.{refusal-most}
 use Rattle.transducer.proofs.RoundTrip.{accepted-good}
 use Rattle.explore.specs.declared.FinalsPut.{FinalsPut}
 use Rattle.explore.specs.declared.Walk.{Walk}
-use Rattle.explore.specs.Explore.{built-refusal}
+use Rattle.explore.specs.Explore.{built-refusal, keeps}
 use Rattle.explore.specs.Walk.{Told, stored-arcs, Finals-stored}
 use Rattle.explore.proofs.EncodeStored.{filled-front}
 use Rattle.explore.proofs.ExploredKeys.{Keying}
-use Rattle.explore.proofs.LeftBehind.{built-late, behind-early, behind-zeroed, behind-written, behind-same}
+use Rattle.explore.proofs.LeftBehind.{built-late, early-keeps, late-keeps, behind-kept, behind-zeroed, behind-written, behind-same}
 use Rattle.explore.proofs.WalkTold.{
   told-11,
   told-key,
@@ -58,31 +57,31 @@ module _ (xs ys : List ℕ) (number : ℕ) where
   abbrev pairs : List ℕ
   pairs = origin-pairs (composed (decode xs) (decode ys) .steps)
 
-  says-early : (k : ℕ) (a b c : List ℕ) → number ≡ k → (k ≡ 0 → ⊥) → k ≤ 10
+  says-early : (k : ℕ) (a b c : List ℕ) → number ≡ k → (k ≡ 0 → ⊥) → keeps k ≡ true
       → (r : Written) → r ≡ record { refusal = k; len = 0 } → Compose-says xs ys number r a a b b c c
   unfolding unless
-  says-early k a b c is bad small r h =
+  says-early k a b c is bad kept r h =
       record {
         refusal-is = ap (λ (r : Written). r .refusal) h ∙ sym is;
         len-is = ap (λ (r : Written). r .len) h ∙ (rw (is, ne-eqb k 0 bad));
-        table = rw is (sym (behind-early a bytes k bad small));
-        origins = rw is (sym (behind-early b pairs k bad small));
-        states = rw is (sym (behind-early c [] k bad small));
+        table = rw is (sym (behind-kept a bytes k bad kept));
+        origins = rw is (sym (behind-kept b pairs k bad kept));
+        states = rw is (sym (behind-kept c [] k bad kept));
       }
 
-  says-zeroed : (k : ℕ) (r : Written) (a a' b b' c c' : List ℕ) → number ≡ k → 10 < k → Refused-with k r a a' b b' c c'
+  says-zeroed : (k : ℕ) (r : Written) (a a' b b' c c' : List ℕ) → number ≡ k → 10 < k → k < 14 → Refused-with k r a a' b b' c c'
       → Compose-says xs ys number r a a' b b' c c'
   unfolding unless
-  says-zeroed k r a a' b b' c c' is high z =
+  says-zeroed k r a a' b b' c c' is high low z =
       record {
         refusal-is = ap (λ (r : Written). r .refusal) (z .answer) ∙ sym is;
         len-is = ap (λ (r : Written). r .len) (z .answer) ∙ (rw (is, ne-eqb k 0 (omega arith)));
-        table = rw is (z .table ∙ sym (behind-zeroed a bytes k high));
-        origins = rw is (z .origins ∙ sym (behind-zeroed b pairs k high));
-        states = rw is (z .states ∙ sym (behind-zeroed c [] k high));
+        table = rw is (z .table ∙ sym (behind-zeroed a bytes k high low));
+        origins = rw is (z .origins ∙ sym (behind-zeroed b pairs k high low));
+        states = rw is (z .states ∙ sym (behind-zeroed c [] k high low));
       }
 
-  says-after : (r : Written) (a a₀ a' b b₀ b' c c₀ c' : List ℕ) → (leb number 10 ≡ true → number ≡ 0)
+  says-after : (r : Written) (a a₀ a' b b₀ b' c c₀ c' : List ℕ) → (keeps number ≡ true → number ≡ 0)
       → length a ≡ length a₀ → length b ≡ length b₀ → length c ≡ length c₀
       → Compose-says xs ys number r a a' b b' c c' → Compose-says xs ys number r a₀ a' b₀ b' c₀ c'
   says-after r a a₀ a' b b₀ b' c c₀ c' late la lb lc s =
@@ -106,48 +105,66 @@ module _ (xs ys a b c : List ℕ) where
   pub says-left : (k : ℕ) → k ≡ refusal xs → (k ≡ 0 → ⊥) → Refused k
   unfolding compose-refusal or-else
   says-left k is bad =
-      says-early xs ys number k a b c (rw (← is, ne-eqb k 0 bad)) bad (omega (arith, refusal-most xs))
+      says-early xs ys number k a b c (rw (← is, ne-eqb k 0 bad)) bad (early-keeps k (omega (arith, refusal-most xs)))
 
   module _ (k : ℕ) (lis : k ≡ refusal xs) (lok : k ≡ 0) where
     left-ok : refusal xs ≡ 0
     left-ok = sym lis ∙ lok
 
-    pub says-right : (j : ℕ) → j ≡ refusal ys → (j ≡ 0 → ⊥) → Refused j
-    unfolding compose-refusal or-else
-    says-right j is bad =
-        says-early xs ys number j a b c (rw (left-ok, ← is, ne-eqb j 0 bad)) bad (omega (arith, refusal-most ys))
+    pub says-any : (all : Bool) → all ≡ named (decode xs) → all ≡ false → Refused 18
+    unfolding compose-refusal or-else any-refusal
+    says-any all is some =
+        says-early xs ys number 18 a b c (rw (left-ok, ← is, some)) (omega arith) (late-keeps 18 (omega arith))
 
-    module _ (j : ℕ) (ris : j ≡ refusal ys) (rok : j ≡ 0) where
-      right-ok : refusal ys ≡ 0
-      right-ok = sym ris ∙ rok
+    module _ (all : Bool) (ais : all ≡ named (decode xs)) (aok : all ≡ true) where
+      all-ok : any-refusal (decode xs) ≡ 0
+      unfolding any-refusal
+      all-ok = rw (← ais, aok)
 
-      short : compose-room (length a) (length b) (length c) ≡ 10 → Refused 10
+      pub says-right : (j : ℕ) → j ≡ refusal ys → (j ≡ 0 → ⊥) → Refused j
       unfolding compose-refusal or-else
-      short h = says-early xs ys number 10 a b c (rw (left-ok, right-ok, h)) (omega arith) (omega arith)
+      says-right j is bad =
+          says-early xs ys number j a b c (rw (left-ok, all-ok, ← is, ne-eqb j 0 bad)) bad (early-keeps j (omega (arith, refusal-most ys)))
 
-      pub says-table : length a < 59404 → Refused 10
-      unfolding compose-room
-      says-table h = short (rw (lt-ltb (length a) 59404 h))
+      module _ (j : ℕ) (ris : j ≡ refusal ys) (rok : j ≡ 0) where
+        right-ok : refusal ys ≡ 0
+        right-ok = sym ris ∙ rok
 
-      pub says-origins : 59404 ≤ length a → length b < 6144 → Refused 10
-      unfolding compose-room
-      says-origins p h = short (rw (le-ltb (length a) 59404 p, lt-ltb (length b) 6144 h))
+        short : compose-room (length a) (length b) (length c) ≡ 10 → Refused 10
+        unfolding compose-refusal or-else
+        short h = says-early xs ys number 10 a b c (rw (left-ok, all-ok, right-ok, h)) (omega arith) (early-keeps 10 (omega arith))
 
-      pub says-states : 59404 ≤ length a → 6144 ≤ length b → length c < 1024 → Refused 10
-      unfolding compose-room
-      says-states p q h = short (rw (le-ltb (length a) 59404 p, le-ltb (length b) 6144 q, lt-ltb (length c) 1024 h))
+        pub says-table : length a < 59404 → Refused 10
+        unfolding compose-room
+        says-table h = short (rw (lt-ltb (length a) 59404 h))
 
-      module _ (p : 59404 ≤ length a) (q : 6144 ≤ length b) (s : 1024 ≤ length c) where
-        pub composable : Composable xs ys (length a) (length b) (length c)
-        composable = record { left-accepted = left-ok; right-accepted = right-ok; table-long = p; origins-long = q; states-long = s }
+        pub says-origins : 59404 ≤ length a → length b < 6144 → Refused 10
+        unfolding compose-room
+        says-origins p h = short (rw (le-ltb (length a) 59404 p, lt-ltb (length b) 6144 h))
 
-        into : number ≡ built-refusal (composed (decode xs) (decode ys) .result)
-        unfolding compose-refusal or-else compose-room
-        into = rw (left-ok, right-ok, le-ltb (length a) 59404 p, le-ltb (length b) 6144 q, le-ltb (length c) 1024 s)
+        pub says-states : 59404 ≤ length a → 6144 ≤ length b → length c < 1024 → Refused 10
+        unfolding compose-room
+        says-states p q h = short (rw (le-ltb (length a) 59404 p, le-ltb (length b) 6144 q, lt-ltb (length c) 1024 h))
 
-        pub says-into : (r : Written) (a' b' c' : List ℕ)
-            → Compose-says xs ys (built-refusal (composed (decode xs) (decode ys) .result)) r a a' b b' c c' → Compose-says xs ys number r a a' b b' c c'
-        says-into r a' b' c' h = rw into h
+        module _ (p : 59404 ≤ length a) (q : 6144 ≤ length b) (s : 1024 ≤ length c) where
+          pub composable : Composable xs ys (length a) (length b) (length c)
+          composable =
+              record {
+                left-accepted = left-ok;
+                left-named = sym ais ∙ aok;
+                right-accepted = right-ok;
+                table-long = p;
+                origins-long = q;
+                states-long = s;
+              }
+
+          into : number ≡ built-refusal (composed (decode xs) (decode ys) .result)
+          unfolding compose-refusal or-else compose-room
+          into = rw (left-ok, all-ok, right-ok, le-ltb (length a) 59404 p, le-ltb (length b) 6144 q, le-ltb (length c) 1024 s)
+
+          pub says-into : (r : Written) (a' b' c' : List ℕ)
+              → Compose-says xs ys (built-refusal (composed (decode xs) (decode ys) .result)) r a a' b b' c c' → Compose-says xs ys number r a a' b b' c c'
+          says-into r a' b' c' h = rw into h
 
 -- The numbers that are written fit.
 pub record Writable (w : Walk) (f : FinalsPut) : Type 0 where
@@ -157,7 +174,8 @@ pub record Writable (w : Walk) (f : FinalsPut) : Type 0 where
 
 -- The answers once the walk has begun, of accepted transducers
 
-module _ (left right : List ℕ) (lb : Bytes left) (rb : Bytes right) (lok : refusal left ≡ 0) (rok : refusal right ≡ 0) where
+module _ (left right : List ℕ) (lb : Bytes left) (rb : Bytes right) (lok : refusal left ≡ 0) (all : named (decode left) ≡ true)
+    (rok : refusal right ≡ 0) where
   abbrev t : Transducer
   t = decode left
 
@@ -185,7 +203,8 @@ module _ (left right : List ℕ) (lb : Bytes left) (rb : Bytes right) (lok : ref
   unfolding composed
   says-11 r a a₀ a' b b₀ b' c c₀ c' over la lb lc z' =
       says-after left right (built-refusal z) r a a₀ a' b b₀ b' c c₀ c' (built-late z) la lb lc
-      (says-zeroed left right (built-refusal z) 11 r a a' b b' c c' (told-11 keying (final-state t u) (state-weight t u) over) (omega arith) z')
+      (says-zeroed left right (built-refusal z) 11 r a a' b b' c c' (told-11 keying (final-state t u) (state-weight t u) over) (omega arith)
+      (omega arith) z')
 
   pub says-same : (r : Written) (a a₀ a' b b₀ b' c c₀ c' : List ℕ) → length a ≡ length a₀ → length b ≡ length b₀ → length c ≡ length c₀
       → Says r a a' b b' c c' → Says r a₀ a' b₀ b' c₀ c'
@@ -199,14 +218,14 @@ module _ (left right : List ℕ) (lb : Bytes left) (rb : Bytes right) (lok : ref
     says-12 r a₀ a' b₀ b' c₀ c' over la lb lc z' =
         says-after left right (built-refusal z) r table a₀ a' origins b₀ b' states c₀ c' (built-late z) la lb lc
         (says-zeroed left right (built-refusal z) 12 r table a' origins b' states c' (told-12 keying (final-state t u) (state-weight t u) told over)
-        (omega arith) z')
+        (omega arith) (omega arith) z')
 
     module _ (few-arcs : w .arcs ≤ 3072) where
       says-13 : (r : Written) (a a' b' c' : List ℕ) → built-refusal z ≡ 13 → length a ≡ length table
           → Refused-with 13 r a a' origins b' states c' → Says r table a' origins b' states c'
       says-13 r a a' b' c' is la z' =
           says-after left right (built-refusal z) r a table a' origins origins b' states states c' (built-late z) la refl refl
-          (says-zeroed left right (built-refusal z) 13 r a a' origins b' states c' is (omega arith) z')
+          (says-zeroed left right (built-refusal z) 13 r a a' origins b' states c' is (omega arith) (omega arith) z')
 
       module _ (ls rs : List ℕ) (lby : Finals-by-state t ls) (rby : Finals-by-state u rs) where
         pub finishable : 59404 ≤ length table → 1024 ≤ length states → Finishable ls rs states (w .states) table
@@ -235,7 +254,7 @@ module _ (left right : List ℕ) (lb : Bytes left) (rb : Bytes right) (lok : ref
           pub finals-kept : length t1 ≡ length table
           finals-kept = ap length (finals-put .stored) ∙ length-sets table 12 (final-records (z .finals))
 
-          pub says-13-arcs : (r : Written) (a' b' c' : List ℕ) → w .dear ≡ true → Refused-with 13 r t1 a' origins b' states c'
+          pub says-13-arcs : (r : Written) (a' b' c' : List ℕ) → (w .dear ≡ 0 → ⊥) → Refused-with 13 r t1 a' origins b' states c'
               → Says r table a' origins b' states c'
           unfolding composed
           says-13-arcs r a' b' c' dear z' =
@@ -257,7 +276,7 @@ module _ (left right : List ℕ) (lb : Bytes left) (rb : Bytes right) (lok : ref
                 arcs = few-arcs;
               }
 
-          pub says-written : (t2 t3 t4 o1 s1 : List ℕ) → w .dear ≡ false → f .dear ≡ false → 59404 ≤ length table
+          pub says-written : (t2 t3 t4 o1 s1 : List ℕ) → w .dear ≡ 0 → f .dear ≡ false → 59404 ≤ length table
               → t2 ≡ sets t1 (12 + 10 * f .count) (arc-records (stored-arcs t1 (w .arcs)))
               → t3 ≡ sets t2 0 (head-record (w .states) (w .arcs) (f .count) 0)
               → t4 ≡ cleared (12 + 10 * f .count + 16 * w .arcs) t3
@@ -272,7 +291,7 @@ module _ (left right : List ℕ) (lb : Bytes left) (rb : Bytes right) (lok : ref
                 refusal-is = sym no;
                 len-is = rw no (sym (length-written keying (final-state t u) (state-weight t u) told few-arcs (f .count) (finals-put .count-is)));
                 table =
-                    table-written keying (final-state t u) (state-weight t u) told few-arcs (steps-labelled t u tg ug) (steps-light t u tg ug) (f .count)
+                    table-written keying (final-state t u) (state-weight t u) told few-arcs (steps-labelled t u tg all ug) (steps-light t u tg ug) (f .count)
                     t1 t2 t3 t4 (finals-put .count-is) (omega (arith, fits .finals, fits .arcs)) (finals-put .stored) moved headed clear8
                     ∙ sym (behind-written table (encode z) (built-refusal z) no);
                 origins =

@@ -9,6 +9,7 @@ pub mod MetPaths
 pub mod Numbered
 pub mod Written
 pub mod LeastSums
+pub mod Plain
 pub mod Claimed
 -- The walk by keys walks the composition, and its code walks by keys.
 pub mod Explored

@@ -1,4 +1,4 @@
--- Trails of composed steps stand one to one with pairs of paths of which the left writes what the right reads. Assumes nothing.
+-- Trails of composed steps stand one to one with pairs of paths of which the right fits what the left writes. Assumes nothing.
 use mathlib.Core.Path.{_≡_, refl, sym, ap, ap₂, _∙_}
 use mathlib.Core.Bool.{Bool, true, false}
 use mathlib.Core.List.{List, [], _∷_}
@@ -7,12 +7,15 @@ use native.Mathlib.Omega.{arith}
 use lib.Dec.{eqb}
 use borrow.Author.Tests.{eqb-true, eqb-false}
 use Rattle.transducer.specs.Format.{Transducer}
-use Rattle.transducer.specs.Path.{arc, runs, read-by, written-by}
+use Rattle.transducer.specs.Path.{arc, runs, written-by}
+use Rattle.transducer.specs.Each.{path-fits}
 use Rattle.explore.specs.Explore.{Step}
 use Rattle.steps.specs.declared.Origin.{Origin}
 use Rattle.steps.specs.declared.Origin.the-variants.{Left, Right, Both}
 use Rattle.steps.specs.declared.State.{State}
 use Rattle.steps.specs.Steps.{left-alone, right-alone, both-step, steps}
+use Rattle.transducer.proofs.Fits.{fits-some}
+use Rattle.transducer.proofs.FitPaths.{Took, quiet, took, path-took, path-fits-end}
 use Rattle.transducer.proofs.Paths.{Runs, runs-cons, empty-passed, symbol-kept}
 use Rattle.explore.proofs.Member.{mem-in, in-mem}
 use Rattle.explore.proofs.Trails.{Trail}
@@ -75,57 +78,51 @@ paired-step t u x s p q m r =
 paired-right : (t u : Transducer) (x : State) (j : ℕ) (p q : List ℕ) → Runs u (x .right) j q → arc u j .input ≡ 0
     → Paired t u (record { left = x .left; right = arc u j .target; filter = 1 }) p q → Paired t u x p (j ∷ q)
 unfolding right-alone add-left add-right
-paired-right t u x j p q r quiet =
+paired-right t u x j p q r still =
     paired-step t u x (right-alone x j (arc u j)) p q
-    (by-right (record { right-arc = j; below = r .below; leaves = r .leaves; quiet = quiet; made = refl }))
+    (by-right (record { right-arc = j; below = r .below; leaves = r .leaves; quiet = still; made = refl }))
 
 -- A left path of no arcs: the right path goes alone.
-paired-rights : (t u : Transducer) (x : State) (q : List ℕ) → runs u (x .right) q ≡ true → read-by u q ≡ [] → Paired t u x [] q
-unfolding read-by
+paired-rights : (t u : Transducer) (x : State) (q : List ℕ) → runs u (x .right) q ≡ true → path-fits u [] q ≡ true → Paired t u x [] q
 paired-rights t u x [] ru e = paired-none t u x
-paired-rights t u x (j ∷ q) ru e = on (eqb (arc u j .input) 0) refl (λ x' ru' e'. paired-rights t u x' q ru' e')
+paired-rights t u x (j ∷ q) ru e = on (path-took u j q [] e) (λ x' ru' e'. paired-rights t u x' q ru' e')
   where
     r : Runs u (x .right) j q
     r = runs-cons u (x .right) j q ru
 
-    on : (b : Bool) → eqb (arc u j .input) 0 ≡ b
-        → ((x' : State) → runs u (x' .right) q ≡ true → read-by u q ≡ [] → Paired t u x' [] q) → Paired t u x [] (j ∷ q)
-    on true b rest =
-        let quiet : arc u j .input ≡ 0 = eqb-true (arc u j .input) 0 b in
-        let e' : read-by u q ≡ [] = sym (empty-passed (arc u j .input) (read-by u q) quiet) ∙ e in
-        paired-right t u x j [] q r quiet (rest (record { left = x .left; right = arc u j .target; filter = 1 }) (r .rest) e')
-    on false b rest =
-        let k : arc u j .input ∷ read-by u q ≡ [] = sym (symbol-kept (arc u j .input) (read-by u q) (eqb-false (arc u j .input) 0 b)) ∙ e in
-        let z : _≡_ {A = ℕ} 0 1 = cc in absurd (omega arith)
+    on : Took u j q [] → ((x' : State) → runs u (x' .right) q ≡ true → path-fits u [] q ≡ true → Paired t u x' [] q) → Paired t u x [] (j ∷ q)
+    on (quiet none f) rest =
+        paired-right t u x j [] q r none (rest (record { left = x .left; right = arc u j .target; filter = 1 }) (r .rest) f)
+    on (took c cs is reads f more) rest = let z : _≡_ {A = ℕ} 0 1 = cc in absurd (omega arith)
 
--- A left path pairs with each right path that reads what it writes, from any state that is ready for it.
+-- A left path pairs with each right path that fits what it writes, from any state that is ready for it.
 abbrev Pairs : Transducer → Transducer → List ℕ → Type 0
 Pairs t u p =
-    (x : State) (q : List ℕ) → Ready t (x .filter) p → runs t (x .left) p ≡ true → runs u (x .right) q ≡ true → written-by t p ≡ read-by u q
-    → Paired t u x p q
+    (x : State) (q : List ℕ) → Ready t (x .filter) p → runs t (x .left) p ≡ true → runs u (x .right) q ≡ true
+    → path-fits u (written-by t p) q ≡ true → Paired t u x p q
 
--- Where the left path begins with an arc that writes: right arcs go alone up to the one that reads the symbol.
+-- Where the left path begins with an arc that writes: right arcs go alone up to the one that fits the symbol.
 pairs-writing : (t u : Transducer) (p : List ℕ) → Pairs t u p → (i : ℕ) → (arc t i .output ≡ 0 → ⊥) → (x : State) (q : List ℕ) → Runs t (x .left) i p
-    → runs u (x .right) q ≡ true → arc t i .output ∷ written-by t p ≡ read-by u q → Paired t u x (i ∷ p) q
-unfolding read-by both-step add-left add-right
-pairs-writing t u p shorter i writes x [] l ru e = let z : _≡_ {A = ℕ} 0 1 = cc in absurd (omega arith)
-pairs-writing t u p shorter i writes x (j ∷ q) l ru e = on (eqb (arc u j .input) 0) refl (λ x' l' ru' e'. pairs-writing t u p shorter i writes x' q l' ru' e')
+    → runs u (x .right) q ≡ true → path-fits u (arc t i .output ∷ written-by t p) q ≡ true → Paired t u x (i ∷ p) q
+unfolding both-step add-left add-right
+pairs-writing t u p shorter i writes x [] l ru e =
+    let short : arc t i .output ∷ written-by t p ≡ [] = path-fits-end u (arc t i .output ∷ written-by t p) e in
+    let z : _≡_ {A = ℕ} 0 1 = cc in absurd (omega arith)
+pairs-writing t u p shorter i writes x (j ∷ q) l ru e =
+    on (path-took u j q (arc t i .output ∷ written-by t p) e) (λ x' l' ru' e'. pairs-writing t u p shorter i writes x' q l' ru' e')
   where
     r : Runs u (x .right) j q
     r = runs-cons u (x .right) j q ru
 
-    on : (b : Bool) → eqb (arc u j .input) 0 ≡ b
-        → ((x' : State) → Runs t (x' .left) i p → runs u (x' .right) q ≡ true → arc t i .output ∷ written-by t p ≡ read-by u q → Paired t u x' (i ∷ p) q)
+    on : Took u j q (arc t i .output ∷ written-by t p)
+        → ((x' : State) → Runs t (x' .left) i p → runs u (x' .right) q ≡ true → path-fits u (arc t i .output ∷ written-by t p) q ≡ true
+        → Paired t u x' (i ∷ p) q)
         → Paired t u x (i ∷ p) (j ∷ q)
-    on true b rest =
-        let quiet : arc u j .input ≡ 0 = eqb-true (arc u j .input) 0 b in
-        let e' : arc t i .output ∷ written-by t p ≡ read-by u q = e ∙ empty-passed (arc u j .input) (read-by u q) quiet in
-        paired-right t u x j (i ∷ p) q r quiet (rest (record { left = x .left; right = arc u j .target; filter = 1 }) l (r .rest) e')
-    on false b rest =
-        let k : arc t i .output ∷ written-by t p ≡ arc u j .input ∷ read-by u q =
-        e ∙ symbol-kept (arc u j .input) (read-by u q) (eqb-false (arc u j .input) 0 b) in
-        let same : arc u j .input ≡ arc t i .output = cc in
-        let more : written-by t p ≡ read-by u q = cc in
+    on (quiet none f) rest =
+        paired-right t u x j (i ∷ p) q r none (rest (record { left = x .left; right = arc u j .target; filter = 1 }) l (r .rest) f)
+    on (took c cs is reads f more) rest =
+        let same : c ≡ arc t i .output = cc in
+        let left : cs ≡ written-by t p = cc in
         paired-step t u x (both-step i (arc t i) j (arc u j)) p q
         (by-both (record {
           left-arc = i;
@@ -135,10 +132,10 @@ pairs-writing t u p shorter i writes x (j ∷ q) l ru e = on (eqb (arc u j .inpu
           left-leaves = l .leaves;
           right-leaves = r .leaves;
           writes = writes;
-          reads = same;
+          fitted = rw same at f;
           made = refl;
         }))
-        (shorter (record { left = arc t i .target; right = arc u j .target; filter = 0 }) q (ready-zero t p) (l .rest) (r .rest) more)
+        (shorter (record { left = arc t i .target; right = arc u j .target; filter = 0 }) q (ready-zero t p) (l .rest) (r .rest) (rw left at more))
 
 pairs-cons : (t u : Transducer) (i : ℕ) (p : List ℕ) → Pairs t u p → Pairs t u (i ∷ p)
 unfolding Ready written-by left-alone add-left add-right
@@ -150,20 +147,20 @@ pairs-cons t u i p shorter x q ready rt ru e = on (eqb (arc t i .output) 0) refl
     on : (b : Bool) → eqb (arc t i .output) 0 ≡ b → Paired t u x (i ∷ p) q
     on true b =
         let silent : arc t i .output ≡ 0 = eqb-true (arc t i .output) 0 b in
-        let e' : written-by t p ≡ read-by u q = sym (empty-passed (arc t i .output) (written-by t p) silent) ∙ e in
+        let e' : path-fits u (written-by t p) q ≡ true = rw (empty-passed (arc t i .output) (written-by t p) silent) at e in
         paired-step t u x (left-alone x i (arc t i)) p q
         (by-left (record { left-arc = i; below = l .below; leaves = l .leaves; silent = silent; allowed = ready silent; made = refl }))
         (shorter (record { left = arc t i .target; right = x .right; filter = 0 }) q (ready-zero t p) (l .rest) ru e')
     on false b =
         let writes : arc t i .output ≡ 0 → ⊥ = eqb-false (arc t i .output) 0 b in
-        pairs-writing t u p shorter i writes x q l ru (sym (symbol-kept (arc t i .output) (written-by t p) writes) ∙ e)
+        pairs-writing t u p shorter i writes x q l ru (rw (symbol-kept (arc t i .output) (written-by t p) writes) at e)
 
 pub ready-pair-trail : (t u : Transducer) (p : List ℕ) → Pairs t u p
 unfolding written-by
-ready-pair-trail t u [] = λ x q ready rt ru e. paired-rights t u x q ru (sym e)
+ready-pair-trail t u [] = λ x q ready rt ru e. paired-rights t u x q ru e
 ready-pair-trail t u (i ∷ p) = pairs-cons t u i p (ready-pair-trail t u p)
 
-pub pair-trail : (t u : Transducer) (a b : ℕ) (p q : List ℕ) → runs t a p ≡ true → runs u b q ≡ true → written-by t p ≡ read-by u q
+pub pair-trail : (t u : Transducer) (a b : ℕ) (p q : List ℕ) → runs t a p ≡ true → runs u b q ≡ true → path-fits u (written-by t p) q ≡ true
     → Paired t u (record { left = a; right = b; filter = 0 }) p q
 pair-trail t u a b p q rt ru e = ready-pair-trail t u p (record { left = a; right = b; filter = 0 }) q (ready-zero t p) rt ru e
 
@@ -222,7 +219,7 @@ same-first t u x s s' p p' q q' (by-right m) (by-right m') r r' el er =
 same-first t u x s s' p p' q q' (by-right m) (by-both m') r r' el er =
     let e : m .right-arc ∷ q ≡ m' .right-arc ∷ q' = rw (m .made, m' .made) at er in
     let j : m .right-arc ≡ m' .right-arc = cc in
-    absurd (m' .writes (sym (m' .reads) ∙ (rw j at (m .quiet))))
+    absurd (fits-some u (arc t (m' .left-arc) .output) (arc u (m' .right-arc)) (m' .writes) (m' .fitted) (rw j at (m .quiet)))
 same-first t u x s s' p p' q q' (by-both m) (by-left m') r r' el er =
     let e : m .left-arc ∷ p ≡ m' .left-arc ∷ p' = rw (m .made, m' .made) at el in
     let i : m' .left-arc ≡ m .left-arc = cc in
@@ -230,7 +227,7 @@ same-first t u x s s' p p' q q' (by-both m) (by-left m') r r' el er =
 same-first t u x s s' p p' q q' (by-both m) (by-right m') r r' el er =
     let e : m .right-arc ∷ q ≡ m' .right-arc ∷ q' = rw (m .made, m' .made) at er in
     let j : m' .right-arc ≡ m .right-arc = cc in
-    absurd (m .writes (sym (m .reads) ∙ (rw j at (m' .quiet))))
+    absurd (fits-some u (arc t (m .left-arc) .output) (arc u (m .right-arc)) (m .writes) (m .fitted) (rw j at (m' .quiet)))
 same-first t u x s s' p p' q q' (by-both m) (by-both m') r r' el er =
     let ei : m .left-arc ∷ p ≡ m' .left-arc ∷ p' = rw (m .made, m' .made) at el in
     let ej : m .right-arc ∷ q ≡ m' .right-arc ∷ q' = rw (m .made, m' .made) at er in

@@ -7,10 +7,11 @@ use native.Mathlib.Omega.{arith}
 use lib.ListN.{length}
 use Rattle.transducer.specs.Format.{Transducer, barred, Good, all-labels-good, refusal, decode}
 use Rattle.transducer.specs.Encode.{encode}
+use Rattle.transducer.specs.Each.{named, plain}
 use Rattle.transducer.proofs.RoundTrip.{good-passed, good-range, refusal-encode, decode-encode}
 use Rattle.explore.specs.Explore.{built-refusal}
 use Rattle.explore.proofs.Member.{mem-in}
-use Rattle.explore.proofs.Built.{Labelled, good-built}
+use Rattle.explore.proofs.Built.{Labelled, built-plain, good-built}
 use Rattle.steps.specs.Steps.{same-state, steps, first-state}
 use Rattle.compose.specs.Compose.{final-state, state-weight, composed}
 use Rattle.transducer.proofs.Labels.{Unbarred}
@@ -24,11 +25,16 @@ good-labels t g = good-passed t g .labels
 pub good-arcs-below : (t : Transducer) → Good t → length (t .arcs) ≤ barred
 good-arcs-below t g = omega (arith, good-range t g .arcs)
 
-module _ (t u : Transducer) (good-t : Good t) (good-u : Good u) where
+module _ (t u : Transducer) (good-t : Good t) (all : named t ≡ true) (good-u : Good u) where
   pub steps-labelled : Labelled (steps t u)
   steps-labelled x s m =
-      let r : Unbarred (s .input) (s .output) = step-unbarred t u x s (good-labels t good-t) (good-labels u good-u) (mem-in m) in
+      let r : Unbarred (s .input) (s .output) = step-unbarred t u (good-labels t good-t) all (good-labels u good-u) x s (mem-in m) in
       (r .read, r .written)
+
+  -- No composed table holds 65,535.
+  pub composed-plain : plain (composed t u .result) ≡ true
+  unfolding composed
+  composed-plain = built-plain same-state (steps t u) (final-state t u) (state-weight t u) (first-state t u) steps-labelled
 
   pub good-composed : Good (composed t u .result) ↔ (built-refusal (composed t u .result) ≡ 0)
   unfolding composed

@@ -9,6 +9,7 @@ use lib.Dec.{eqb}
 use lib.ListN.{getD}
 use Rattle.transducer.specs.Format.{Transducer, barred}
 use Rattle.transducer.specs.Path.{accepts, read-by, written-by, path-cost}
+use Rattle.transducer.specs.Each.{path-fits, path-passed}
 use Rattle.transducer.specs.Weight.{Weight, plus, At-most}
 
 -- The arc numbers met, 65,535 being passed over.
@@ -20,17 +21,18 @@ led (i ∷ is) = cond (eqb i barred) (led is) (i ∷ led is)
 unfoldable pub met-at : (origins : List ℕ) → (side : ℕ) → (path : List ℕ) → List ℕ
 met-at origins side path = led (map (λ i. getD origins (2 * i + side) 0) path)
 
--- A pair: an accepting left path and an accepting right path that reads what the left one writes. Either may be empty.
+-- A pair: an accepting left path and an accepting right path that, arc by arc, fits what the left one writes. Either may be empty.
 pub record Pair (t u : Transducer) (left right : List ℕ) : Type 0 where
   pub left-accepts : accepts t left ≡ true
   pub right-accepts : accepts u right ≡ true
-  pub meets : written-by t left ≡ read-by u right
+  pub meets : path-fits u (written-by t left) right ≡ true
 
--- A path stands for a pair: it reads what the left path reads, writes what the right one writes, and costs both together.
+-- A path stands for a pair: it reads what the left path reads, writes what the right one writes for that, with the symbols that it passes on,
+-- and costs both together.
 pub record Stands-for (t u z : Transducer) (path left right : List ℕ) : Type 0 where
   pub pair : Pair t u left right
   pub reads : read-by z path ≡ read-by t left
-  pub writes : written-by z path ≡ written-by u right
+  pub writes : written-by z path ≡ path-passed u (written-by t left) right
   pub costs : path-cost z path ≡ plus (path-cost t left) (path-cost u right)
 
 -- Each accepting path leads to a pair that it stands for, never two to the same pair, and to every pair some path.
@@ -58,11 +60,11 @@ pub record Two-paths : Type 0 where
   pub left : List ℕ
   pub right : List ℕ
 
--- A pair of which the left path reads one string and the right path writes another.
+-- A pair of which the left path reads one string and the right path writes another for what the left one writes.
 pub record Pair-between (t u : Transducer) (input output : List ℕ) (paths : Two-paths) : Type 0 where
   pub pair : Pair t u (paths .left) (paths .right)
   pub reads : read-by t (paths .left) ≡ input
-  pub writes : written-by u (paths .right) ≡ output
+  pub writes : path-passed u (written-by t (paths .left)) (paths .right) ≡ output
 
 -- For every input and output string the least cost over accepting paths is the least sum over pairs, where either exists.
 unfoldable pub Least-sums : (t u z : Transducer) → Type 0

@@ -1,7 +1,6 @@
 -- Composition with the epsilon-sequencing filter (paper 01: the join): built from the states and steps of the crate steps. Assumes nothing: these
 -- are definitions.
 use mathlib.Core.Bool.{Bool, _&&_}
-use Prim.Native.Nat.{ℕ}
 use Rattle.transducer.specs.Format.{Transducer}
 use Rattle.transducer.specs.Path.{is-final, final-weight}
 use Rattle.transducer.specs.Weight.{Weight, plus}

@@ -8,6 +8,7 @@ use lib.ListN.{length}
 use Rattle.transducer.specs.declared.Written.{Written}
 use Rattle.transducer.specs.Format.{max-states, max-bytes, max-origins, refusal, decode}
 use Rattle.transducer.specs.Encode.{encode}
+use Rattle.transducer.specs.Each.{any-refusal}
 use Rattle.transducer.specs.Entry.{or-else, unless}
 use Rattle.explore.specs.Explore.{Step, built-refusal, left-behind}
 use Rattle.explore.specs.Walk.{all-origins}
@@ -24,10 +25,12 @@ origin-pairs ss = all-origins origin-pair ss
 unfoldable pub compose-room : (table origins states : ℕ) → ℕ
 compose-room a b c = cond (ltb a max-bytes || (ltb b max-origins || ltb c max-states)) 10 0
 
--- The left transducer's 1 to 8, the right one's, 10, then 11 to 13.
+-- The left transducer's 1 to 8, 18 for an arc of it that is for any symbol, the right one's 1 to 8, 10, then 11 to 13.
 unfoldable pub compose-refusal : (left right : List ℕ) → (table origins states : ℕ) → ℕ
 compose-refusal xs ys a b c =
-    or-else (refusal xs) (or-else (refusal ys) (or-else (compose-room a b c) (built-refusal (composed (decode xs) (decode ys) .result))))
+    or-else (refusal xs)
+    (or-else (any-refusal (decode xs))
+    (or-else (refusal ys) (or-else (compose-room a b c) (built-refusal (composed (decode xs) (decode ys) .result)))))
 
 pub record Compose-says (left right : List ℕ) (number : ℕ) (r : Written) (a a' b b' c c' : List ℕ) : Type 0 where
   pub refusal-is : r .refusal ≡ number

@@ -1,14 +1,15 @@
 -- What is written when the walk is done: the finals of the states met, by their keys. Assumes nothing: these are definitions.
 use mathlib.Core.Path.{_≡_}
-use mathlib.Core.Bool.{Bool, _&&_, not}
+use mathlib.Core.Bool.{Bool, true, _&&_, not}
 use mathlib.Core.List.{List, []}
-use Prim.Native.Nat.{ℕ, _+_, _≤_, _<_}
+use Prim.Native.Nat.{ℕ, _≤_, _<_}
 use lib.Dec.{eqb}
 use lib.ListN.{length, getD}
 use Rattle.wire.specs.Bytes.{filled}
 use Rattle.transducer.specs.declared.Final.{Final}
 use Rattle.transducer.specs.declared.Written.{Written}
 use Rattle.transducer.specs.Format.{max-states, max-arcs, max-bytes, max-origins, arcs-at, refusal, decode}
+use Rattle.transducer.specs.Each.{named}
 use Rattle.transducer.specs.Weight.{Weight, plus, weight-of}
 use Rattle.transducer.specs.Leaf.{max-code}
 use Rattle.explore.specs.declared.Walk.{Walk}
@@ -43,9 +44,10 @@ pub record Refused-with (number : ℕ) (r : Written) (a a' b b' c c' : List ℕ)
   pub origins : b' ≡ filled (length b) []
   pub states : c' ≡ filled (length c) []
 
--- Two accepted transducers, and buffers that are long enough.
+-- Two accepted transducers, of which the left one has no arc for any symbol, and buffers that are long enough.
 pub record Composable (left right : List ℕ) (table origins states : ℕ) : Type 0 where
   pub left-accepted : refusal left ≡ 0
+  pub left-named : named (decode left) ≡ true
   pub right-accepted : refusal right ≡ 0
   pub table-long : max-bytes ≤ table
   pub origins-long : max-origins ≤ origins

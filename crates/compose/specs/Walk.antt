@@ -1,7 +1,10 @@
 -- The walk that composes: states as keys, and steps with keys for targets. Assumes nothing: these are definitions.
+use mathlib.Core.Path.{_≡_}
+use mathlib.Core.Bool.{Bool, true}
 use mathlib.Core.List.{List, map}
 use Prim.Native.Nat.{ℕ}
 use Rattle.transducer.specs.Format.{Transducer, decode}
+use Rattle.transducer.specs.Each.{named}
 use Rattle.transducer.specs.Leaf.{Opened, Indexed}
 use Rattle.explore.specs.Walk.{Keyed, Sofar, explored}
 use Rattle.steps.specs.declared.Step.{Step}
@@ -22,11 +25,12 @@ key-steps t u key = map keyed-step (map coded (steps t u (unpacked key)))
 abbrev pub key-walk : (t u : Transducer) → Sofar
 key-walk t u = explored (key-steps t u) (pack (first-state t u))
 
--- Two accepted transducers with their first-arc indexes, and the look-up of the right one's arcs.
+-- Two accepted transducers with their first-arc indexes, and the look-up of the right one's arcs; `exact` where none of these is for any symbol.
 pub record Walkable (left : List ℕ) (lfirst : ℕ) (lindex right : List ℕ) (rfirst : ℕ) (rindex : List ℕ)
-    (heads chain again : List ℕ) : Type 0 where
+    (heads chain again : List ℕ) (exact : Bool) : Type 0 where
   pub left-open : Opened left lfirst
   pub left-index : Indexed (decode left) lindex
   pub right-open : Opened right rfirst
   pub right-index : Indexed (decode right) rindex
   pub right-lookup : Lookup (decode right) heads chain again
+  pub right-named : exact ≡ true → named (decode right) ≡ true

@@ -1,6 +1,9 @@
 // Composing two transducers into lent buffers.
+ghost use mathlib.Core.Path.{_≡_};
+ghost use mathlib.Core.Bool.{true};
 ghost use lib.ListN.{length};
 ghost use Rattle.transducer.specs.Format.{decode};
+ghost use Rattle.transducer.specs.Each.{named};
 ghost use Rattle.transducer.specs.Leaf.{Finals-by-state};
 ghost use Rattle.explore.specs.Explore.{built-refusal};
 ghost use Rattle.compose.specs.Compose.{composed};
@@ -32,11 +35,16 @@ pub fn compose(
         (compose-refusal (now (left .entry)) (now (right .entry)) (length (now (table .entry))) (length (now (origins .entry))) (length (now (states .entry))))
         r (now (table .entry)) (now (table .exit)) (now (origins .entry)) (now (origins .exit)) (now (states .entry)) (now (states .exit)) ⌝ }
 {
-    let a = transducer::refusal(left);
+    let l = transducer::look(left, false);
+    let a = l.refusal;
     if a != 0 {
         return transducer::refused(a);
     }
-    let b = transducer::refusal(right);
+    if !transducer::all_named(left, l.named) {
+        return transducer::refused(18);
+    }
+    let r = transducer::look(right, false);
+    let b = r.refusal;
     if b != 0 {
         return transducer::refused(b);
     }
@@ -49,18 +57,21 @@ pub fn compose(
     if states.len() < MAX_STATES {
         return transducer::refused(10);
     }
-    compose_into(left, right, table, origins, states)
+    let exact = transducer::all_named(right, r.named);
+    compose_into(left, right, exact, table, origins, states)
 }
 
-// Composes two accepted transducers into buffers that are long enough.
+// Composes two accepted transducers into buffers that are long enough; `exact` only where no right arc is for any symbol.
 fn compose_into(
     left: &[u8],
     right: &[u8],
+    exact: bool,
     table: &mut [u8],
     origins: &mut [u16],
     states: &mut [u32],
 ) -> Written
-    requires { ⌜ Composable (now left) (now right) (length (now table)) (length (now origins)) (length (now states)) ⌝ }
+    requires { ⌜ Composable (now left) (now right) (length (now table)) (length (now origins)) (length (now states))
+        × (exact ≡ true → named (decode (now right)) ≡ true) ⌝ }
     ensures { λ r. ⌜ Compose-says (now (left .entry)) (now (right .entry))
         (built-refusal (composed (decode (now (left .entry))) (decode (now (right .entry))) .result))
         r (now (table .entry)) (now (table .exit)) (now (origins .entry)) (now (origins .exit)) (now (states .entry)) (now (states .exit)) ⌝ }
@@ -93,12 +104,13 @@ fn compose_into(
         &rheads,
         &chain,
         &again,
+        exact,
         first,
         table,
         origins,
         states,
     );
-    if w.full {
+    if w.full != 0 {
         return finish::refuse(table, origins, states, 11);
     }
     let arcs = w.arcs;
@@ -131,7 +143,7 @@ fn write_out(
     let count = w.states;
     let arcs = w.arcs;
     let f = finish::put_finals(lcodes, rcodes, states, count, table);
-    if w.dear {
+    if w.dear != 0 {
         return finish::refuse(table, origins, states, 13);
     }
     if f.dear {

@@ -4,12 +4,14 @@ ghost use mathlib.Core.Bool.{true, false, cond};
 ghost use Prim.Native.Nat.{_≤_, _<_};
 ghost use lib.ListN.{length, getD};
 ghost use Rattle.transducer.specs.Format.{max-states, max-bytes, max-origins, decode};
+ghost use Rattle.transducer.specs.Path.{arc};
+ghost use Rattle.transducer.specs.Each.{named};
 ghost use Rattle.transducer.specs.Leaf.{Opened};
 ghost use Rattle.explore.specs.Walk.{all-taken, state-served, traced-by, Records, Walk-says};
 ghost use Rattle.steps.specs.Steps.{first-state, origin-pair};
-ghost use Rattle.steps.specs.Lookup.{Again};
+ghost use Rattle.steps.specs.Lookup.{Again, Rest};
 ghost use Rattle.steps.specs.Packing.{pack, unpacked};
-ghost use Rattle.steps.specs.Runs.{Takeable, In-both};
+ghost use Rattle.steps.specs.Runs.{Takeable, Linked, In-both};
 ghost use Rattle.compose.specs.Walk.{key-steps, key-walk, Walkable};
 ghost use Rattle.compose.specs.Taking.{run-left, Holds, Takes};
 use explore::BUCKETS;
@@ -97,7 +99,7 @@ fn take_one(
             states: count,
             arcs: w.arcs,
             dear: w.dear,
-            full: true,
+            full: 1,
         };
     }
     let next = Walk {
@@ -109,7 +111,7 @@ fn take_one(
     record_step(table, origins, next, source, s, number)
 }
 
-// Takes the steps of a run with right arcs, from a state of number `source`; the first of them with right arc `from`.
+// Takes the steps of a run along the links of right arcs, from a state of number `source`; the first of them with right arc `from`.
 fn take_each(
     right: &[u8],
     rfirst: usize,
@@ -125,7 +127,8 @@ fn take_each(
     heads: &mut [u16; BUCKETS],
     links: &mut [u16; MAX_STATES],
 ) -> Walk
-    requires { ⌜ Opened (now right) rfirst × Again (decode (now right)) 0 (now again) × Takeable (decode (now right)) r from to × (r .alone ≡ false) ⌝ }
+    requires { ⌜ Opened (now right) rfirst × Linked (decode (now right)) (r .label) (now again) from to × Takeable (decode (now right)) r from to
+        × (r .alone ≡ false) ⌝ }
     requires { ⌜ Holds w (now table) (now origins) (now states) (now heads) (now links) ⌝ }
     ensures { λ z. ⌜ Takes (all-taken source (run-left (decode (now (right .entry))) r to from)) w z (now (table .entry)) (now (table .exit))
         (now (origins .entry)) (now (origins .exit)) (now (states .entry)) (now (states .exit))
@@ -137,10 +140,16 @@ fn take_each(
         let s = steps::step_of(r, right, rfirst, j);
         let key = s.target;
         let count = walk.states;
-        // A state met before keeps the number it was first given.
+        // A state met before keeps the number it was first given, and a new one is stored where the search ends.
         let mut next = heads[explore::bucket(key)] as usize;
         let number = loop {
             if next == 0 {
+                if count == FULL {
+                    walk.full = 1;
+                    return walk;
+                }
+                explore::insert(states, heads, links, count, key);
+                walk.states = count + 1;
                 break count;
             }
             next -= 1;
@@ -149,11 +158,6 @@ fn take_each(
             }
             next = links[next] as usize;
         };
-        if number == FULL {
-            walk.full = true;
-            return walk;
-        }
-        walk.states = explore::store_new(states, heads, links, count, key, number);
         walk = record_step(table, origins, walk, source, s, number);
         let link = again[j] as usize;
         if link == 0 {
@@ -164,11 +168,13 @@ fn take_each(
     walk
 }
 
-// Takes the steps of a run. One alone is told from the others once, not at each step.
+// Takes the steps of a run. One alone is told from the others once, not at each step. Where right arcs for any symbol may fit too, each step is a part by
+// itself, since links lead past arcs of the other kind. So the steps' own loop has no test of it.
 fn take_run(
     right: &[u8],
     rfirst: usize,
     again: &[u16; MAX_ARCS],
+    exact: bool,
     r: Run,
     source: u16,
     from: usize,
@@ -180,7 +186,9 @@ fn take_run(
     heads: &mut [u16; BUCKETS],
     links: &mut [u16; MAX_STATES],
 ) -> Walk
-    requires { ⌜ Opened (now right) rfirst × Again (decode (now right)) 0 (now again) × Takeable (decode (now right)) r from to ⌝ }
+    requires { ⌜ Opened (now right) rfirst × Again (decode (now right)) 0 (now again) × Takeable (decode (now right)) r from to
+        × (exact ≡ true → named (decode (now right)) ≡ true)
+        × (r .alone ≡ false → from < to → Rest (decode (now right)) (arc (decode (now right)) from .source) from to) ⌝ }
     requires { ⌜ Holds w (now table) (now origins) (now states) (now heads) (now links) ⌝ }
     ensures { λ z. ⌜ Takes (all-taken source (run-left (decode (now (right .entry))) r to from)) w z (now (table .entry)) (now (table .exit))
         (now (origins .entry)) (now (origins .exit)) (now (states .entry)) (now (states .exit))
@@ -202,21 +210,33 @@ fn take_run(
             links,
         );
     }
-    take_each(
-        right,
-        rfirst,
-        again,
-        r,
-        source,
-        from,
-        to,
-        w,
-        table,
-        origins,
-        states,
-        heads,
-        links,
-    )
+    let label = r.label;
+    let mixed = !exact & (label != 0);
+    let mut walk = w;
+    let mut j = from;
+    while j < to {
+        let stop = steps::links_end(mixed, j, to);
+        walk = take_each(
+            right,
+            rfirst,
+            again,
+            r,
+            source,
+            j,
+            stop,
+            walk,
+            table,
+            origins,
+            states,
+            heads,
+            links,
+        );
+        if walk.full != 0 {
+            return walk;
+        }
+        j = steps::next_fit(right, rfirst, mixed, label, stop, to);
+    }
+    walk
 }
 
 // The right arc behind those of a run that begins there: a left arc alone takes none, and counts as one.
@@ -240,6 +260,7 @@ fn serve(
     rheads: &[u16; LABEL_BUCKETS],
     chain: &[u16; MAX_ARCS],
     again: &[u16; MAX_ARCS],
+    exact: bool,
     source: usize,
     w: Walk,
     table: &mut [u8],
@@ -248,7 +269,7 @@ fn serve(
     heads: &mut [u16; BUCKETS],
     links: &mut [u16; MAX_STATES],
 ) -> Walk
-    requires { ⌜ Walkable (now left) lfirst (now lindex) (now right) rfirst (now rindex) (now rheads) (now chain) (now again) × (source < w .states) ⌝ }
+    requires { ⌜ Walkable (now left) lfirst (now lindex) (now right) rfirst (now rindex) (now rheads) (now chain) (now again) exact × (source < w .states) ⌝ }
     requires { ⌜ In-both (decode (now left)) (decode (now right)) (unpacked (getD (now states) source 0)) ⌝ }
     requires { ⌜ Holds w (now table) (now origins) (now states) (now heads) (now links) ⌝ }
     ensures { λ z. ⌜ Takes (state-served (key-steps (decode (now (left .entry))) (decode (now (right .entry)))) source) w z
@@ -274,6 +295,7 @@ fn serve(
             rfirst,
             rheads,
             chain,
+            exact,
             q as u16,
             to,
         );
@@ -283,6 +305,7 @@ fn serve(
             right,
             rfirst,
             again,
+            exact,
             r,
             source as u16,
             at.j,
@@ -294,7 +317,7 @@ fn serve(
             heads,
             links,
         );
-        if walk.full {
+        if walk.full != 0 {
             return walk;
         }
         i = at.i + 1;
@@ -313,12 +336,13 @@ pub fn walk_all(
     rheads: &[u16; LABEL_BUCKETS],
     chain: &[u16; MAX_ARCS],
     again: &[u16; MAX_ARCS],
+    exact: bool,
     first: u32,
     table: &mut [u8],
     origins: &mut [u16],
     states: &mut [u32],
 ) -> Walk
-    requires { ⌜ Walkable (now left) lfirst (now lindex) (now right) rfirst (now rindex) (now rheads) (now chain) (now again) ⌝ }
+    requires { ⌜ Walkable (now left) lfirst (now lindex) (now right) rfirst (now rindex) (now rheads) (now chain) (now again) exact ⌝ }
     requires { ⌜ first ≡ pack (first-state (decode (now left)) (decode (now right))) ⌝ }
     requires { ⌜ (max-bytes ≤ length (now table)) × (max-origins ≤ length (now origins)) × (max-states ≤ length (now states)) ⌝ }
     ensures { λ r. ⌜ Walk-says 2 (key-walk (decode (now (left .entry))) (decode (now (right .entry)))) r (now (table .entry)) (now (table .exit))
@@ -330,8 +354,8 @@ pub fn walk_all(
     let mut walk = Walk {
         states: 1,
         arcs: 0,
-        dear: false,
-        full: false,
+        dear: 0,
+        full: 0,
     };
     let mut s = 0;
     while s < walk.states {
@@ -345,6 +369,7 @@ pub fn walk_all(
             rheads,
             chain,
             again,
+            exact,
             s,
             walk,
             table,
@@ -353,7 +378,7 @@ pub fn walk_all(
             &mut heads,
             &mut links,
         );
-        if walk.full {
+        if walk.full != 0 {
             return walk;
         }
         s += 1;

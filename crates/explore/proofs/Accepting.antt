@@ -10,7 +10,20 @@ use Rattle.transducer.specs.Path.{runs, ends, accepts, is-final, read-by, writt
 use Rattle.transducer.specs.Weight.{plus, Weight}
 use Rattle.explore.specs.Explore.{Step, Decides, Built, built}
 use Rattle.explore.proofs.Parts.{built-start, built-some, built-first, built-final, built-final-weight}
-use Rattle.explore.proofs.Trails.{Trail, inputs, outputs, weights, along, Once, read-along, written-along, cost-along, along-once, path-trail, trail-path}
+use Rattle.explore.proofs.Trails.{
+  Trail,
+  inputs,
+  outputs,
+  weights,
+  along,
+  Once,
+  read-along,
+  written-along,
+  cost-along,
+  along-once,
+  path-trail,
+  trail-path,
+}
 
 -- The steps of ss lead from the first state to y, and y is final.
 pub record Accepting {A O : Type 0} (steps : A → List (Step A O)) (final : A → Bool) (first : A) (ss : List (Step A O)) (y : A) : Type 0 where

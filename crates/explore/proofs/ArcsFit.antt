@@ -14,12 +14,13 @@ use Rattle.wire.specs.Bytes.{every}
 use Rattle.wire.proofs.Places.{every-getD}
 use Rattle.wire.proofs.Bool.{and-true}
 use Rattle.transducer.specs.declared.Arc.{Arc}
-use Rattle.transducer.specs.Format.{Transducer, barred, labels-good, states-good, all-labels-good}
+use Rattle.transducer.specs.Format.{Transducer, any, states-good}
+use Rattle.transducer.specs.Each.{plain}
 use Rattle.transducer.specs.Weight.{Weight}
 use Rattle.explore.specs.Explore.{Step, Decides, Built, built}
 use Rattle.explore.proofs.Member.{Mem}
 use Rattle.explore.proofs.Parts.{built-states}
-use Rattle.explore.proofs.Built.{Labelled, every-arc, built-labels, built-states-good}
+use Rattle.explore.proofs.Built.{Labelled, every-arc, built-plain, built-states-good}
 
 -- Numbers that two bytes hold, and a weight that four hold.
 pub record Arc-fits (a : Arc) : Type 0 where
@@ -45,7 +46,7 @@ module _ {A O : Type 0} (same : A → A → Bool) (steps : A → List (Step A O)
 
   pub built-fits : Decides same → length (b .states) ≤ 1024 → Labelled steps → Weighing steps → (k : ℕ) (d : Arc)
       → k < length (b .result .arcs) → Arc-fits (getD (b .result .arcs) k d)
-  unfolding states-good all-labels-good labels-good
+  unfolding states-good plain
   built-fits right few labelled light k d l =
       let z : Transducer = b .result in
       let a : Arc = getD (z .arcs) k d in
@@ -55,13 +56,13 @@ module _ {A O : Type 0} (same : A → A → Bool) (steps : A → List (Step A O)
       (every (λ a. ltb (a .source) (z .states) && ltb (a .target) (z .states)) (z .arcs)) good .1 in
       let ends = and-true (ltb (a .source) (z .states)) (ltb (a .target) (z .states))
       (every-getD (λ a. ltb (a .source) (z .states) && ltb (a .target) (z .states)) (z .arcs) k d arcs l) in
-      let all : all-labels-good z ≡ true = built-labels same steps final weight first labelled in
-      let labels = and-true (ltb (a .input) barred) (ltb (a .output) barred)
-      (every-getD (λ a. ltb (a .input) barred && ltb (a .output) barred) (z .arcs) k d all l) in
+      let all : plain z ≡ true = built-plain same steps final weight first labelled in
+      let labels = and-true (ltb (a .input) any) (ltb (a .output) any)
+      (every-getD (λ a. ltb (a .input) any && ltb (a .output) any) (z .arcs) k d all l) in
       record {
         source = omega (arith, ltb-true (a .source) (z .states) (ends .0));
-        input = omega (arith, ltb-true (a .input) barred (labels .0));
-        output = omega (arith, ltb-true (a .output) barred (labels .1));
+        input = omega (arith, ltb-true (a .input) any (labels .0));
+        output = omega (arith, ltb-true (a .output) any (labels .1));
         target = omega (arith, ltb-true (a .target) (z .states) (ends .1));
         weight =
             record {

@@ -1,6 +1,6 @@
 -- What is built can be written exactly where none of 11, 12 and 13 refuses it. Assumes nothing.
 use mathlib.Core.Path.{_≡_, refl}
-use mathlib.Core.Bool.{Bool, true, false, _&&_, not, cond}
+use mathlib.Core.Bool.{Bool, true, _&&_, cond}
 use mathlib.Core.Logic.{_↔_}
 use mathlib.Core.List.{List, [], _∷_, _++_}
 use Prim.Native.Nat.{ℕ, suc, _+_, _≤_, _<_}
@@ -8,13 +8,28 @@ use native.Mathlib.Nat.{add-zero}
 use native.Mathlib.Omega.{arith}
 use lib.Dec.{ltb, leb}
 use lib.ListN.{length, getD}
-use borrow.Author.Tests.{ltb-true, ltb-false, lt-ltb, le-ltb, leb-true, le-leb, not-false}
+use borrow.Author.Tests.{ltb-true, ltb-false, lt-ltb, le-ltb, leb-true, le-leb}
 use Rattle.wire.specs.Bytes.{every}
 use Rattle.wire.proofs.Places.{every-append}
 use Rattle.wire.proofs.Bool.{and-true, true-and, by-test, passed-last, not-raised}
 use Rattle.transducer.specs.declared.Arc.{Arc}
-use Rattle.transducer.specs.Format.{Transducer, barred, head-good, states-good, sources-stay, order-good, labels-good, all-labels-good, weights-good, first-of, content-refusal, Good}
+use Rattle.transducer.specs.Format.{
+  Transducer,
+  any,
+  head-good,
+  states-good,
+  sources-stay,
+  order-good,
+  labels-good,
+  all-labels-good,
+  weights-good,
+  first-of,
+  content-refusal,
+  Good,
+}
+use Rattle.transducer.specs.Each.{plain}
 use Rattle.transducer.proofs.GoodParts.{good-parts}
+use Rattle.transducer.proofs.Labels.{unbarred-good}
 use Rattle.transducer.specs.Weight.{Weight}
 use Rattle.explore.specs.Explore.{Step, Decides, Built, targets, built, built-refusal, place, arcs-here, arcs-from}
 use Rattle.explore.proofs.Member.{At, Mem, at-length, at-getD, mem-here, mem-later, mem-there, place-length}
@@ -24,9 +39,9 @@ use Rattle.explore.proofs.Arcs.{arc-of}
 use Rattle.explore.proofs.OneArc.{step-target}
 use Rattle.explore.proofs.Parts.{built-start, built-states, built-some, length-finals}
 
--- No step of any state bears the barred label.
+-- No step of any state bears 65,535.
 abbrev pub Labelled : {A O : Type 0} → (steps : A → List (Step A O)) → Type 0
-Labelled {A} {O} steps = (x : A) (s : Step A O) → Mem s (steps x) → (s .input < barred) × (s .output < barred)
+Labelled {A} {O} steps = (x : A) (s : Step A O) → Mem s (steps x) → (s .input < any) × (s .output < any)
 
 sources-lower : (floor i : ℕ) (as' : List Arc) → floor ≤ i → sources-stay i as' ≡ true → sources-stay floor as' ≡ true
 unfolding sources-stay
@@ -112,12 +127,18 @@ module _ {A O : Type 0} (same : A → A → Bool) (steps : A → List (Step A O)
   unfolding built order-good
   built-order = rw (finals-from-rise final weight 0 0 (b .states) (omega arith), sources-from same (b .states) steps 0 0 (b .states) (omega arith))
 
-  pub built-labels : Labelled steps → all-labels-good (b .result) ≡ true
-  unfolding built all-labels-good labels-good
-  built-labels h = every-arc same (b .states) (λ a. labels-good (a .input) (a .output)) steps 0 (b .states) one
+  pub built-plain : Labelled steps → plain (b .result) ≡ true
+  unfolding built plain
+  built-plain h = every-arc same (b .states) (λ a. ltb (a .input) any && ltb (a .output) any) steps 0 (b .states) one
     where
-      one : (k : ℕ) (x : A) (s : Step A O) → At (b .states) k x → Mem s (steps x) → labels-good (s .input) (s .output) ≡ true
-      one k x s q m = rw (lt-ltb (s .input) barred (h x s m .0), lt-ltb (s .output) barred (h x s m .1))
+      one : (k : ℕ) (x : A) (s : Step A O) → At (b .states) k x → Mem s (steps x) → ltb (s .input) any && ltb (s .output) any ≡ true
+      one k x s q m = rw (lt-ltb (s .input) any (h x s m .0), lt-ltb (s .output) any (h x s m .1))
+
+  pub built-labels : Labelled steps → all-labels-good (b .result) ≡ true
+  unfolding built all-labels-good
+  built-labels h =
+      every-arc same (b .states) (λ a. labels-good (a .input) (a .output)) steps 0 (b .states)
+      (λ k x s q m. unbarred-good (s .input) (s .output) (record { read = h x s m .0; written = h x s m .1 }))
 
   module _ (right : Decides same) where
     pub built-states-good : length (b .states) ≤ 1024 → states-good (b .result) ≡ true

@@ -8,7 +8,21 @@ use lib.ListN.{length, getD, take}
 use Rattle.wire.proofs.Bool.{by-test, clash, is-false}
 use Rattle.transducer.proofs.Members.{Distinct as Apart, no-longer}
 use Rattle.explore.specs.Explore.{Decides, there, place}
-use Rattle.explore.proofs.Member.{At, Mem, mem-in, in-mem, getD-at, there-append, at-there, there-mem, mem-here, mem-later, mem-take, not-there-not-mem, there-at}
+use Rattle.explore.proofs.Member.{
+  At,
+  Mem,
+  mem-in,
+  in-mem,
+  getD-at,
+  there-append,
+  at-there,
+  there-mem,
+  mem-here,
+  mem-later,
+  mem-take,
+  not-there-not-mem,
+  there-at,
+}
 
 -- No element stands twice.
 abbrev pub Distinct : {A : Type 0} → (same : A → A → Bool) → List A → Type 0

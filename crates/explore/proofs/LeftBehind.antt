@@ -1,16 +1,16 @@
 -- Which of 11, 12 and 13 is given, and laws of `left-behind`. Assumes nothing.
 use mathlib.Core.Path.{_≡_, refl, ap}
-use mathlib.Core.Bool.{Bool, true, false, _&&_, not, cond, and-false}
+use mathlib.Core.Bool.{Bool, true, false, not, cond, and-false}
 use mathlib.Core.List.{List, []}
 use Prim.Native.Nat.{ℕ, _≤_, _<_}
 use native.Mathlib.Omega.{arith}
 use lib.Dec.{ltb, leb, eqb}
 use lib.ListN.{length}
-use borrow.Author.Tests.{lt-ltb, le-ltb, le-leb, lt-leb, ne-eqb, leb-true, not-true, not-false}
+use borrow.Author.Tests.{lt-ltb, le-ltb, le-leb, lt-leb, ne-eqb, not-true, not-false}
 use Rattle.wire.specs.Bytes.{every, filled}
 use Rattle.transducer.specs.Format.{Transducer, weight-good, weights-good}
-use Rattle.explore.specs.Explore.{built-refusal, left-behind}
-use Rattle.wire.proofs.Bool.{by-test, clash}
+use Rattle.explore.specs.Explore.{built-refusal, keeps, left-behind}
+use Rattle.wire.proofs.Bool.{by-test, clash, never, or-right}
 
 module _ (t : Transducer) where
   abbrev arcs-light : Bool
@@ -44,36 +44,45 @@ module _ (t : Transducer) where
     unfolding built-refusal
     built-0 h w = rw (le-ltb 1024 (t .states) few, le-ltb 3072 (length (t .arcs)) h, w)
 
-late-chain : (a b c : Bool) → leb (cond a 11 (cond b 12 (cond c 0 13))) 10 ≡ true → _≡_ {A = ℕ} (cond a 11 (cond b 12 (cond c 0 13))) 0
-late-chain true b c h = absurd (omega (arith, leb-true 11 10 h))
-late-chain false true c h = absurd (omega (arith, leb-true 12 10 h))
+late-chain : (a b c : Bool) → keeps (cond a 11 (cond b 12 (cond c 0 13))) ≡ true → _≡_ {A = ℕ} (cond a 11 (cond b 12 (cond c 0 13))) 0
+unfolding keeps
+late-chain true b c h = never h
+late-chain false true c h = never h
 late-chain false false true h = refl
-late-chain false false false h = absurd (omega (arith, leb-true 13 10 h))
+late-chain false false false h = never h
 
--- A refusal of what is built is none of 1 to 10.
-pub built-late : (t : Transducer) → leb (built-refusal t) 10 ≡ true → built-refusal t ≡ 0
+-- A refusal of what is built keeps no buffer.
+pub built-late : (t : Transducer) → keeps (built-refusal t) ≡ true → built-refusal t ≡ 0
 unfolding built-refusal
 built-late t h = late-chain (ltb 1024 (t .states)) (ltb 3072 (length (t .arcs))) (weights-good t) h
 
 -- left-behind
 
-module _ (before written : List ℕ) where
-  pub behind-early : (number : ℕ) → (number ≡ 0 → ⊥) → number ≤ 10 → left-behind number before written ≡ before
-  unfolding left-behind
-  behind-early number bad small = rw (ne-eqb number 0 bad, le-leb number 10 small)
+pub early-keeps : (number : ℕ) → number ≤ 10 → keeps number ≡ true
+unfolding keeps
+early-keeps number small = rw (le-leb number 10 small)
 
-  pub behind-zeroed : (number : ℕ) → 10 < number → left-behind number before written ≡ filled (length before) []
+pub late-keeps : (number : ℕ) → 13 < number → keeps number ≡ true
+unfolding keeps
+late-keeps number high = or-right (leb number 10) (ltb 13 number) (lt-ltb 13 number high)
+
+module _ (before written : List ℕ) where
+  pub behind-kept : (number : ℕ) → (number ≡ 0 → ⊥) → keeps number ≡ true → left-behind number before written ≡ before
   unfolding left-behind
-  behind-zeroed number high = rw (ne-eqb number 0 (omega arith), lt-leb number 10 high)
+  behind-kept number bad kept = rw (ne-eqb number 0 bad, kept)
+
+  pub behind-zeroed : (number : ℕ) → 10 < number → number < 14 → left-behind number before written ≡ filled (length before) []
+  unfolding left-behind keeps
+  behind-zeroed number high low = rw (ne-eqb number 0 (omega arith), lt-leb number 10 high, le-ltb 13 number (omega arith))
 
   pub behind-written : (number : ℕ) → number ≡ 0 → left-behind number before written ≡ filled (length before) written
   unfolding left-behind
   behind-written number is = rw is
 
-  -- Only the length of a lent buffer counts where the number is not one of 1 to 10.
-  pub behind-same : (number : ℕ) (before' : List ℕ) → (leb number 10 ≡ true → number ≡ 0) → length before ≡ length before'
+  -- Only the length of a lent buffer counts where the number does not keep it.
+  pub behind-same : (number : ℕ) (before' : List ℕ) → (keeps number ≡ true → number ≡ 0) → length before ≡ length before'
       → left-behind number before written ≡ left-behind number before' written
   unfolding left-behind
   behind-same number before' late long =
       by-test (eqb number 0) (λ e. rw (e, long))
-      (λ e. by-test (leb number 10) (λ l. clash (ap (λ (n : ℕ). eqb n 0) (late l)) e) (λ l. rw (e, l, long)))
+      (λ e. by-test (keeps number) (λ l. clash (ap (λ (n : ℕ). eqb n 0) (late l)) e) (λ l. rw (e, l, long)))

@@ -9,7 +9,24 @@ use lib.ListN.{length, getD, take, length-append, List·getD-append}
 use lib.Seq.{take-append-seam}
 use Rattle.explore.specs.Explore.{Decides, there, place, met}
 use Rattle.wire.proofs.Bool.{by-test}
-use Rattle.explore.proofs.Member.{At, Mem, at-left, at-same, getD-at, mem-eq, mem-left, mem-right, mem-here, mem-cons, mem-later, mem-append, mem-nil, there-append, there-mem, place-left}
+use Rattle.explore.proofs.Member.{
+  At,
+  Mem,
+  at-left,
+  at-same,
+  getD-at,
+  mem-eq,
+  mem-left,
+  mem-right,
+  mem-here,
+  mem-cons,
+  mem-later,
+  mem-append,
+  mem-nil,
+  there-append,
+  there-mem,
+  place-left,
+}
 use Rattle.explore.proofs.Distinct.{Distinct, distinct-snoc}
 
 -- The second list is the first with more at its end.

@@ -1,13 +1,16 @@
--- What the parts of a walk leave in the buffers, over plain lists: a key stored, an arc written, its origins written. Assumes nothing.
-use mathlib.Core.Path.{_≡_, sym, ap, _∙_}
+-- What the parts of a walk leave in the buffers, over plain lists: a key stored, a flag set, an arc written, its origins written. Assumes
+-- nothing.
+use mathlib.Core.Path.{_≡_, refl, sym, ap, _∙_}
 use mathlib.Core.Bool.{Bool, true, false, _||_, not}
 use mathlib.Core.List.{List, [], _∷_, _++_}
 use Prim.Native.Nat.{ℕ, suc, _+_, _*_, _≤_, _<_, min}
 use native.Mathlib.Nat.{mul-suc, mul-le-mul-left}
 use native.Mathlib.Omega.{arith}
+use lib.Bits.{bitOr}
 use lib.Dec.{ltb, eqb}
 use lib.ListN.{length, length-append}
 use lib.Seq.{sets, length-sets, take-append-le}
+use mir.Val.{boolByte}
 use borrow.Author.Tests.{ltb-true, ltb-false}
 use Rattle.transducer.specs.declared.Arc.{Arc}
 use Rattle.transducer.specs.Format.{weight-good}
@@ -15,8 +18,9 @@ use Rattle.transducer.specs.Encode.{arc-record}
 use Rattle.explore.specs.declared.Walk.{Walk}
 use Rattle.explore.specs.Explore.{there, place}
 use Rattle.explore.specs.Chain.{Chained}
-use Rattle.explore.specs.Walk.{with-key, Arcs-held, Origins-held, Recorded, traced-by, Records}
+use Rattle.explore.specs.Walk.{with-key, flag, Arcs-held, Origins-held, Recorded, traced-by, Records}
 use Rattle.wire.proofs.Bool.{by-test}
+use Rattle.explore.proofs.Member.{place-length}
 use Rattle.explore.proofs.Search.{place-new, place-old}
 use Rattle.explore.proofs.Writing.{written-next, written-full, front-next}
 
@@ -42,15 +46,73 @@ module _ (xs : List ℕ) (key count number : ℕ) (long : length xs ≡ count) (
     unfolding with-key
     stored-old ne chained = rw (found-old ne) (chained, sym long)
 
+-- What a search leaves that stores a new key where it ends: the key's number, the keys with it, and the walk, of which only the states change.
+pub record Key-kept (key : ℕ) (xs : List ℕ) (number : ℕ) (w w' : Walk) (states heads links : List ℕ) : Type 0 where
+  pub number-is : number ≡ place eqb key xs
+  pub small : number < 1024
+  pub chained : Chained (with-key key xs) states heads links
+  pub counted : w' .states ≡ length (with-key key xs)
+  pub rest-stays : w' ≡ record { states = w' .states; arcs = w .arcs; dear = w .dear; full = w .full }
+
+module _ (key : ℕ) {xs : List ℕ} {w w' : Walk} {number : ℕ} {s s' h h' l l' : List ℕ} (long : length xs ≡ w .states) (few : length xs ≤ 1024)
+    (states : s' ≡ s) (heads : h' ≡ h) (links : l' ≡ l) where
+  pub kept-new : place eqb key xs ≡ length xs → (w .states ≡ 1024 → ⊥) → Chained (xs ++ (key ∷ [])) s h l → number ≡ w .states
+      → w' ≡ record { states = w .states + 1; arcs = w .arcs; dear = w .dear; full = w .full } → Key-kept key xs number w w' s' h' l'
+  unfolding with-key
+  kept-new none room chained is walk =
+      let absent : there eqb key xs ≡ false = place-new key xs none in
+      let size : length (xs ++ (key ∷ [])) ≡ w .states + 1 = length-append xs (key ∷ []) ∙ omega arith in
+      record {
+        number-is = is ∙ sym long ∙ sym none;
+        small = omega arith;
+        chained = rw (states, heads, links, absent) chained;
+        counted = rw (walk, absent) (sym size);
+        rest-stays = rw walk;
+      }
+
+  pub kept-old : number ≡ place eqb key xs → there eqb key xs ≡ true → Chained xs s h l → w' ≡ w → Key-kept key xs number w w' s' h' l'
+  unfolding with-key
+  kept-old is old chained walk =
+      record {
+        number-is = is;
+        small = omega (arith, place-length eqb key xs old);
+        chained = rw (states, heads, links, old) chained;
+        counted = rw (walk, old) (sym long);
+        rest-stays = rw walk;
+      }
+
+-- Flags
+
+-- A flag joined with one more test, as code joins them.
+or-flag : (b c : Bool) → bitOr (flag b) (boolByte c) ≡ flag (b || c)
+unfolding flag
+or-flag true true = refl
+or-flag true false = refl
+or-flag false true = refl
+or-flag false false = refl
+
+pub flag-true : (b : Bool) → (flag b ≡ 0 → ⊥) → b ≡ true
+unfolding flag
+flag-true true h = refl
+flag-true false h = absurd (h refl)
+
+pub flag-false : (b : Bool) → flag b ≡ 0 → b ≡ false
+unfolding flag
+flag-false true h = absurd (omega arith)
+flag-false false h = refl
+
 -- An arc written
 
 module _ (as' : List Arc) (dear : Bool) (w w' : Walk) (table : List ℕ) (a : Arc) (held : Arcs-held as' dear w table) where
-  more-dear : w' .dear ≡ w .dear || not (weight-good (a .weight)) → w' .dear ≡ dear || not (weight-good (a .weight))
-  more-dear e = e ∙ ap (λ (d : Bool). d || not (weight-good (a .weight))) (held .dear-is)
+  abbrev light : Bool
+  light = weight-good (a .weight)
 
-  pub arcs-held-next : (table' : List ℕ) → w .arcs < 3072 → w' .arcs ≡ w .arcs + 1 → w' .dear ≡ w .dear || not (weight-good (a .weight))
+  more-dear : w' .dear ≡ bitOr (w .dear) (boolByte (not light)) → w' .dear ≡ flag (dear || not light)
+  more-dear e = e ∙ ap (λ (d : ℕ). bitOr d (boolByte (not light))) (held .dear-is) ∙ or-flag dear (not light)
+
+  pub arcs-held-next : (table' : List ℕ) → w .arcs < 3072 → w' .arcs ≡ w .arcs + 1 → w' .dear ≡ bitOr (w .dear) (boolByte (not light))
       → table' ≡ sets table (10252 + 16 * w .arcs) (arc-record a)
-      → Arcs-held (as' ++ (a ∷ [])) (dear || not (weight-good (a .weight))) w' table'
+      → Arcs-held (as' ++ (a ∷ [])) (dear || not light) w' table'
   arcs-held-next table' less counts dears t =
       let long : length as' ≡ w .arcs = omega (arith, held .arcs-are) in
       record {
@@ -60,8 +122,8 @@ module _ (as' : List Arc) (dear : Bool) (w w' : Walk) (table : List ℕ) (a : Ar
         written = rw t (written-next 10252 (w .arcs) as' a table long less (held .table-long) (held .written));
       }
 
-  pub arcs-held-full : 3072 ≤ w .arcs → w' .arcs ≡ 3073 → w' .dear ≡ w .dear || not (weight-good (a .weight))
-      → Arcs-held (as' ++ (a ∷ [])) (dear || not (weight-good (a .weight))) w' table
+  pub arcs-held-full : 3072 ≤ w .arcs → w' .arcs ≡ 3073 → w' .dear ≡ bitOr (w .dear) (boolByte (not light))
+      → Arcs-held (as' ++ (a ∷ [])) (dear || not light) w' table
   arcs-held-full full counts dears =
       let long : 3072 ≤ length as' = omega (arith, held .arcs-are) in
       record {

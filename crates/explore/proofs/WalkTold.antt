@@ -15,15 +15,25 @@ use Rattle.transducer.proofs.Encode.{length-final-records, length-encode, clear
 use Rattle.transducer.specs.Weight.{Weight}
 use Rattle.explore.specs.declared.Walk.{Walk}
 use Rattle.explore.specs.Explore.{Step, Built, built, built-refusal, finals-from}
-use Rattle.explore.specs.Walk.{Keyed, all-origins, explored, Told, stored-arcs}
+use Rattle.explore.specs.Walk.{Keyed, all-origins, explored, flag, Told, stored-arcs}
 use Rattle.explore.proofs.ArcsFit.{Weighing, built-fits}
 use Rattle.explore.proofs.Built.{Labelled, over-11}
 use Rattle.explore.proofs.EncodeStored.{encode-stored, filled-front}
-use Rattle.explore.proofs.ExploredKeys.{Keying, explored-mirrors, explored-keys, explored-length, explored-key, explored-arcs, explored-origins, explored-dear}
+use Rattle.explore.proofs.ExploredKeys.{
+  Keying,
+  explored-mirrors,
+  explored-keys,
+  explored-length,
+  explored-key,
+  explored-arcs,
+  explored-origins,
+  explored-dear,
+}
 use Rattle.explore.proofs.LeftBehind.{dear-arcs, dear-finals, none-dear, built-12, built-13, built-0}
 use Rattle.explore.proofs.Member.{Mem, mem-here, mem-later}
 use Rattle.explore.proofs.MovedArcs.{drop-sets-before, stored-arcs-are}
 use Rattle.explore.proofs.Parts.{built-start, built-states, length-steps, length-finals}
+use Rattle.explore.proofs.Recording.{flag-true, flag-false}
 use Rattle.explore.proofs.Walking.{Key-of}
 
 pub length-all-origins : {A O : Type 0} (width : ℕ) (os : O → List ℕ) → ((o : O) → length (os o) ≡ width) → (ss : List (Step A O))
@@ -75,8 +85,8 @@ module _ {A O : Type 0} {same : A → A → Bool} {steps : A → List (Step A O)
     pub told-arcs : w .arcs ≡ min (length (z .arcs)) 3073
     told-arcs = told .recorded .arcs-held .arcs-are ∙ ap (λ (as' : List Arc). min (length as') 3073) (explored-arcs k final weight told-few)
 
-    pub told-dear : w .dear ≡ not (every (λ a. weight-good (a .weight)) (z .arcs))
-    told-dear = told .recorded .arcs-held .dear-is ∙ explored-dear k final weight told-few
+    pub told-dear : w .dear ≡ flag (not (every (λ a. weight-good (a .weight)) (z .arcs)))
+    told-dear = told .recorded .arcs-held .dear-is ∙ ap flag (explored-dear k final weight told-few)
 
     pub told-finals : length (z .finals) ≤ 1024
     told-finals = omega (arith, length-finals same steps final weight first, told-few)
@@ -116,14 +126,14 @@ module _ {A O : Type 0} {same : A → A → Bool} {steps : A → List (Step A O)
       pub arcs-long : length (z .arcs) ≡ w .arcs
       arcs-long = omega (arith, told-arcs)
 
-      pub told-13-arcs : w .dear ≡ true → built-refusal z ≡ 13
-      told-13-arcs dear = built-13 z few-states (omega (arith, arcs-long)) (dear-arcs z (sym told-dear ∙ dear))
+      pub told-13-arcs : (w .dear ≡ 0 → ⊥) → built-refusal z ≡ 13
+      told-13-arcs dear = built-13 z few-states (omega (arith, arcs-long)) (dear-arcs z (flag-true _ (λ e. dear (told-dear ∙ e))))
 
       pub told-13-finals : not (every (λ f. weight-good (f .weight)) (z .finals)) ≡ true → built-refusal z ≡ 13
       told-13-finals dear = built-13 z few-states (omega (arith, arcs-long)) (dear-finals z dear)
 
-      pub told-0 : w .dear ≡ false → not (every (λ f. weight-good (f .weight)) (z .finals)) ≡ false → built-refusal z ≡ 0
-      told-0 cheap light = built-0 z few-states (omega (arith, arcs-long)) (none-dear z (sym told-dear ∙ cheap) light)
+      pub told-0 : w .dear ≡ 0 → not (every (λ f. weight-good (f .weight)) (z .finals)) ≡ false → built-refusal z ≡ 0
+      told-0 cheap light = built-0 z few-states (omega (arith, arcs-long)) (none-dear z (flag-false _ (sym told-dear ∙ cheap)) light)
 
       -- The arcs stand where they were written, once the finals are stored in front of them.
       pub arcs-stored : Labelled steps → Weighing steps → (t1 : List ℕ) → t1 ≡ sets table 12 (final-records (z .finals))

@@ -1,7 +1,7 @@
 -- What a walk's loops keep, over plain lists: a step taken, the steps of one state (`Taking`), and the whole walk (`Walking`). Each has a law
 -- for its beginning, its next turn and its ways out. Assumes nothing.
 use mathlib.Core.Path.{_≡_, refl, sym, ap, subst, _∙_}
-use mathlib.Core.Bool.{Bool, true, false}
+use mathlib.Core.Bool.{Bool, false}
 use mathlib.Core.List.{List, [], _∷_, _++_}
 use Prim.Native.Nat.{ℕ, suc, _+_, _*_, _≤_, _<_}
 use native.Mathlib.Nat.{mul-zero}
@@ -23,6 +23,7 @@ use Rattle.explore.specs.Walk.{
   state-served,
   begun,
   explored,
+  flag,
   Recorded,
   traced-by,
   Records,
@@ -30,7 +31,6 @@ use Rattle.explore.specs.Walk.{
   Went,
   Told,
 }
-use Rattle.wire.proofs.Bool.{clash}
 use Rattle.explore.proofs.Member.{mem-getD}
 use Rattle.explore.proofs.Chain.{stored-at}
 use Rattle.explore.proofs.Search.{place-new, place-le}
@@ -84,11 +84,11 @@ walked-next width b source number count s w w' table table' origins origins' sta
 
 pub went-done : {width : ℕ} {b : Sofar} {w : Walk} {table origins states heads links : List ℕ} → Walked width b w table origins states heads links
     → Went width b w table origins states heads links
-went-done k = record { done = λ h. k; full = λ h. clash h (k .not-full) }
+went-done k = record { done = λ h. k; full = λ h. absurd (h (k .not-full)) }
 
-pub went-full : {width : ℕ} {b : Sofar} {w : Walk} {table origins states heads links : List ℕ} → w .full ≡ true → 1024 < length (b .keys)
+pub went-full : {width : ℕ} {b : Sofar} {w : Walk} {table origins states heads links : List ℕ} → (w .full ≡ 0 → ⊥) → 1024 < length (b .keys)
     → Went width b w table origins states heads links
-went-full e over = record { done = λ h. clash e h; full = λ h. over }
+went-full e over = record { done = λ h. absurd (e h); full = λ h. over }
 
 -- The steps of one state, with `rest` left to take
 
@@ -151,10 +151,10 @@ module _ {width source : ℕ} {rest : List Keyed} {goal : Sofar} {w : Walk} {tab
     then-more =
         sym (all-taken-append source ss more (g .sofar)) ∙ sym (ap (λ (zs : List Keyed). all-taken source zs (g .sofar)) are) ∙ g .leads
 
-    pub taking-part : w' .full ≡ false → Taking width source more goal w' table' origins' states' heads' links'
+    pub taking-part : w' .full ≡ 0 → Taking width source more goal w' table' origins' states' heads' links'
     taking-part e = record { sofar = all-taken source ss (g .sofar); walked = went .done e; leads = then-more }
 
-    pub taking-full : w' .full ≡ true → Went width goal w' table' origins' states' heads' links'
+    pub taking-full : (w' .full ≡ 0 → ⊥) → Went width goal w' table' origins' states' heads' links'
     taking-full e =
         let over : 1024 < length (all-taken source (ss ++ more) (g .sofar) .keys) = part-over source ss more (g .sofar) (went .full e) in
         let same : all-taken source (ss ++ more) (g .sofar) ≡ goal = all-taken-append source ss more (g .sofar) ∙ then-more in
@@ -179,8 +179,8 @@ module _ {A O : Type 0} {same : A → A → Bool} {steps : A → List (Step A O)
     {Within : A → Type 0} (k : Keying same steps first pack os next Within) (width : ℕ) where
   pub walking-first : (key : ℕ) (table origins states heads links : List ℕ) → key ≡ pack first → 59404 ≤ length table
       → width * 3072 ≤ length origins → Chained ([] ++ (key ∷ [])) states heads links
-      → Walking pack Within width next (pack first) 0 (record { states = 1; arcs = 0; dear = false; full = false }) table origins states heads links
-  unfolding begun arc-records
+      → Walking pack Within width next (pack first) 0 (record { states = 1; arcs = 0; dear = 0; full = 0 }) table origins states heads links
+  unfolding begun arc-records flag
   walking-first key table origins states heads links is table-long origins-long chained =
       record {
         sofar = begun (pack first);
@@ -230,7 +230,7 @@ module _ {A O : Type 0} {same : A → A → Bool} {steps : A → List (Step A O)
 
       module _ (w' : Walk) (table' origins' states' heads' links' : List ℕ)
           (went : Went width (state-served next s (g .sofar)) w' table' origins' states' heads' links') where
-        pub walking-next : w' .full ≡ false → Walking pack Within width next (pack first) (s + 1) w' table' origins' states' heads' links'
+        pub walking-next : w' .full ≡ 0 → Walking pack Within width next (pack first) (s + 1) w' table' origins' states' heads' links'
         walking-next e =
             let small : s < 1024 = walking-small in
             let step : served-on next s (g .sofar) ≡ served-on next (suc s) (state-served next s (g .sofar)) =
@@ -242,7 +242,7 @@ module _ {A O : Type 0} {same : A → A → Bool} {steps : A → List (Step A O)
               leads = rw (add-one s) (sym step ∙ g .leads);
             }
 
-        pub walking-full : w' .full ≡ true → 1024 < length (explored next (pack first) .keys)
+        pub walking-full : (w' .full ≡ 0 → ⊥) → 1024 < length (explored next (pack first) .keys)
         walking-full e =
             let small : s < 1024 = walking-small in
             subst (λ (z : Sofar). 1024 < length (z .keys)) (g .leads)

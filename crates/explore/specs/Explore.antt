@@ -1,9 +1,9 @@
 -- A transducer built by following steps from a first state: states numbered as first reached, the earliest number served first,
 -- over any kind of state and any step function. Assumes nothing: these are definitions.
 use mathlib.Core.Path.{_≡_}
-use mathlib.Core.Bool.{Bool, true, false, _&&_, _||_, not, cond}
+use mathlib.Core.Bool.{Bool, true, false, _||_, cond}
 use mathlib.Core.List.{List, [], _∷_, _++_, map}
-use Prim.Native.Nat.{ℕ, zero, suc, _+_}
+use Prim.Native.Nat.{ℕ, zero, suc}
 use lib.Dec.{ltb, leb, eqb}
 use lib.ListN.{length, getD}
 use Rattle.wire.specs.Bytes.{filled}
@@ -94,7 +94,11 @@ unfoldable pub built-refusal : Transducer → ℕ
 built-refusal t =
     cond (ltb max-states (t .states)) 11 (cond (ltb max-arcs (length (t .arcs))) 12 (cond (weights-good t) 0 13))
 
--- A lent buffer after a call that builds: as it was for 1 to 10, all zeros for 11 to 13, on success what is written with zeros behind.
+-- Whether a refusal keeps lent buffers: each but 11 to 13 does.
+unfoldable pub keeps : (number : ℕ) → Bool
+keeps number = leb number 10 || ltb 13 number
+
+-- A lent buffer after a call that builds: as it was where a refusal keeps it, all zeros for 11 to 13, on success what is written with zeros behind.
 unfoldable pub left-behind : (number : ℕ) → (before written : List ℕ) → List ℕ
 left-behind number before written =
-    cond (eqb number 0) (filled (length before) written) (cond (leb number 10) before (filled (length before) []))
+    cond (eqb number 0) (filled (length before) written) (cond (keeps number) before (filled (length before) []))

@@ -1,7 +1,7 @@
 -- The walk from a first state by keys: states stand as numbers, and arcs as they are written, with their origins; over any function that
 -- gives the steps of a key. Assumes nothing: these are definitions.
 use mathlib.Core.Path.{_≡_}
-use mathlib.Core.Bool.{Bool, true, false, _||_, not, cond}
+use mathlib.Core.Bool.{Bool, false, _||_, not, cond}
 use mathlib.Core.List.{List, [], _∷_, _++_}
 use Prim.Native.Nat.{ℕ, zero, suc, _+_, _*_, _≤_, _<_, min}
 use lib.Dec.{ltb, leb, eqb}
@@ -79,10 +79,14 @@ begun first = record { keys = first ∷ []; arcs = []; origins = []; dear = fals
 unfoldable pub explored : (next : ℕ → List Keyed) → (first : ℕ) → Sofar
 explored next first = served-from next (max-states + 1) 0 (begun first)
 
+-- A test as a walk keeps it: 1 where it holds, else 0.
+unfoldable pub flag : Bool → ℕ
+flag b = cond b 1 0
+
 -- How a buffer holds the arcs: their records from 10,252 on (behind room for 1,024 finals), at most 3,072 of them.
 pub record Arcs-held (as' : List Arc) (dear : Bool) (w : Walk) (table : List ℕ) : Type 0 where
   pub arcs-are : w .arcs ≡ min (length as') (max-arcs + 1)
-  pub dear-is : w .dear ≡ dear
+  pub dear-is : w .dear ≡ flag dear
   pub table-long : max-bytes ≤ length table
   pub written : take (arc-bytes * min (length as') max-arcs) (drop (arcs-at max-states) table) ≡ arc-records (take max-arcs as')
 
@@ -111,13 +115,13 @@ pub record Records (a : Arc) (w w' : Walk) (table table' : List ℕ) : Type 0 wh
 pub record Walked (width : ℕ) (b : Sofar) (w : Walk) (table origins states heads links : List ℕ) : Type 0 where
   pub chained : Chained (b .keys) states heads links
   pub states-are : w .states ≡ length (b .keys)
-  pub not-full : w .full ≡ false
+  pub not-full : w .full ≡ 0
   pub recorded : Recorded width (b .arcs) (b .origins) (b .dear) w table origins
 
 -- What a part of the walk leaves: either all of its steps are taken, or more than 1,024 states were met.
 pub record Went (width : ℕ) (after : Sofar) (w : Walk) (table origins states heads links : List ℕ) : Type 0 where
-  pub done : w .full ≡ false → Walked width after w table origins states heads links
-  pub full : w .full ≡ true → max-states < length (after .keys)
+  pub done : w .full ≡ 0 → Walked width after w table origins states heads links
+  pub full : (w .full ≡ 0 → ⊥) → max-states < length (after .keys)
 
 -- What the whole walk tells and leaves behind: 11 exactly where more than 1,024 states are met.
 pub record Told (width : ℕ) (b : Sofar) (w : Walk) (table origins states : List ℕ) : Type 0 where
@@ -127,8 +131,8 @@ pub record Told (width : ℕ) (b : Sofar) (w : Walk) (table origins states : Lis
   pub stored : take (length (b .keys)) states ≡ b .keys
 
 pub record Walk-says (width : ℕ) (b : Sofar) (w : Walk) (table table' origins origins' states states' : List ℕ) : Type 0 where
-  pub full : w .full ≡ true → max-states < length (b .keys)
-  pub done : w .full ≡ false → Told width b w table' origins' states'
+  pub full : (w .full ≡ 0 → ⊥) → max-states < length (b .keys)
+  pub done : w .full ≡ 0 → Told width b w table' origins' states'
   pub table-kept : length table' ≡ length table
   pub origins-kept : length origins' ≡ length origins
   pub states-kept : length states' ≡ length states

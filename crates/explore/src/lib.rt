@@ -96,12 +96,13 @@ pub fn store_new(
     count
 }
 
-// How far a walk has come: states met, arcs (3,073 stands for more than 3,072), a weight out of range, more than 1,024 states met.
+// How far a walk has come: states met, arcs (3,073 stands for more than 3,072), a weight out of range, more than 1,024 states met. Each step copies
+// it, so the two flags are words, 0 or 1: bools would leave padding to copy.
 pub struct Walk {
     pub states: usize,
     pub arcs: usize,
-    pub dear: bool,
-    pub full: bool,
+    pub dear: u32,
+    pub full: u32,
 }
 
 // The finals written, and whether one of their weights is out of range.
@@ -115,7 +116,7 @@ pub fn record_arc(table: &mut [u8], w: Walk, arc: Arc) -> Walk
     requires { ⌜ max-bytes ≤ length (now table) ⌝ }
     ensures { λ r. ⌜ Records arc w r (now (table .entry)) (now (table .exit)) ⌝ }
 {
-    let dear = w.dear | !transducer::weight_ok(arc.weight);
+    let dear = w.dear | (!transducer::weight_ok(arc.weight)) as u32;
     let arcs = w.arcs;
     if arcs < MAX_ARCS {
         transducer::put_arc(table, ARCS_AT + transducer::ARC_BYTES * arcs, arc);

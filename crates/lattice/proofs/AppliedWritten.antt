@@ -19,7 +19,7 @@ use Rattle.transducer.proofs.RoundTrip.{accepted-good, good-range, refusal-enco
 use Rattle.transducer.proofs.Runs.{good-within}
 use Rattle.explore.specs.declared.Walk.{Walk}
 use Rattle.explore.specs.Explore.{built-refusal}
-use Rattle.explore.specs.Walk.{explored, Told}
+use Rattle.explore.specs.Walk.{Told}
 use Rattle.explore.proofs.Built.{over-11}
 use Rattle.explore.proofs.EncodeStored.{filled-front}
 use Rattle.explore.proofs.LeftBehind.{built-12, built-0}
@@ -74,7 +74,7 @@ module _ (cs bs : List ℕ) (bytes : Bytes bs) (ok : refusal bs ≡ 0) (string :
       → Refused-with 11 r a a' b b' c c' → Says r a a' b b' c₀ c'
   says-11 {r} {a} {a'} {b} {b'} {c} {c₀} {c'} over long zeroed =
       let is : built-refusal z ≡ 11 = over-11 z .1 (omega (arith, found-length cs t good, z-states)) in
-      says-zeroed cs bs (built-refusal z) 11 r a a' b b' c c₀ c' is (omega arith) long zeroed
+      says-zeroed cs bs (built-refusal z) 11 r a a' b b' c c₀ c' is (omega arith) (omega arith) long zeroed
 
   module _ {w : Walk} {table arcs states : List ℕ} (told : Told 1 (found cs t) w table arcs states) where
     few : length (applied cs t .states) ≤ max-states
@@ -90,7 +90,7 @@ module _ (cs bs : List ℕ) (bytes : Bytes bs) (ok : refusal bs ≡ 0) (string :
         → Refused-with 12 r a a' b b' states c' → Says r a a' b b' c₀ c'
     says-12 {r} {a} {a'} {b} {b'} {c₀} {c'} over long zeroed =
         let is : built-refusal z ≡ 12 = built-12 z few-states (omega (arith, arcs-are)) in
-        says-zeroed cs bs (built-refusal z) 12 r a a' b b' states c₀ c' is (omega arith) long zeroed
+        says-zeroed cs bs (built-refusal z) 12 r a a' b b' states c₀ c' is (omega arith) (omega arith) long zeroed
 
     module _ (few-arcs : w .arcs ≤ max-arcs) where
       arcs-long : length (z .arcs) ≡ w .arcs

@@ -1,7 +1,7 @@
 -- The answers of applying: which refusal it is, and what is said and left behind; one law for each answer, in the order of the tests.
 -- Assumes nothing.
 use mathlib.Core.Path.{_≡_, refl, sym, ap, _∙_}
-use mathlib.Core.Bool.{Bool, true, false, _&&_, not, cond}
+use mathlib.Core.Bool.{true, false}
 use mathlib.Core.List.{List, []}
 use Prim.Native.Nat.{ℕ, _≤_, _<_}
 use native.Mathlib.Omega.{arith}
@@ -10,14 +10,12 @@ use lib.ListN.{length}
 use borrow.Author.Tests.{lt-ltb, le-ltb, ne-eqb}
 use Rattle.wire.specs.Bytes.{filled}
 use Rattle.transducer.specs.declared.Written.{Written}
-use Rattle.transducer.specs.Format.{max-states, max-arcs, max-bytes, Transducer, refusal, content-refusal, first-of, decode}
-use Rattle.transducer.specs.Format.{framed, kinds-good, records, head-good}
-use Rattle.transducer.specs.Format.{head-states, head-arcs, head-finals, head-start, states-good, order-good, all-labels-good, weights-good}
+use Rattle.transducer.specs.Format.{max-states, max-arcs, max-bytes, refusal, decode}
 use Rattle.transducer.specs.Encode.{encode}
 use Rattle.transducer.specs.Entry.{or-else, unless}
 use Rattle.transducer.proofs.Most.{refusal-most}
 use Rattle.explore.specs.Explore.{built-refusal}
-use Rattle.explore.proofs.LeftBehind.{behind-early, behind-zeroed, behind-written}
+use Rattle.explore.proofs.LeftBehind.{early-keeps, behind-kept, behind-zeroed, behind-written}
 use Rattle.lattice.specs.Apply.{string-good, applied}
 use Rattle.lattice.specs.ApplyEntry.{apply-room, apply-refusal, Apply-says}
 use Rattle.lattice.specs.Applying.{Apply-asks, Refused-with}
@@ -40,24 +38,24 @@ module _ (cs bs : List ℕ) (number : ℕ) where
       (record {
         refusal-is = refl;
         len-is = rw (ne-eqb k 0 bad);
-        table = sym (behind-early a bytes-left k bad small);
-        origins = sym (behind-early b origins-left k bad small);
-        pairs = sym (behind-early c [] k bad small);
+        table = sym (behind-kept a bytes-left k bad (early-keeps k small));
+        origins = sym (behind-kept b origins-left k bad (early-keeps k small));
+        pairs = sym (behind-kept c [] k bad (early-keeps k small));
       })
 
   -- Of the buffer of pairs, written to before, only the length counts.
-  pub says-zeroed : (k : ℕ) (r : Written) (a a' b b' c c₀ c' : List ℕ) → number ≡ k → 10 < k → length c ≡ length c₀
+  pub says-zeroed : (k : ℕ) (r : Written) (a a' b b' c c₀ c' : List ℕ) → number ≡ k → 10 < k → k < 14 → length c ≡ length c₀
       → Refused-with k r a a' b b' c c' → Apply-says cs bs number r a a' b b' c₀ c'
   unfolding unless
-  says-zeroed k r a a' b b' c c₀ c' is high long z =
+  says-zeroed k r a a' b b' c c₀ c' is high low long z =
       let no : eqb k 0 ≡ false = ne-eqb k 0 (omega arith) in
       rw is
       (record {
         refusal-is = ap (λ (r : Written). r .refusal) (z .answer);
         len-is = ap (λ (r : Written). r .len) (z .answer) ∙ (rw no);
-        table = z .table ∙ sym (behind-zeroed a bytes-left k high);
-        origins = z .origins ∙ sym (behind-zeroed b origins-left k high);
-        pairs = z .pairs ∙ (rw long (sym (behind-zeroed c₀ [] k high)));
+        table = z .table ∙ sym (behind-zeroed a bytes-left k high low);
+        origins = z .origins ∙ sym (behind-zeroed b origins-left k high low);
+        pairs = z .pairs ∙ (rw long (sym (behind-zeroed c₀ [] k high low)));
       })
 
   pub says-written : (len : ℕ) (a a' b b' c c₀ c' : List ℕ) → number ≡ 0 → length c ≡ length c₀ → len ≡ length bytes-left

@@ -6,15 +6,15 @@ use Prim.Native.Nat.{ℕ, _+_, _≤_, _<_}
 use native.Mathlib.Omega.{arith}
 use lib.ListN.{length, getD}
 use Rattle.transducer.specs.declared.Arc.{Arc}
-use Rattle.transducer.specs.Format.{max-states, Transducer}
+use Rattle.transducer.specs.Format.{max-states}
 use Rattle.transducer.specs.Path.{arc}
 use Rattle.transducer.proofs.Runs.{Within}
 use Rattle.transducer.specs.Weight.{Weight}
 use Rattle.explore.specs.Explore.{Step, Decides, Built, targets, built}
 use Rattle.explore.proofs.Arcs.{before}
-use Rattle.explore.proofs.Member.{At, Mem, map-mem}
+use Rattle.explore.proofs.Member.{Mem, map-mem}
 use Rattle.explore.proofs.Numbered.{Reached, Numbered, built-numbered}
-use Rattle.explore.proofs.Numbering.{Reach, reach-first, reach-next}
+use Rattle.explore.proofs.Numbering.{reach-first, reach-next}
 use Rattle.explore.proofs.OneArc.{By-step, step-arc, arc-lands}
 use Rattle.explore.proofs.Parts.{built-start, built-some, built-states}
 use Rattle.reach.specs.Reach.{accessible, All-accessible}

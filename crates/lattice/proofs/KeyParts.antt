@@ -1,9 +1,8 @@
 -- The walk by packed states (keys) stays among the states that a lattice may have. Assumes nothing.
 use mathlib.Core.Path.{_≡_, ap, _∙_}
 use mathlib.Core.List.{List}
-use Prim.Native.Nat.{ℕ, _≤_, _<_}
+use Prim.Native.Nat.{ℕ, _<_}
 use native.Mathlib.Omega.{arith}
-use lib.ListN.{length}
 use Rattle.transducer.specs.Format.{max-states, Transducer, Good}
 use Rattle.transducer.specs.Path.{arc}
 use Rattle.transducer.proofs.RoundTrip.{good-range, good-content}
@@ -36,7 +35,7 @@ module _ (cs : List ℕ) (t : Transducer) (good : Good t) where
       low : arc t (r .number) .target < t .states
       low = good-content t good .target (r .number) (r .below)
 
-      on : OfArc cs x (r .number) (arc t (r .number)) s → State-in cs t (s .target)
+      on : OfArc cs t x (r .number) (arc t (r .number)) s → State-in cs t (s .target)
       on (of-empty e made) = rw made (record { position-in = w .position-in; state-in = low })
       on (of-symbol h within reads made) = rw made (record { position-in = omega (arith, within); state-in = low })
 

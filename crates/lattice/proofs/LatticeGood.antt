@@ -6,29 +6,29 @@ use mathlib.Core.Logic.{_↔_}
 use mathlib.Core.List.{List, [], _∷_}
 use Prim.Native.Nat.{ℕ, suc}
 use native.Mathlib.Omega.{arith}
-use lib.Dec.{ltb, eqb}
+use lib.Dec.{ltb}
 use lib.ListN.{length}
 use Rattle.wire.specs.Bytes.{every}
 use Rattle.wire.proofs.Bool.{by-test, and-true, true-and}
 use Rattle.wire.proofs.Places.{every-getD}
-use Rattle.transducer.specs.declared.Final.{Final}
 use Rattle.transducer.specs.Format.{max-states, max-arcs, Transducer, Good, weight-good, weights-good, refusal, decode}
 use Rattle.transducer.specs.Encode.{encode}
 use Rattle.transducer.specs.Path.{arc, no-arc, final-weight}
 use Rattle.transducer.proofs.GoodParts.{good-parts}
 use Rattle.transducer.proofs.Labels.{Unbarred}
 use Rattle.transducer.proofs.RoundTrip.{refusal-encode, decode-encode}
+use Rattle.transducer.specs.Each.{plain}
 use Rattle.transducer.specs.Weight.{Weight}
 use Rattle.transducer.proofs.Finals.{final-weight-good}
 use Rattle.explore.specs.Explore.{Step, built, built-refusal, finals-from}
 use Rattle.explore.proofs.Member.{Mem, mem-in}
-use Rattle.explore.proofs.Built.{Labelled, every-arc, good-built}
+use Rattle.explore.proofs.Built.{Labelled, every-arc, built-plain, good-built}
 use Rattle.lattice.specs.declared.State.{State}
 use Rattle.lattice.specs.Apply.{string-good, same-state, step, steps, final-state, applied, first-state}
 use Rattle.lattice.specs.Lattice.{lattice}
 use Rattle.lattice.proofs.AppliedSteps.{empty-step, symbol-step, OfArc, of-empty, of-symbol, Move, step-move, step-unbarred}
 use Rattle.lattice.proofs.SameState.{same-state-decides}
-use Rattle.trim.proofs.TrimmedGood.{trimmed-good}
+use Rattle.trim.proofs.TrimmedGood.{trimmed-good, trimmed-plain}
 
 -- The final weight of a lattice state.
 abbrev pub state-weight : Transducer → State → Weight
@@ -54,7 +54,7 @@ step-light cs t x s light m = on (r .made)
     a : weight-good (arc t (r .number) .weight) ≡ true
     a = every-getD (λ a. weight-good (a .weight)) (t .arcs) (r .number) no-arc light (r .below)
 
-    on : OfArc cs x (r .number) (arc t (r .number)) s → weight-good (s .weight) ≡ true
+    on : OfArc cs t x (r .number) (arc t (r .number)) s → weight-good (s .weight) ≡ true
     on (of-empty e made) = rw made a
     on (of-symbol h within reads made) = rw made a
 
@@ -89,6 +89,15 @@ module _ (cs : List ℕ) (t : Transducer) (good : Good t) (string : string-good 
   steps-labelled x s m =
       let r : Unbarred (s .input) (s .output) = step-unbarred cs t x s string (good-parts t good .labels-are) (mem-in m) in
       (r .read, r .written)
+
+  applied-plain : plain (applied cs t .result) ≡ true
+  unfolding applied
+  applied-plain = built-plain same-state (steps cs t) (final-state cs t) (state-weight t) (first-state t) steps-labelled
+
+  -- No lattice holds 65,535.
+  pub lattice-plain : plain (lattice cs t) ≡ true
+  unfolding lattice
+  lattice-plain = trimmed-plain (applied cs t .result) applied-plain
 
   pub good-applied : Good (applied cs t .result) ↔ (built-refusal (applied cs t .result) ≡ 0)
   unfolding applied

@@ -1,7 +1,7 @@
--- The accepting paths of the lattice and those of the transducer that read the string stand one to one: first without trimming, by the steps
+-- The accepting paths of the lattice and those of the transducer that fit the string stand one to one: first without trimming, by the steps
 -- of each arc, then with it, by the arcs kept. Assumes nothing.
 use mathlib.Core.Path.{_≡_, refl, sym, ap, ap₂, _∙_}
-use mathlib.Core.Bool.{Bool, true, false}
+use mathlib.Core.Bool.{true}
 use mathlib.Core.List.{List, [], _∷_, map}
 use Prim.Native.Nat.{ℕ, zero, suc, _≤_, _<_}
 use native.Mathlib.Nat.{not-suc-le-zero, le-of-suc-le-suc}
@@ -11,6 +11,7 @@ use Rattle.wire.specs.Bytes.{filled}
 use Rattle.wire.proofs.Places.{getD-filled}
 use Rattle.transducer.specs.Format.{max-states, Transducer, Good}
 use Rattle.transducer.specs.Path.{arc, runs, accepts, read-by, written-by, path-cost}
+use Rattle.transducer.specs.Each.{path-fits}
 use Rattle.transducer.specs.Weight.{plus, no-weight}
 use Rattle.transducer.proofs.Members.{distinct-places}
 use Rattle.transducer.proofs.Paths.{Runs, runs-cons}
@@ -25,7 +26,7 @@ use Rattle.lattice.specs.Apply.{string-good, same-state, steps, final-st
 use Rattle.trim.specs.Trim.{trimmed, origins-kept, through}
 use Rattle.lattice.specs.Lattice.{lattice, lattice-origins, Reads-as, Reads-one-to-one}
 use Rattle.lattice.proofs.AppliedSteps.{steps-distinct}
-use Rattle.lattice.proofs.AppliedTrails.{numbers, Trail-path, trail-leads, Accepted, trail-accepted, accepting-followed, never-two}
+use Rattle.lattice.proofs.AppliedTrails.{numbers, Accepted, trail-accepted, accepting-followed, never-two}
 use Rattle.lattice.proofs.LatticeGood.{state-weight, good-applied}
 use Rattle.lattice.proofs.SameState.{same-state-decides}
 use Rattle.trim.proofs.Trimmed.{Led, trimmed-led, led-injective, LedBy, led-onto}
@@ -83,14 +84,13 @@ module _ (cs : List ℕ) (t : Transducer) (fine : built-refusal (applied cs t .r
   applied-leads : (p : List ℕ) → accepts (applied cs t .result) p ≡ true → Reads-as cs t (applied cs t .result) p (through arc-origins p)
   applied-leads p h =
       let r : Steps-of p = steps-of p h in
-      let l : Trail-path cs t (first-state t) (taken p) (r .last) = trail-leads cs t (first-state t) (taken p) (r .last) (r .accepting .trail) in
       let a : Accepted cs t (taken p) (r .last) = trail-accepted cs t (taken p) (r .last) (r .accepting .trail) (r .accepting .final-end) in
       rw (through-numbers p)
       (record {
         accepting = a .accepting;
-        reads = a .whole;
-        same-input = r .reads ∙ l .reads ∙ a .whole;
-        same-output = r .writes ∙ l .writes;
+        fitting = a .whole;
+        same-input = r .reads ∙ a .reads;
+        same-output = r .writes ∙ a .writes;
         same-cost = r .costs ∙ a .cost;
       })
 
@@ -105,7 +105,7 @@ module _ (cs : List ℕ) (t : Transducer) (fine : built-refusal (applied cs t .r
       (sym (through-numbers p) ∙ e ∙ through-numbers q) in
       accepts-once same-state (steps cs t) (final-state cs t) (state-weight t) (first-state t) no-step (steps-once cs t) p q h k same
 
-  applied-every : (x : List ℕ) → accepts t x ≡ true → read-by t x ≡ cs
+  applied-every : (x : List ℕ) → accepts t x ≡ true → path-fits t cs x ≡ true
       → (p : List ℕ) × (accepts (applied cs t .result) p ≡ true) × (through arc-origins p ≡ x)
   unfolding applied
   applied-every x a e =
@@ -154,7 +154,7 @@ module _ (cs : List ℕ) (t z : Transducer) (os : List ℕ) (within : Within z) 
       rw (through-kept p h)
       (record {
         accepting = r .accepting;
-        reads = r .reads;
+        fitting = r .fitting;
         same-input = l .reads ∙ r .same-input;
         same-output = l .writes ∙ r .same-output;
         same-cost = l .cost ∙ r .same-cost;
@@ -168,7 +168,7 @@ module _ (cs : List ℕ) (t z : Transducer) (os : List ℕ) (within : Within z) 
       (sym (through-kept p h) ∙ e ∙ through-kept q k) in
       led-injective z (trimmed z .start) (trimmed z .start) p q (accepts-accepting (trimmed z) p h .goes) (accepts-accepting (trimmed z) q k .goes) same
 
-  trimmed-every : (x : List ℕ) → accepts t x ≡ true → read-by t x ≡ cs
+  trimmed-every : (x : List ℕ) → accepts t x ≡ true → path-fits t cs x ≡ true
       → (p : List ℕ) × (accepts (trimmed z) p ≡ true) × (through (through os (origins-kept z)) p ≡ x)
   trimmed-every x a e =
       let r = one .every x a e in

@@ -4,11 +4,12 @@ pub mod Pack
 pub mod SameState
 pub mod AppliedSteps
 pub mod AppliedTrails
--- The lattice before trimming, and the lattice: it can be written, its states are accessible, its paths are those that read the string
+-- The lattice before trimming, and the lattice: it can be written, its states are accessible, its paths are those that fit the string
 pub mod LatticeGood
 pub mod AppliedNumbered
 pub mod BuiltAccessible
 pub mod LatticeLaw
+pub mod Plain
 -- The walk by packed states: it finds the lattice before trimming
 pub mod KeyParts
 pub mod FoundBuilt

@@ -8,13 +8,15 @@ use native.Mathlib.Numerals.{add-one}
 use native.Mathlib.Omega.{arith}
 use lib.Dec.{ltb, eqb}
 use lib.ListN.{length, getD, set}
-use borrow.Author.Tests.{lt-ltb, le-ltb, eq-eqb, ne-eqb}
+use borrow.Author.Tests.{lt-ltb, le-ltb, ltb-true, eq-eqb, ne-eqb, eqb-true, eqb-false}
 use Rattle.transducer.specs.declared.Arc.{Arc}
-use Rattle.transducer.specs.Format.{max-states, max-arcs, Transducer, Good}
+use Rattle.transducer.specs.Format.{max-states, max-arcs, any, Transducer, Good}
 use Rattle.transducer.specs.Path.{arc}
-use Rattle.transducer.specs.Each.{fits}
+use Rattle.transducer.specs.Each.{fits, passed}
 use Rattle.transducer.specs.Leaf.{arcs-below, Indexed}
-use Rattle.transducer.proofs.Fits.{fits-reads, reads-fits, passed-output}
+use Rattle.transducer.proofs.Fits.{fits-empty, fits-either, reads-fits, passed-output}
+use Rattle.transducer.proofs.GoodParts.{good-parts}
+use Rattle.transducer.proofs.Labels.{arc-unbarred}
 use Rattle.transducer.proofs.Ranges.{from-to, map-from-to, each-arc-range, arcs-below-length}
 use Rattle.explore.specs.declared.Walk.{Walk}
 use Rattle.explore.specs.Explore.{place}
@@ -22,9 +24,10 @@ use Rattle.explore.specs.Walk.{Keyed, keyed, Sofar, taken, all-taken, state-ser
 use Rattle.wire.proofs.Bool.{by-test, is-false}
 use Rattle.explore.proofs.Walking.{Taking, taking-state, taking-over, taking-part, taking-full, taking-stop}
 use Rattle.lattice.specs.declared.State.{State}
-use Rattle.lattice.specs.Apply.{step, arc-steps, steps}
+use Rattle.lattice.specs.Apply.{string-good, step, arc-steps, steps}
 use Rattle.lattice.specs.Applying.{one, next, arc-keyed}
 use Rattle.lattice.specs.Pack.{pack, unpacked}
+use Rattle.lattice.proofs.AppliedSteps.{string-symbol}
 use Rattle.transducer.proofs.RoundTrip.{good-content}
 
 -- The origin of a step is written where there is room for its arc.
@@ -48,6 +51,14 @@ unfolding all-taken
 taken-over source number s {b} {w} {table} {origins} {states} {heads} {links} k is full =
     let g : Taking 1 source (s ∷ []) (taken source s b) w table origins states heads links = record { sofar = b; walked = k; leads = refl } in
     taking-over g s [] refl number is full
+
+-- The test of an input against a symbol.
+module _ (t : Transducer) (a : Arc) (input symbol : ℕ) (is : a .input ≡ input) (other : input ≡ symbol → ⊥) where
+  pub fits-no-symbol : symbol ≡ 0 → false ≡ fits t symbol a
+  fits-no-symbol z = sym (is-false (fits t symbol a) (λ h. other (sym is ∙ fits-empty t a (rw z at h) ∙ sym z)))
+
+  pub fits-any : (symbol ≡ 0 → ⊥) → eqb input any ≡ fits t symbol a
+  fits-any some = sym (fits-either t symbol a some ∙ (rw (is, ne-eqb input symbol other)))
 
 -- The arcs of a state
 
@@ -75,9 +86,42 @@ arcs-left cs t x end i = from-to (end - i) i (arc-next cs t x)
 unfoldable pub symbol-of : (cs : List ℕ) → State → ℕ
 symbol-of cs x = cond (ltb (x .position) (length cs)) (getD cs (x .position) 0) 0
 
--- An arc with another source.
-abbrev pub leaving : (source : ℕ) → Arc → Arc
-leaving source a = record { source = source; input = a .input; output = a .output; target = a .target; weight = a .weight }
+-- What an arc reads at the position of a state, nothing or the symbol, which it fits; and what it writes for that.
+pub data Reads (cs : List ℕ) (t : Transducer) (x : State) (a : Arc) (read written : ℕ) : Type 0 where
+  reads-none : a .input ≡ 0 → read ≡ 0 → written ≡ passed read a → Reads cs t x a read written
+  reads-some : (a .input ≡ 0 → ⊥) → fits t (symbol-of cs x) a ≡ true → read ≡ symbol-of cs x → written ≡ passed read a → Reads cs t x a read written
+
+pub reads-written : {cs : List ℕ} {t : Transducer} {x : State} {a : Arc} {read written : ℕ} → Reads cs t x a read written → written ≡ passed read a
+reads-written (reads-none e r w) = w
+reads-written (reads-some some fit r w) = w
+
+-- The symbol is never 65,535.
+symbol-below : (cs : List ℕ) (x : State) → string-good cs ≡ true → symbol-of cs x < any
+unfolding symbol-of
+symbol-below cs x good =
+    by-test (ltb (x .position) (length cs))
+    (λ within. rw within (string-symbol cs (x .position) good (ltb-true (x .position) (length cs) within) .1)) (λ behind. rw behind (omega arith))
+
+-- An arc that reads by name, nothing or the symbol itself, writes its own output.
+module _ (cs : List ℕ) (t : Transducer) (x : State) (good : Good t) (i : ℕ) (below : i < length (t .arcs)) (a : Arc) (is : a ≡ arc t i)
+    (read written : ℕ) (from : read ≡ a .input) (same : written ≡ a .output) where
+  own-output : a .input < any → written ≡ passed read a
+  own-output l =
+      let r = arc-unbarred t i (good-parts t good .labels-are) below (rw is at l) in
+      let short : a .output < any = rw is (r .written) in
+      same ∙ sym (passed-output read a short)
+
+  pub reads-nothing : a .input ≡ 0 → Reads cs t x a read written
+  reads-nothing e = reads-none e (from ∙ e) (own-output (omega (arith, e)))
+
+  pub reads-itself : string-good cs ≡ true → a .input ≡ symbol-of cs x → Reads cs t x a read written
+  reads-itself string e =
+      by-test (eqb (a .input) 0) (λ h. reads-nothing (eqb-true (a .input) 0 h))
+      (λ h. reads-some (eqb-false (a .input) 0 h) (reads-fits t (symbol-of cs x) a e) (from ∙ e) (own-output (omega (arith, e, symbol-below cs x string))))
+
+-- An arc as it reads a symbol, 0 for none, with another source.
+abbrev pub reading : (source symbol : ℕ) → Arc → Arc
+reading source symbol a = record { source = source; input = symbol; output = passed symbol a; target = a .target; weight = a .weight }
 
 next-left : (cs : List ℕ) (t : Transducer) (key : ℕ) (x : State) → x ≡ unpacked key → Good t
     → next cs t key ≡ arcs-left cs t x (arcs-below (suc (x .state)) (t .arcs)) (arcs-below (x .state) (t .arcs))
@@ -105,28 +149,38 @@ module _ (cs : List ℕ) (t : Transducer) (x : State) where
   module _ (i source : ℕ) (a : Arc) (is : a ≡ arc t i) where
     module _ (y : State) (lands : y .state ≡ a .target) (to : ℕ) (packed : to ≡ pack y) where
       -- An arc that reads nothing keeps the position.
-      pub empty-taken : a .input ≡ 0 → y .position ≡ x .position → arc-next cs t x i ≡ arc-keyed (leaving source a) i to ∷ []
+      pub empty-taken : a .input ≡ 0 → y .position ≡ x .position → arc-next cs t x i ≡ arc-keyed (reading source 0 a) i to ∷ []
       unfolding arc-next arc-steps step keyed one arc-keyed
-      empty-taken e p = rw (← is, eq-eqb (a .input) 0 e, e, packed, ← p, ← lands)
+      empty-taken e p = rw (← is, eq-eqb (a .input) 0 e, packed, ← p, ← lands)
 
-      -- An arc that reads the symbol moves one on.
-      pub symbol-taken : (a .input ≡ 0 → ⊥) → a .input ≡ symbol-of cs x → y .position ≡ x .position + 1
-          → arc-next cs t x i ≡ arc-keyed (leaving source a) i to ∷ []
+      -- An arc that fits the symbol moves one on.
+      pub symbol-taken : (a .input ≡ 0 → ⊥) → fits t (symbol-of cs x) a ≡ true → y .position ≡ x .position + 1
+          → arc-next cs t x i ≡ arc-keyed (reading source (symbol-of cs x) a) i to ∷ []
       unfolding arc-next arc-steps step keyed one arc-keyed symbol-of
-      symbol-taken some e p =
+      symbol-taken some fit p =
           by-test (ltb (x .position) (length cs))
-          (λ within. let reads : a .input ≡ getD cs (x .position) 0 = rw within at e in
-          rw (← is, ne-eqb (a .input) 0 some, within, reads-fits t (getD cs (x .position) 0) a reads, passed-output, ← reads, packed, ← p, ← lands))
-          (λ behind. absurd (some (rw behind at e)))
+          (λ within. let here : fits t (getD cs (x .position) 0) a ≡ true = rw within at fit in
+          rw (← is, ne-eqb (a .input) 0 some, within, here, packed, ← p, ← lands))
+          (λ behind. absurd (some (fits-empty t a (rw behind at fit))))
+
+      -- Both by what is read.
+      pub read-taken : (read written moved : ℕ) → Reads cs t x a read written → moved ≡ cond (eqb read 0) 0 1 → y .position ≡ x .position + moved
+          → arc-next cs t x i ≡ arc-keyed (reading source read a) i to ∷ []
+      read-taken read written moved (reads-none e r _) m p =
+          let none : moved ≡ 0 = m ∙ (rw r) in
+          rw r (empty-taken e (omega arith))
+      read-taken read written moved (reads-some some fit r _) m p =
+          let symbol : read ≡ 0 → ⊥ = λ z. some (fits-empty t a (rw (sym r ∙ z) at fit)) in
+          let one-on : moved ≡ 1 = m ∙ (rw (ne-eqb read 0 symbol)) in
+          rw r (symbol-taken some fit (omega arith))
 
     -- Any other gives none.
-    pub none-taken : (a .input ≡ 0 → ⊥) → (a .input ≡ symbol-of cs x → ⊥) → arc-next cs t x i ≡ []
+    pub none-taken : (a .input ≡ 0 → ⊥) → fits t (symbol-of cs x) a ≡ false → arc-next cs t x i ≡ []
     unfolding arc-next arc-steps symbol-of
     none-taken some other =
         by-test (ltb (x .position) (length cs))
-        (λ within. let not-it : fits t (getD cs (x .position) 0) a ≡ false =
-        is-false (fits t (getD cs (x .position) 0) a) (λ f. (rw within at other) (fits-reads t (getD cs (x .position) 0) a f)) in
-        rw (← is, ne-eqb (a .input) 0 some, within, not-it))
+        (λ within. let here : fits t (getD cs (x .position) 0) a ≡ false = rw within at other in
+        rw (← is, ne-eqb (a .input) 0 some, within, here))
         (λ behind. rw (← is, ne-eqb (a .input) 0 some, behind))
 
 -- The steps of one state, those of the arcs from i on left to take
@@ -160,10 +214,10 @@ module _ (cs : List ℕ) (t : Transducer) (x : State) {end i source : ℕ} {goal
       are : arcs-left cs t x end i ≡ (s ∷ []) ++ arcs-left cs t x end (i + 1)
       are = left-more cs t x end i l ∙ ap (λ (ss : List Keyed). ss ++ arcs-left cs t x end (i + 1)) is
 
-      pub serving-next : w' .full ≡ false → Taking 1 source (arcs-left cs t x end (i + 1)) goal w' table' origins' states' heads' links'
+      pub serving-next : w' .full ≡ 0 → Taking 1 source (arcs-left cs t x end (i + 1)) goal w' table' origins' states' heads' links'
       unfolding all-taken
       serving-next e = taking-part g (s ∷ []) (arcs-left cs t x end (i + 1)) are w' table' origins' states' heads' links' went e
 
-      pub serving-full : w' .full ≡ true → Went 1 goal w' table' origins' states' heads' links'
+      pub serving-full : (w' .full ≡ 0 → ⊥) → Went 1 goal w' table' origins' states' heads' links'
       unfolding all-taken
       serving-full e = taking-full g (s ∷ []) (arcs-left cs t x end (i + 1)) are w' table' origins' states' heads' links' went e

@@ -1,7 +1,7 @@
 -- Applying an input string (paper 01: a code) to a transducer. Assumes nothing: these are definitions.
-use mathlib.Core.Bool.{Bool, true, false, _&&_, cond}
+use mathlib.Core.Bool.{Bool, _&&_, cond}
 use mathlib.Core.List.{List, [], _∷_}
-use Prim.Native.Nat.{ℕ, zero, suc, _+_}
+use Prim.Native.Nat.{ℕ, _+_}
 use lib.Dec.{ltb, leb, eqb}
 use lib.ListN.{length, getD}
 use Rattle.wire.specs.Bytes.{every}
@@ -24,11 +24,12 @@ unfoldable pub step : (position input output : ℕ) → (i : ℕ) → Arc → St
 step position input output i a =
     record { target = record { position = position; state = a .target }; input = input; output = output; weight = a .weight; origin = i }
 
--- What comes of one arc: an empty input keeps the position, an input that fits the symbol at the position moves one on.
+-- What comes of one arc: an empty input keeps the position, an input that fits the symbol at the position moves one on. The step bears what is read,
+-- and what the arc writes for it.
 unfoldable pub arc-steps : (string : List ℕ) → Transducer → State → (i : ℕ) → Arc → List (Step State ℕ)
 arc-steps cs t x i a =
     let symbol = getD cs (x .position) 0 in
-    cond (eqb (a .input) 0) (step (x .position) 0 (a .output) i a ∷ [])
+    cond (eqb (a .input) 0) (step (x .position) 0 (passed 0 a) i a ∷ [])
     (cond (ltb (x .position) (length cs) && fits t symbol a) (step (x .position + 1) symbol (passed symbol a) i a ∷ []) [])
 
 -- The steps from a lattice state, in order.

@@ -1,7 +1,7 @@
 -- What the parts of applying ask and leave: the walk by keys, the finals of the states met, the lattice before trimming as bytes.
 -- Assumes nothing: these are definitions.
 use mathlib.Core.Path.{_≡_}
-use mathlib.Core.Bool.{Bool, true, false, not, cond}
+use mathlib.Core.Bool.{true, not, cond}
 use mathlib.Core.List.{List, [], _∷_, map}
 use Prim.Native.Nat.{ℕ, _+_, _≤_, _<_}
 use lib.Dec.{eqb}
@@ -15,8 +15,7 @@ use Rattle.transducer.specs.Encode.{encode}
 use Rattle.transducer.specs.Leaf.{Opened, Indexed, max-code}
 use Rattle.transducer.specs.Weight.{weight-of}
 use Rattle.explore.specs.Explore.{finals-from}
-use Rattle.explore.specs.Walk.{Keyed, Sofar, keyed, explored, Told}
-use Rattle.explore.specs.declared.Walk.{Walk}
+use Rattle.explore.specs.Walk.{Keyed, Sofar, keyed, explored}
 use Rattle.lattice.specs.declared.State.{State}
 use Rattle.lattice.specs.Apply.{string-good, steps, first-state}
 use Rattle.lattice.specs.Pack.{pack, unpacked}

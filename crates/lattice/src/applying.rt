@@ -3,10 +3,12 @@ ghost use mathlib.Core.Path.{_≡_};
 ghost use mathlib.Core.Bool.{cond};
 ghost use mathlib.Core.List.{List, map};
 ghost use Prim.Native.Nat.{ℕ, _≤_, _<_};
-ghost use lib.Dec.{ltb};
+ghost use lib.Dec.{ltb, eqb};
 ghost use lib.ListN.{length, getD, take};
 ghost use lib.Seq.{sets};
-ghost use Rattle.transducer.specs.Format.{max-states, max-arcs, max-bytes, head-bytes, arcs-at, decode};
+ghost use Rattle.transducer.specs.declared.Arc.{Arc};
+ghost use Rattle.transducer.specs.Format.{Transducer, max-states, max-arcs, max-bytes, head-bytes, arcs-at, decode};
+ghost use Rattle.transducer.specs.Each.{fits};
 ghost use Rattle.transducer.specs.Encode.{final-records};
 ghost use Rattle.explore.specs.Explore.{built-refusal};
 ghost use Rattle.explore.specs.Walk.{Sofar, taken, state-served, Walked, Went, Walk-says, Told};
@@ -17,6 +19,7 @@ ghost use Rattle.lattice.specs.Applying.{next, arc-keyed, found, Applica
 ghost use Rattle.lattice.specs.Applying.{Apply-asks, Refused-with};
 use crate::packing;
 use explore::Walk;
+use transducer::ANY;
 use transducer::ARC_BYTES;
 use transducer::Arc;
 use transducer::BARRED;
@@ -58,6 +61,29 @@ fn symbol_at(string: &[u16], position: usize) -> u16
     0
 }
 
+// Whether an arc of this input fits a symbol, 0 standing for none.
+fn fits(input: u16, symbol: u16) -> bool
+    ensures { λ r. ⌜ ((t : Transducer) (a : Arc) → a .input ≡ input → r ≡ fits t symbol a) ⌝ }
+{
+    if input == symbol {
+        return true;
+    }
+    if symbol == 0 {
+        return false;
+    }
+    input == ANY
+}
+
+// How far a step moves that reads a symbol, 0 standing for none.
+fn moved(symbol: u16) -> u32
+    ensures { λ r. ⌜ r ≡ cond (eqb symbol 0) 0 1 ⌝ }
+{
+    if symbol == 0 {
+        return 0;
+    }
+    1
+}
+
 // Takes the step of an arc to the state of a key.
 fn take_step(
     a: Arc,
@@ -80,7 +106,7 @@ fn take_step(
     let number = explore::find(states, heads, links, count, key);
     let mut walk = w;
     if number == MAX_STATES {
-        walk.full = true;
+        walk.full = 1;
         return walk;
     }
     walk.states = explore::store_new(states, heads, links, count, key, number);
@@ -98,7 +124,7 @@ fn take_step(
     explore::record_arc(table, walk, made)
 }
 
-// Serves the state of number `source`: takes the step of each of its arcs that reads nothing or the symbol at its position.
+// Serves the state of number `source`: takes the step of each of its arcs that reads nothing or fits the symbol at its position.
 fn serve(
     string: &[u16],
     bytes: &[u8],
@@ -132,23 +158,27 @@ fn serve(
         let at = i;
         i += 1;
         let input = a.input;
-        let mut moved: u32 = 0;
-        if input != 0 {
-            if input != symbol {
-                continue;
+        let mut read = input;
+        let mut output = a.output;
+        if input != symbol {
+            if input != 0 {
+                if !fits(input, symbol) {
+                    continue;
+                }
+                read = symbol;
+                output = transducer::passed(symbol, a);
             }
-            moved = 1;
         }
         let step = Arc {
             source: source as u16,
-            input: input,
-            output: a.output,
+            input: read,
+            output: output,
             target: a.target,
             weight: a.weight,
         };
-        let to = packing::pack(position + moved, a.target as u32);
+        let to = packing::pack(position + moved(read), a.target as u32);
         walk = take_step(step, at, to, walk, table, origins, states, heads, links);
-        if walk.full {
+        if walk.full != 0 {
             return walk;
         }
     }
@@ -178,8 +208,8 @@ fn walk_all(
     let mut walk = Walk {
         states: 1,
         arcs: 0,
-        dear: false,
-        full: false,
+        dear: 0,
+        full: 0,
     };
     let mut s = 0;
     while s < walk.states {
@@ -196,7 +226,7 @@ fn walk_all(
             &mut heads,
             &mut links,
         );
-        if walk.full {
+        if walk.full != 0 {
             return walk;
         }
         s += 1;
@@ -330,7 +360,7 @@ fn apply_into(
         &mut arcs,
         pairs,
     );
-    if w.full {
+    if w.full != 0 {
         return refuse(lattice, origins, pairs, 11);
     }
     let m = w.arcs;

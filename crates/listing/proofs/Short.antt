@@ -10,7 +10,7 @@ use lib.Dec.{eqb, ltb}
 use lib.ListN.{length, getD, take, length-append}
 use lib.Seq.{take-suc}
 use Rattle.wire.proofs.Bool.{by-test}
-use Rattle.transducer.specs.Format.{Transducer, max-path, barred}
+use Rattle.transducer.specs.Format.{Transducer, max-path}
 use Rattle.transducer.specs.Weight.{Weight, no-weight, at-most, magnitude}
 use Rattle.transducer.specs.Path.{arc, no-arc, non-empty, ends, final-weight, written-by, arcs-cost, path-cost}
 use Rattle.transducer.proofs.Good.{arc-light, finals-light, arc-labels-below}
@@ -112,10 +112,10 @@ unfolding written-by non-empty arc
 labels-low t z s [] a k = omega arith
 labels-low t z s (i ∷ p) a k =
     let by : AcceptingBy t s i p = accepting-cons t s i p a in
-    let here : getD (t .arcs) i no-arc .output < barred = arc-labels-below t (z .content) i no-arc (by .below) .1 in
+    let here : getD (t .arcs) i no-arc .output < 65536 = arc-labels-below t (z .content) i no-arc (by .below) .1 in
     on (eqb (getD (t .arcs) i no-arc .output) 0) here k (λ j. labels-low t z (arc t i .target) p (by .rest) j)
   where
-    on : (b : Bool) → getD (t .arcs) i no-arc .output < barred → (k : ℕ) → ((j : ℕ) → getD (written-by t p) j 0 < 65536)
+    on : (b : Bool) → getD (t .arcs) i no-arc .output < 65536 → (k : ℕ) → ((j : ℕ) → getD (written-by t p) j 0 < 65536)
         → getD (cond b (written-by t p) (getD (t .arcs) i no-arc .output ∷ written-by t p)) k 0 < 65536
     on true here k rest = rest k
     on false here zero rest = omega arith

@@ -1,6 +1,6 @@
 -- From what composing and applying answer to the text of the listing. Assumes nothing.
 use mathlib.Core.Path.{_≡_, refl, sym, ap, _∙_}
-use mathlib.Core.Bool.{Bool, true, false, _&&_, cond}
+use mathlib.Core.Bool.{Bool, true, _&&_, cond}
 use mathlib.Core.List.{List}
 use Prim.Native.Nat.{ℕ, _-_, _%_, _≤_, _<_}
 use native.Mathlib.Omega.{arith}
@@ -15,6 +15,7 @@ use Rattle.transducer.specs.Format.{Transducer, Good, max-states, max-arcs, max
 use Rattle.transducer.specs.Encode.{encode}
 use Rattle.transducer.specs.Entry.{or-else, unless, left-in}
 use Rattle.transducer.proofs.RoundTrip.{accepted-good}
+use Rattle.transducer.specs.Each.{named, any-refusal}
 use Rattle.explore.specs.Explore.{built-refusal, left-behind}
 use Rattle.compose.specs.Compose.{composed}
 use Rattle.compose.specs.Entry.{compose-room, compose-refusal, Compose-says}
@@ -180,14 +181,15 @@ module _ {xs ys : List ℕ} {r : Written} {a a' b b' c c' : List ℕ} (cs : List
     compose-fine : compose-refusal xs ys max-bytes max-origins max-states ≡ 0
     compose-fine = sym compose-is ∙ fine
 
-    parts : (refusal xs ≡ 0) × (refusal ys ≡ 0) × (built-refusal (composed (decode xs) (decode ys) .result) ≡ 0)
-    unfolding compose-refusal
+    parts : (refusal xs ≡ 0) × (refusal ys ≡ 0) × (built-refusal (composed (decode xs) (decode ys) .result) ≡ 0) × (named (decode xs) ≡ true)
+    unfolding compose-refusal any-refusal
     parts =
         let built : ℕ = built-refusal (composed (decode xs) (decode ys) .result) in
         let room : ℕ = compose-room max-bytes max-origins max-states in
-        let p = passed-both (refusal xs) (or-else (refusal ys) (or-else room built)) compose-fine in
-        let q = passed-both (refusal ys) (or-else room built) (p .1) in
-        (p .0, q .0, passed-both room built (q .1) .1)
+        let p = passed-both (refusal xs) (or-else (cond (named (decode xs)) 0 18) (or-else (refusal ys) (or-else room built))) compose-fine in
+        let n = passed-both (cond (named (decode xs)) 0 18) (or-else (refusal ys) (or-else room built)) (p .1) in
+        let q = passed-both (refusal ys) (or-else room built) (n .1) in
+        (p .0, q .0, passed-both room built (q .1) .1, passed-last (named (decode xs)) 17 (n .0))
 
     pub composed-front : (take (r .len) a' ≡ encode (composed (decode xs) (decode ys) .result)) × (r .len ≤ length a')
     unfolding left-behind unless
@@ -199,7 +201,7 @@ module _ {xs ys : List ℕ} {r : Written} {a a' b b' c c' : List ℕ} (cs : List
     pub composed-accepted : refusal (take (r .len) a') ≡ 0
     composed-accepted =
         rw (composed-front .0)
-        (refusal-composed (decode xs) (decode ys) (accepted-good xs (x .left) (parts .0)) (accepted-good ys (x .right) (parts .1)) (parts .2))
+        (refusal-composed (decode xs) (decode ys) (accepted-good xs (x .left) (parts .0)) (parts .3) (accepted-good ys (x .right) (parts .1)) (parts .2))
 
     pub composed-listed : {out out' : List ℕ} {w : Listed}
         → Whole out out' w (applied-refusal (decode (take (r .len) a')) cs) (applied-text (decode (take (r .len) a')) cs)
@@ -209,7 +211,7 @@ module _ {xs ys : List ℕ} {r : Written} {a a' b b' c c' : List ℕ} (cs : List
         let t : Transducer = composed (decode xs) (decode ys) .result in
         let same : decode (take (r .len) a') ≡ t =
         rw (composed-front .0)
-        (decode-composed (decode xs) (decode ys) (accepted-good xs (x .left) (parts .0)) (accepted-good ys (x .right) (parts .1)) (parts .2)) in
+        (decode-composed (decode xs) (decode ys) (accepted-good xs (x .left) (parts .0)) (parts .3) (accepted-good ys (x .right) (parts .1)) (parts .2)) in
         rw compose-fine (rw same at p)
 
 -- The whole

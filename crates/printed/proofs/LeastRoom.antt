@@ -10,6 +10,7 @@ use lib.ListN.{length}
 use Rattle.wire.specs.Bytes.{Bytes}
 use Rattle.transducer.specs.Format.{Transducer, Good, refusal, decode, weights-good, max-states, max-arcs}
 use Rattle.transducer.specs.Encode.{encode}
+use Rattle.transducer.specs.Each.{named, any-refusal}
 use Rattle.transducer.specs.Entry.{or-else}
 use Rattle.transducer.proofs.Most.{refusal-most}
 use Rattle.transducer.proofs.RoundTrip.{bytes-encode, decode-encode, refusal-encode}
@@ -26,38 +27,41 @@ use Rattle.listing.proofs.NthLine.{listing-short}
 use Rattle.printed.specs.Printed.{lattice-for}
 use Rattle.printed.proofs.Pairs.{good-lattice}
 
--- A refusal is at most 13.
+-- A refusal is at most 18.
 
-or-else-most : (a b : ℕ) → a ≤ 13 → b ≤ 13 → or-else a b ≤ 13
+or-else-most : (a b : ℕ) → a ≤ 18 → b ≤ 18 → or-else a b ≤ 18
 unfolding or-else
 or-else-most a b p q = on (eqb a 0)
   where
-    on : (t : Bool) → cond t b a ≤ 13
+    on : (t : Bool) → cond t b a ≤ 18
     on true = q
     on false = p
 
-cond-most : (t : Bool) (a b : ℕ) → a ≤ 13 → b ≤ 13 → cond t a b ≤ 13
+cond-most : (t : Bool) (a b : ℕ) → a ≤ 18 → b ≤ 18 → cond t a b ≤ 18
 cond-most true a b p q = p
 cond-most false a b p q = q
 
-built-most : (t : Transducer) → built-refusal t ≤ 13
+built-most : (t : Transducer) → built-refusal t ≤ 18
 unfolding built-refusal
 built-most t =
     cond-most (ltb max-states (t .states)) 11 (cond (ltb max-arcs (length (t .arcs))) 12 (cond (weights-good t) 0 13)) (omega arith)
     (cond-most (ltb max-arcs (length (t .arcs))) 12 (cond (weights-good t) 0 13) (omega arith) (cond-most (weights-good t) 0 13 (omega arith) (omega arith)))
 
-listing-most : (xs ys cs : List ℕ) → listing-refusal xs ys cs ≤ 13
-unfolding listing-refusal compose-refusal compose-room applied-refusal code-refusal
+listing-most : (xs ys cs : List ℕ) → listing-refusal xs ys cs ≤ 18
+unfolding listing-refusal compose-refusal any-refusal compose-room applied-refusal code-refusal
 listing-most xs ys cs =
     let z : Transducer = composed (decode xs) (decode ys) .result in
     let room : ℕ = cond (ltb 59404 59404 || (ltb 6144 6144 || ltb 1024 1024)) 10 0 in
     let code : ℕ = cond (eqb (length cs % 2) 0 && string-good (labels-in cs)) 0 9 in
     let built : ℕ = built-refusal (applied (labels-in cs) z .result) in
-    let inner : or-else room (built-refusal z) ≤ 13 =
+    let inner : or-else room (built-refusal z) ≤ 18 =
     or-else-most room (built-refusal z) (cond-most (ltb 59404 59404 || (ltb 6144 6144 || ltb 1024 1024)) 10 0 (omega arith) (omega arith)) (built-most z) in
-    or-else-most (or-else (refusal xs) (or-else (refusal ys) (or-else room (built-refusal z)))) (or-else code built)
-    (or-else-most (refusal xs) (or-else (refusal ys) (or-else room (built-refusal z))) (omega (arith, refusal-most xs))
-    (or-else-most (refusal ys) (or-else room (built-refusal z)) (omega (arith, refusal-most ys)) inner))
+    let any : ℕ = cond (named (decode xs)) 0 18 in
+    let right : ℕ = or-else (refusal ys) (or-else room (built-refusal z)) in
+    or-else-most (or-else (refusal xs) (or-else any right)) (or-else code built)
+    (or-else-most (refusal xs) (or-else any right) (omega (arith, refusal-most xs))
+    (or-else-most any right (cond-most (named (decode xs)) 0 18 (omega arith) (omega arith))
+    (or-else-most (refusal ys) (or-else room (built-refusal z)) (omega (arith, refusal-most ys)) inner)))
     (or-else-most code built (cond-most (eqb (length cs % 2) 0 && string-good (labels-in cs)) 0 9 (omega arith) (omega arith))
     (built-most (applied (labels-in cs) z .result)))
 

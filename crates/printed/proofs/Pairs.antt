@@ -1,6 +1,6 @@
 -- Where nothing is refused, the lattice's paths are the pairs, and the text of the lattice has a line for each of them. Assumes nothing.
-use mathlib.Core.Path.{_≡_, refl, sym, ap, _∙_}
-use mathlib.Core.Bool.{true, false}
+use mathlib.Core.Path.{_≡_, refl, ap, _∙_}
+use mathlib.Core.Bool.{true, false, cond}
 use mathlib.Core.Logic.{_↔_}
 use mathlib.Core.List.{List, [], _∷_, _++_, map, append-assoc, append-nil, map-append}
 use Prim.Native.Nat.{ℕ, zero, suc, _+_, _≤_, _<_}
@@ -9,7 +9,8 @@ use lib.ListN.{length, getD, take, length-map}
 use lib.Seq.{take-suc, take-all, length-take-le}
 use Rattle.wire.specs.Bytes.{Bytes}
 use Rattle.transducer.specs.Format.{Transducer, Good, refusal, decode}
-use Rattle.transducer.specs.Path.{accepts}
+use Rattle.wire.proofs.Bool.{passed-last}
+use Rattle.transducer.specs.Each.{named, any-refusal}
 use Rattle.transducer.specs.Entry.{or-else}
 use Rattle.transducer.proofs.RoundTrip.{accepted-good}
 use Rattle.transducer.proofs.Runs.{Within, good-within}
@@ -18,9 +19,9 @@ use Rattle.compose.specs.Claim.{Two-paths}
 use Rattle.compose.specs.Compose.{composed}
 use Rattle.compose.specs.Entry.{origin-pairs, compose-room, compose-refusal}
 use Rattle.compose.proofs.Claimed.{composed-one-to-one}
-use Rattle.compose.proofs.Written.{composed-good}
+use Rattle.compose.proofs.Written.{composed-plain, composed-good}
 use Rattle.lattice.specs.Apply.{string-good, applied}
-use Rattle.lattice.specs.Lattice.{lattice, lattice-origins}
+use Rattle.lattice.specs.Lattice.{lattice-origins}
 use Rattle.lattice.proofs.LatticeGood.{lattice-good}
 use Rattle.lattice.proofs.LatticeLaw.{lattice-one-to-one}
 use Rattle.paths.specs.Count.{paths, endless, nth-path}
@@ -39,11 +40,11 @@ use Rattle.printed.specs.Printed.{lattice-for, leads-to, In-path-order, 
 
 -- One line more.
 pair-lines-snoc : (xs ys : List ℕ) (k : ℕ) (l : List Two-paths) (x : Two-paths)
-    → pair-lines xs ys k (l ++ (x ∷ [])) ≡ pair-lines xs ys k l ++ line (k + length l) (pair-cost xs ys x) (pair-output ys x)
+    → pair-lines xs ys k (l ++ (x ∷ [])) ≡ pair-lines xs ys k l ++ line (k + length l) (pair-cost xs ys x) (pair-output xs ys x)
 unfolding pair-lines
 pair-lines-snoc xs ys k [] x =
     let e : k + 0 ≡ k = omega arith in
-    rw (e, append-nil (line k (pair-cost xs ys x) (pair-output ys x)))
+    rw (e, append-nil (line k (pair-cost xs ys x) (pair-output xs ys x)))
 pair-lines-snoc xs ys k (y ∷ l) x =
     let e : k + 1 + length l ≡ k + suc (length l) = omega arith in
     rw (pair-lines-snoc xs ys (k + 1) l x, e, append-assoc)
@@ -60,21 +61,24 @@ module _ (xs ys cs : List ℕ) (bytes-xs : Bytes xs) (bytes-ys : Bytes ys) (fine
 
   record Passed : Type 0 where
     left-good : Good (decode xs)
+    left-named : named (decode xs) ≡ true
     right-good : Good (decode ys)
     composes : built-refusal z ≡ 0
     string : string-good s ≡ true
     applies : built-refusal (applied s z .result) ≡ 0
 
   passed : Passed
-  unfolding listing-refusal compose-refusal
+  unfolding listing-refusal compose-refusal any-refusal
   passed =
       let rest : ℕ = or-else (compose-room 59404 6144 1024) (built-refusal z) in
       let all = passed-both (compose-refusal xs ys 59404 6144 1024) (applied-refusal z cs) fine in
-      let one = passed-both (refusal xs) (or-else (refusal ys) rest) (all .0) in
-      let two = passed-both (refusal ys) rest (one .1) in
+      let one = passed-both (refusal xs) (or-else (cond (named (decode xs)) 0 18) (or-else (refusal ys) rest)) (all .0) in
+      let any = passed-both (cond (named (decode xs)) 0 18) (or-else (refusal ys) rest) (one .1) in
+      let two = passed-both (refusal ys) rest (any .1) in
       let code = applied-fine z cs (all .1) in
       record {
         left-good = accepted-good xs bytes-xs (one .0);
+        left-named = passed-last (named (decode xs)) 17 (any .0);
         right-good = accepted-good ys bytes-ys (two .0);
         composes = passed-both (compose-room 59404 6144 1024) (built-refusal z) (two .1) .1;
         string = code .0;
@@ -82,7 +86,7 @@ module _ (xs ys cs : List ℕ) (bytes-xs : Bytes xs) (bytes-ys : Bytes ys) (fine
       }
 
   good-z : Good z
-  good-z = composed-good (decode xs) (decode ys) (passed .left-good) (passed .right-good) (passed .composes)
+  good-z = composed-good (decode xs) (decode ys) (passed .left-good) (passed .left-named) (passed .right-good) (passed .composes)
 
   pub good-lattice : Good w
   good-lattice = lattice-good s z good-z (passed .string) (passed .applies)
@@ -94,6 +98,7 @@ module _ (xs ys cs : List ℕ) (bytes-xs : Bytes xs) (bytes-ys : Bytes ys) (fine
   pairs =
       chain-pairs xs ys s z w (origin-pairs (composed (decode xs) (decode ys) .steps)) (lattice-origins s z)
       (composed-one-to-one (decode xs) (decode ys) (passed .left-good) (passed .right-good) (passed .composes))
+      (composed-plain (decode xs) (decode ys) (passed .left-good) (passed .left-named) (passed .right-good))
       (lattice-one-to-one s z good-z (passed .string) (passed .applies))
 
   pub infinite : (endless w ≡ true) ↔ Infinitely-many (Pairs xs ys s)
@@ -117,7 +122,7 @@ module _ (xs ys cs : List ℕ) (bytes-xs : Bytes xs) (bytes-ys : Bytes ys) (fine
 
   -- The line of a path is that of the pair that it stands for.
   line-of-pair : (k : ℕ) → k < length (paths w)
-      → line-of w k ≡ line k (pair-cost xs ys (leads-to xs ys s (nth-path w k))) (pair-output ys (leads-to xs ys s (nth-path w k)))
+      → line-of w k ≡ line k (pair-cost xs ys (leads-to xs ys s (nth-path w k))) (pair-output xs ys (leads-to xs ys s (nth-path w k)))
   unfolding line-of
   line-of-pair k h =
       let r : Stands-for (Pairs xs ys s) w (nth-path w k) (leads-to xs ys s (nth-path w k)) = pairs .leads (nth-path w k) (nth-path-accepts w k h) in

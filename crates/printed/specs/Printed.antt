@@ -64,7 +64,7 @@ pub record In-path-order (left right string : List ℕ) (l : List Two-paths) : T
 -- One line for each pair, numbered from k on: its number, its cost and its output.
 unfoldable pub pair-lines : (left right : List ℕ) → (k : ℕ) → List Two-paths → List ℕ
 pair-lines left right k [] = []
-pair-lines left right k (x ∷ l) = line k (pair-cost left right x) (pair-output right x) ++ pair-lines left right (k + 1) l
+pair-lines left right k (x ∷ l) = line k (pair-cost left right x) (pair-output left right x) ++ pair-lines left right (k + 1) l
 
 -- A text that begins with the word and a number, and one that is these and a line for each pair of a list.
 pub record Begins (text : List ℕ) (n : ℕ) : Type 0 where

@@ -20,7 +20,6 @@ use Rattle.steps.specs.declared.State.{State}
 use Rattle.steps.specs.Steps.{left-alone, right-alone, both-step, left-steps, right-steps, steps}
 use Rattle.transducer.proofs.Members.{in-cond, cond-has}
 use Rattle.transducer.proofs.Each.{FromArc, in-each-arc, each-arc-has}
-use Rattle.transducer.proofs.Fits.{fits-reads, reads-fits}
 
 -- A left arc that writes nothing, where the filter allows it.
 pub record LeftMove (t : Transducer) (x : State) (s : Step State Origin) : Type 0 where
@@ -39,7 +38,7 @@ pub record RightMove (u : Transducer) (x : State) (s : Step State Origin) : Type
   pub quiet : arc u right-arc .input ≡ 0
   pub made : s ≡ right-alone x right-arc (arc u right-arc)
 
--- A left arc that writes a symbol, and a right arc that reads it.
+-- A left arc that writes a symbol, and a right arc that fits it.
 pub record BothMove (t u : Transducer) (x : State) (s : Step State Origin) : Type 0 where
   pub left-arc : ℕ
   pub right-arc : ℕ
@@ -48,7 +47,7 @@ pub record BothMove (t u : Transducer) (x : State) (s : Step State Origin) : Typ
   pub left-leaves : arc t left-arc .source ≡ x .left
   pub right-leaves : arc u right-arc .source ≡ x .right
   pub writes : arc t left-arc .output ≡ 0 → ⊥
-  pub reads : arc u right-arc .input ≡ arc t left-arc .output
+  pub fitted : fits u (arc t left-arc .output) (arc u right-arc) ≡ true
   pub made : s ≡ both-step left-arc (arc t left-arc) right-arc (arc u right-arc)
 
 pub data Move (t u : Transducer) (x : State) (s : Step State Origin) : Type 0 where
@@ -65,7 +64,7 @@ pub record Fitting (u : Transducer) (x : State) (i : ℕ) (a : Arc) (s : Step St
   pub right-arc : ℕ
   pub below : right-arc < length (u .arcs)
   pub leaves : arc u right-arc .source ≡ x .right
-  pub reads : arc u right-arc .input ≡ a .output
+  pub fitted : fits u (a .output) (arc u right-arc) ≡ true
   pub made : s ≡ both-step i a right-arc (arc u right-arc)
 
 pub in-both-steps : (u : Transducer) (x : State) (i : ℕ) (a : Arc) (s : Step State Origin) → Mem s (both-steps u x i a) → Fitting u x i a s
@@ -75,7 +74,7 @@ in-both-steps u x i a s m =
     let j : ℕ = r .number in
     let b : Arc = arc u j in
     let c : (fits u (a .output) b ≡ true) × Mem s (both-step i a j b ∷ []) = in-cond s (fits u (a .output) b) (both-step i a j b ∷ []) (r .given) in
-    record { right-arc = j; below = r .below; leaves = r .leaves; reads = fits-reads u (a .output) b (c .0); made = only (c .1) }
+    record { right-arc = j; below = r .below; leaves = r .leaves; fitted = c .0; made = only (c .1) }
 
 pub both-steps-has : (u : Transducer) (x : State) (i : ℕ) (a : Arc) (s : Step State Origin) → Fitting u x i a s → Mem s (both-steps u x i a)
 unfolding both-steps
@@ -83,7 +82,7 @@ both-steps-has u x i a s r =
     let j : ℕ = r .right-arc in
     let b : Arc = arc u j in
     each-arc-has u (x .right) (λ j b. cond (fits u (a .output) b) (both-step i a j b ∷ []) []) s j (r .below) (r .leaves)
-    (cond-has s (fits u (a .output) b) (both-step i a j b ∷ []) (reads-fits u (a .output) b (r .reads)) (first (r .made)))
+    (cond-has s (fits u (a .output) b) (both-step i a j b ∷ []) (r .fitted) (first (r .made)))
 
 -- What comes of one left arc: a step of its own, or steps of both.
 pub data OfLeft (u : Transducer) (x : State) (i : ℕ) (a : Arc) (s : Step State Origin) : Type 0 where
@@ -132,7 +131,7 @@ step-move t u x s m = on (in-either (each-arc t (x .left) (left-steps u x)) m)
           left-leaves = r .leaves;
           right-leaves = f .leaves;
           writes = h;
-          reads = f .reads;
+          fitted = f .fitted;
           made = f .made;
         })
 
@@ -159,7 +158,7 @@ move-step t u x s (by-right m) =
 move-step t u x s (by-both m) =
     let i : ℕ = m .left-arc in
     let f : Fitting u x i (arc t i) s =
-    record { right-arc = m .right-arc; below = m .right-below; leaves = m .right-leaves; reads = m .reads; made = m .made } in
+    record { right-arc = m .right-arc; below = m .right-below; leaves = m .right-leaves; fitted = m .fitted; made = m .made } in
     in-front (each-arc u (x .right) (right-steps x))
     (each-arc-has t (x .left) (left-steps u x) s i (m .left-below) (m .left-leaves) (left-steps-has u x i (arc t i) s (with-right (m .writes) f)))
 

@@ -1,10 +1,9 @@
--- Laws of `reading-from`, `begin-from` and `run-at`: the right arcs passed over do not read the label, the left arcs passed over have no step,
+-- Laws of `first-at`, `begin-from` and `run-at`: the right arcs passed over do not fit the label, the left arcs passed over have no step,
 -- and the run that begins is the next one with steps. Assumes nothing.
 use mathlib.Core.Path.{_≡_, refl, sym, ap, _∙_}
-use mathlib.Core.Bool.{Bool, true, false, _||_, cond}
+use mathlib.Core.Bool.{Bool, true, false, cond}
 use mathlib.Core.List.{List, [], _∷_, _++_}
-use Prim.Native.Nat.{ℕ, zero, suc, _+_, _*_, _-_, _≤_, _<_}
-use native.Mathlib.Numerals.{add-one}
+use Prim.Native.Nat.{ℕ, zero, suc, _+_, _-_, _≤_, _<_}
 use native.Mathlib.Omega.{arith}
 use lib.Dec.{eqb, ltb}
 use lib.ListN.{length}
@@ -13,14 +12,15 @@ use Rattle.transducer.specs.declared.Arc.{Arc}
 use Rattle.transducer.specs.Format.{Transducer, Good}
 use Rattle.transducer.specs.Path.{arc}
 use Rattle.transducer.specs.Leaf.{arcs-below}
-use Rattle.wire.proofs.Bool.{by-test, never}
+use Rattle.transducer.specs.Each.{fits}
+use Rattle.wire.proofs.Bool.{by-test, never, clash}
 use Rattle.steps.specs.declared.Begin.{Begin}
 use Rattle.steps.specs.declared.Run.{Run}
 use Rattle.steps.specs.declared.State.{State}
 use Rattle.steps.specs.declared.Step.{Step}
 use Rattle.steps.specs.Lookup.{Rest}
 use Rattle.steps.specs.Packing.{Bounded}
-use Rattle.steps.specs.Runs.{run-step, run-steps, reading-from, begin-from, run-at, Takeable, In-both}
+use Rattle.steps.specs.Runs.{run-step, run-steps, first-at, fitting-from, begin-from, run-at, Takeable, In-both}
 use Rattle.transducer.proofs.RoundTrip.{good-range, good-content}
 use Rattle.transducer.proofs.Weights.{none-good}
 use Rattle.steps.proofs.Leaving.{rest-at, state-leaving}
@@ -40,68 +40,75 @@ use Rattle.steps.proofs.RunSteps.{
   runs-next,
 }
 
--- reading-from
+-- first-at
 
-module _ (u : Transducer) (label : ℕ) where
-  reading-least : (n j : ℕ) → j ≤ reading-from u label n j
-  unfolding reading-from
-  reading-least zero j = omega arith
-  reading-least (suc n) j =
-      let more : suc j ≤ reading-from u label n (suc j) = reading-least n (suc j) in
-      by-test (eqb (arc u j .input) label) (λ e. rw e (omega arith)) (λ e. rw e (omega arith))
+module _ (u : Transducer) (test : Arc → Bool) where
+  at-least : (n j : ℕ) → j ≤ first-at u test n j
+  unfolding first-at
+  at-least zero j = omega arith
+  at-least (suc n) j =
+      let more : suc j ≤ first-at u test n (suc j) = at-least n (suc j) in
+      by-test (test (arc u j)) (λ e. rw e (omega arith)) (λ e. rw e (omega arith))
 
-  reading-most : (n j : ℕ) → reading-from u label n j ≤ j + n
-  unfolding reading-from
-  reading-most zero j = omega arith
-  reading-most (suc n) j =
-      let more : reading-from u label n (suc j) ≤ suc j + n = reading-most n (suc j) in
-      by-test (eqb (arc u j .input) label) (λ e. rw e (omega arith)) (λ e. rw e (omega arith))
+  at-most : (n j : ℕ) → first-at u test n j ≤ j + n
+  unfolding first-at
+  at-most zero j = omega arith
+  at-most (suc n) j =
+      let more : first-at u test n (suc j) ≤ suc j + n = at-most n (suc j) in
+      by-test (test (arc u j)) (λ e. rw e (omega arith)) (λ e. rw e (omega arith))
 
-  reading-reads : (n j : ℕ) → reading-from u label n j < j + n → arc u (reading-from u label n j) .input ≡ label
-  unfolding reading-from
-  reading-reads zero j h = absurd (omega arith)
-  reading-reads (suc n) j h =
-      by-test (eqb (arc u j .input) label) (λ e. rw e (eqb-true (arc u j .input) label e))
-      (λ e. let less : reading-from u label n (suc j) < j + suc n = rw e at h in rw e (reading-reads n (suc j) (omega arith)))
+  at-passes : (n j : ℕ) → first-at u test n j < j + n → test (arc u (first-at u test n j)) ≡ true
+  unfolding first-at
+  at-passes zero j h = absurd (omega arith)
+  at-passes (suc n) j h =
+      by-test (test (arc u j)) (λ e. rw e e)
+      (λ e. let less : first-at u test n (suc j) < j + suc n = rw e at h in rw e (at-passes n (suc j) (omega arith)))
 
-  reading-unread : (n j m : ℕ) → j ≤ m → m < reading-from u label n j → arc u m .input ≡ label → ⊥
-  unfolding reading-from
-  reading-unread zero j m l h is = omega arith
-  reading-unread (suc n) j m l h is =
-      by-test (eqb (arc u j .input) label)
+  at-before : (n j m : ℕ) → j ≤ m → m < first-at u test n j → test (arc u m) ≡ true → ⊥
+  unfolding first-at
+  at-before zero j m l h is = omega arith
+  at-before (suc n) j m l h is =
+      by-test (test (arc u j))
       (λ e. let less : m < j = rw e at h in omega arith)
-      (λ e. let less : m < reading-from u label n (suc j) = rw e at h in
+      (λ e. let less : m < first-at u test n (suc j) = rw e at h in
       by-test (eqb m j)
-      (λ k. let same : m ≡ j = eqb-true m j k in eqb-false (arc u j .input) label e (rw same at is))
-      (λ k. let other : m ≡ j → ⊥ = eqb-false m j k in reading-unread n (suc j) m (omega arith) less is))
+      (λ k. let same : m ≡ j = eqb-true m j k in clash (rw same at is) e)
+      (λ k. let other : m ≡ j → ⊥ = eqb-false m j k in at-before n (suc j) m (omega arith) less is))
 
-  -- Right arc k is the first from j on, below `to`, that reads the label, or k is `to`.
-  pub record First-reading (j to k : ℕ) : Type 0 where
+  -- Right arc k is the first from j on, below `to`, that passes the test, or k is `to`.
+  pub record First (j to k : ℕ) : Type 0 where
     pub least : j ≤ k
     pub most : k ≤ to
-    pub reads : k < to → arc u k .input ≡ label
-    pub unread : (m : ℕ) → j ≤ m → m < k → arc u m .input ≡ label → ⊥
+    pub passes : k < to → test (arc u k) ≡ true
+    pub before : (m : ℕ) → j ≤ m → m < k → test (arc u m) ≡ true → ⊥
 
-  pub first-reading : (j to : ℕ) → j ≤ to → First-reading j to (reading-from u label (to - j) j)
-  first-reading j to l =
-      let k : ℕ = reading-from u label (to - j) j in
-      let most : k ≤ j + (to - j) = reading-most (to - j) j in
+  pub first-is : (j to : ℕ) → j ≤ to → First j to (first-at u test (to - j) j)
+  first-is j to l =
+      let k : ℕ = first-at u test (to - j) j in
+      let most : k ≤ j + (to - j) = at-most (to - j) j in
       record {
-        least = reading-least (to - j) j;
+        least = at-least (to - j) j;
         most = omega arith;
-        reads = λ h. reading-reads (to - j) j (omega arith);
-        unread = reading-unread (to - j) j;
+        passes = λ h. at-passes (to - j) j (omega arith);
+        before = at-before (to - j) j;
       }
 
-  pub reading-unique : (j to k : ℕ) → j ≤ to → First-reading j to k → k ≡ reading-from u label (to - j) j
-  reading-unique j to k l f =
-      let r : ℕ = reading-from u label (to - j) j in
-      let g : First-reading j to r = first-reading j to l in
+  pub first-unique : (j to k : ℕ) → j ≤ to → First j to k → k ≡ first-at u test (to - j) j
+  first-unique j to k l f =
+      let r : ℕ = first-at u test (to - j) j in
+      let g : First j to r = first-is j to l in
       by-test (ltb k r)
-      (λ e. let h : k < r = ltb-true k r e in absurd (g .unread k (f .least) h (f .reads (omega (arith, g .most)))))
+      (λ e. let h : k < r = ltb-true k r e in absurd (g .before k (f .least) h (f .passes (omega (arith, g .most)))))
       (λ e. by-test (ltb r k)
-      (λ d. let h : r < k = ltb-true r k d in absurd (f .unread r (g .least) h (g .reads (omega (arith, f .most)))))
+      (λ d. let h : r < k = ltb-true r k d in absurd (f .before r (g .least) h (g .passes (omega (arith, f .most)))))
       (λ d. omega (arith, ltb-false k r e, ltb-false r k d)))
+
+-- Two tests with the same answers have the same first arc.
+pub first-at-same : (u : Transducer) (test test' : Arc → Bool) → ((j : ℕ) → test (arc u j) ≡ test' (arc u j)) → (n j : ℕ)
+    → first-at u test n j ≡ first-at u test' n j
+unfolding first-at
+first-at-same u test test' same zero j = refl
+first-at-same u test test' same (suc n) j = rw (same j, first-at-same u test test' same n (suc j))
 
 -- One step of a run
 
@@ -130,19 +137,18 @@ module _ (u : Transducer) (r : Run) where
               weight-fits = ready .weight-fits;
               inside = ready .inside;
               single = λ h. omega arith;
-              rest = λ h k. absurd (omega arith);
               fits-here = λ h. absurd (omega arith);
             };
         are = rw same (first-step j (suc j) (rw same at ready) (omega arith));
       }
 
-  -- Any other goes on with the next right arc that reads its label.
-  pub next-together : (j to k : ℕ) → Takeable u r j to → j < to → r .alone ≡ false → k ≡ reading-from u (r .label) (to - suc j) (suc j)
+  -- Any other goes on with the next right arc that fits its label.
+  pub next-together : (j to k : ℕ) → Takeable u r j to → j < to → r .alone ≡ false → k ≡ fitting-from u (r .label) (to - suc j) (suc j)
       → Next-step j to k
   next-together j to k ready l e is =
-      let first : First-reading u (r .label) (suc j) to k = rw is (first-reading u (r .label) (suc j) to l) in
+      let first : First u (fits u (r .label)) (suc j) to k = rw is (first-is u (fits u (r .label)) (suc j) to l) in
       let skip : run-steps u r (to - suc j) (suc j) ≡ run-steps u r (to - k) k =
-      run-skip u r e (suc j) k to (first .least) (first .most) (first .unread) in
+      run-skip u r e (suc j) k to (first .least) (first .most) (first .before) in
       record {
         past = first .least;
         ready =
@@ -151,10 +157,27 @@ module _ (u : Transducer) (r : Run) where
               weight-fits = ready .weight-fits;
               inside = ready .inside;
               single = λ h. never (rw e at h);
-              rest = λ h m. rest-at k (ready .rest e l) (omega (arith, first .least)) m;
-              fits-here = λ h. rw e (eq-eqb (arc u k .input) (r .label) (first .reads h));
+              fits-here = λ h. rw e (first .passes h);
             };
         are = first-step j to ready l ∙ ap (λ (ss : List Step). run-step u r j ∷ ss) skip;
+      }
+
+  -- Wherever beyond the end: there is no further step.
+  pub next-past : (j to k : ℕ) → to ≤ k → Next-step j to to → Next-step j to k
+  next-past j to k beyond next =
+      let none : to - to ≡ 0 = omega arith in
+      let past : to - k ≡ 0 = omega arith in
+      record {
+        past = omega (arith, next .past);
+        ready =
+            record {
+              target-fits = next .ready .target-fits;
+              weight-fits = next .ready .weight-fits;
+              inside = next .ready .inside;
+              single = λ h. omega (arith, next .ready .single h);
+              fits-here = λ h. absurd (omega arith);
+            };
+        are = next .are ∙ ap (λ (ss : List Step). run-step u r j ∷ ss) (rw (none, past, run-none u r to) (sym (run-none u r k)));
       }
 
 -- The next run
@@ -172,6 +195,7 @@ pub record Run-here (t u : Transducer) (x : State) (i last to : ℕ) (b : Begin)
   pub at-most : b .i ≤ last
   pub alone-before : b .alone ≡ true → b .i < last
   pub ready : Takeable u r (b .j) (cond (b .alone) 1 to)
+  pub ends : r .alone ≡ false → b .j < cond (b .alone) 1 to → Rest u (arc u (b .j) .source) (b .j) (cond (b .alone) 1 to)
   pub are-more : b .i < last
       → runs-from t u x (last - i) i
       ≡ run-steps u r (cond (b .alone) 1 to - b .j) (b .j) ++ runs-from t u x (last - suc (b .i)) (suc (b .i))
@@ -188,6 +212,7 @@ here-skip t u x i last to b r l none h =
       at-most = h .at-most;
       alone-before = h .alone-before;
       ready = h .ready;
+      ends = h .ends;
       are-more = λ p. e ∙ h .are-more p;
       are-last = λ p. e ∙ h .are-last p;
     }
@@ -203,35 +228,35 @@ module _ (t u : Transducer) (tg : Good t) (ug : Good u) (x : State) (inside : In
   right-order = right-rest .order
 
   -- A left state and either filter state, with the right state at hand, can be packed.
-  fits : (p filter : ℕ) → p < t .states → filter < 2 → Bounded (record { left = p; right = x .right; filter = filter })
-  fits p filter l f =
+  packs : (p filter : ℕ) → p < t .states → filter < 2 → Bounded (record { left = p; right = x .right; filter = filter })
+  packs p filter l f =
       let few : t .states ≤ 1024 = good-range t tg .states in
       let many : u .states ≤ 1024 = good-range u ug .states in
       record { left = omega arith; right = omega (arith, inside .right-in); filter = f }
 
   -- Behind the last left arc: the right arcs alone.
   here-right : (last : ℕ)
-      → Run-here t u x last last (right-to u x) (record { alone = false; i = last; j = reading-from u 0 (right-to u x - right-from u x) (right-from u x) })
+      → Run-here t u x last last (right-to u x) (record { alone = false; i = last; j = fitting-from u 0 (right-to u x - right-from u x) (right-from u x) })
       (right-run x)
   here-right last =
-      let j : ℕ = reading-from u 0 (right-to u x - right-from u x) (right-from u x) in
-      let first : First-reading u 0 (right-from u x) (right-to u x) j = first-reading u 0 (right-from u x) (right-to u x) right-order in
+      let j : ℕ = fitting-from u 0 (right-to u x - right-from u x) (right-from u x) in
+      let first : First u (fits u 0) (right-from u x) (right-to u x) j = first-is u (fits u 0) (right-from u x) (right-to u x) right-order in
       record {
         at-least = omega arith;
         at-most = omega arith;
         alone-before = λ h. never h;
         ready =
             record {
-              target-fits = fits (x .left) 1 (inside .left-in) (omega arith);
+              target-fits = packs (x .left) 1 (inside .left-in) (omega arith);
               weight-fits = none-good;
               inside = λ h. right-inside;
               single = λ h. never h;
-              rest = λ h m. rest-at j right-rest (first .least) m;
-              fits-here = λ h. eq-eqb (arc u j .input) 0 (first .reads h);
+              fits-here = first .passes;
             };
+        ends = λ h m. rest-at j right-rest (first .least) m;
         are-more = λ h. absurd (omega arith);
         are-last = λ h.
-            runs-last t u x last ∙ run-skip u (right-run x) refl (right-from u x) j (right-to u x) (first .least) (first .most) (first .unread);
+            runs-last t u x last ∙ run-skip u (right-run x) refl (right-from u x) j (right-to u x) (first .least) (first .most) (first .before);
       }
 
   -- A left arc that writes nothing, where the filter state allows it.
@@ -244,46 +269,46 @@ module _ (t u : Transducer) (tg : Good t) (ug : Good u) (x : State) (inside : In
         alone-before = λ h. l;
         ready =
             record {
-              target-fits = fits (arc t i .target) 0 (good-content t tg .target i (omega arith)) (omega arith);
+              target-fits = packs (arc t i .target) 0 (good-content t tg .target i (omega arith)) (omega arith);
               weight-fits = good-content t tg .weight i (omega arith);
               inside = λ h. never (sym h);
               single = λ h. omega arith;
-              rest = λ h. never (sym h);
               fits-here = λ h. refl;
             };
+        ends = λ h. never (sym h);
         are-more = λ h.
             runs-next t u x i last l
             ∙ ap (λ (ss : List Step). ss ++ runs-from t u x (last - suc i) (suc i)) (arc-steps-alone t u x i silent free);
         are-last = λ h. absurd (omega arith);
       }
 
-  -- A left arc whose output some right arc reads.
+  -- A left arc whose output some right arc fits.
   here-both : (i last : ℕ) → i < last → last ≤ length (t .arcs) → (arc t i .output ≡ 0 → ⊥)
       → Run-here t u x i last (right-to u x)
-      (record { alone = false; i = i; j = reading-from u (arc t i .output) (right-to u x - right-from u x) (right-from u x) })
+      (record { alone = false; i = i; j = fitting-from u (arc t i .output) (right-to u x - right-from u x) (right-from u x) })
       (both-run x i (arc t i))
   here-both i last l within writes =
       let label : ℕ = arc t i .output in
-      let j : ℕ = reading-from u label (right-to u x - right-from u x) (right-from u x) in
-      let first : First-reading u label (right-from u x) (right-to u x) j = first-reading u label (right-from u x) (right-to u x) right-order in
+      let j : ℕ = fitting-from u label (right-to u x - right-from u x) (right-from u x) in
+      let first : First u (fits u label) (right-from u x) (right-to u x) j = first-is u (fits u label) (right-from u x) (right-to u x) right-order in
       record {
         at-least = omega arith;
         at-most = omega arith;
         alone-before = λ h. never h;
         ready =
             record {
-              target-fits = fits (arc t i .target) 0 (good-content t tg .target i (omega arith)) (omega arith);
+              target-fits = packs (arc t i .target) 0 (good-content t tg .target i (omega arith)) (omega arith);
               weight-fits = good-content t tg .weight i (omega arith);
               inside = λ h. right-inside;
               single = λ h. never h;
-              rest = λ h m. rest-at j right-rest (first .least) m;
-              fits-here = λ h. eq-eqb (arc u j .input) label (first .reads h);
+              fits-here = first .passes;
             };
+        ends = λ h m. rest-at j right-rest (first .least) m;
         are-more = λ h.
             runs-next t u x i last l
             ∙ ap (λ (ss : List Step). ss ++ runs-from t u x (last - suc i) (suc i))
             (arc-steps-both t u x i writes
-            ∙ run-skip u (both-run x i (arc t i)) refl (right-from u x) j (right-to u x) (first .least) (first .most) (first .unread));
+            ∙ run-skip u (both-run x i (arc t i)) refl (right-from u x) j (right-to u x) (first .least) (first .most) (first .before));
         are-last = λ h. absurd (omega arith);
       }
 
@@ -306,12 +331,12 @@ module _ (t u : Transducer) (tg : Good t) (ug : Good u) (x : State) (inside : In
   unfolding begin-from
   begin-here zero i last e within =
       let same : i ≡ last = omega arith in
-      rw (same, run-at-right last (reading-from u 0 (right-to u x - right-from u x) (right-from u x))) (here-right last)
+      rw (same, run-at-right last (fitting-from u 0 (right-to u x - right-from u x) (right-from u x))) (here-right last)
   begin-here (suc n) i last e within =
       let l : i < last = omega arith in
       let label : ℕ = arc t i .output in
       let width : ℕ = right-to u x - right-from u x in
-      let j : ℕ = reading-from u label width (right-from u x) in
+      let j : ℕ = fitting-from u label width (right-from u x) in
       let more = begin-here n (suc i) last (omega arith) within in
       let b : Begin = begin-from t u (x .filter) (right-from u x) width n (suc i) in
       by-test (eqb label 0)
@@ -324,10 +349,10 @@ module _ (t u : Transducer) (tg : Good t) (ug : Good u) (x : State) (inside : In
       by-test (ltb j (right-from u x + width))
       (λ h. rw (z, h, run-at-both i last j l) (here-both i last l within writes))
       (λ h. let none : right-from u x + width ≤ j = ltb-false j (right-from u x + width) h in
-      let first : First-reading u label (right-from u x) (right-to u x) j = first-reading u label (right-from u x) (right-to u x) right-order in
+      let first : First u (fits u label) (right-from u x) (right-to u x) j = first-is u (fits u label) (right-from u x) (right-to u x) right-order in
       rw (z, h)
       (here-skip t u x i last (right-to u x) b (run-at t last x b) l
-      (arc-steps-unread t u x i writes (λ m p q. first .unread m p (omega arith))) more)))
+      (arc-steps-unread t u x i writes (λ m p q. first .before m p (omega arith))) more)))
 
 -- The same in the words of the code.
 pub next-run-here : (t u : Transducer) (x : State) (i last to : ℕ) (b : Begin) (r : Run) → Good t → Good u → In-both t u x → to ≡ right-to u x

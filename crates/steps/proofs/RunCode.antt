@@ -1,6 +1,6 @@
 -- What the code of a run relies on: an arc's labels read in place, and the search for the next left arc with a step. Assumes nothing.
 use mathlib.Core.Path.{_≡_, refl, sym, ap, _∙_}
-use mathlib.Core.Bool.{Bool, true, false}
+use mathlib.Core.Bool.{true, false}
 use mathlib.Core.List.{List}
 use Prim.Native.Nat.{ℕ, suc, _+_, _*_, _-_, _≤_, _<_}
 use native.Mathlib.Numerals.{add-one}
@@ -15,7 +15,7 @@ use Rattle.transducer.specs.Leaf.{Opened}
 use Rattle.transducer.proofs.Offsets.{arc-offset, length-accepted, length-arcs}
 use Rattle.transducer.proofs.Accept.{Bounds, bounds}
 use Rattle.transducer.proofs.RoundTrip.{accepted-good, good-range, good-content}
-use Rattle.steps.specs.Runs.{reading-from, begin-from}
+use Rattle.steps.specs.Runs.{fitting-from, begin-from}
 
 -- Accepted bytes
 
@@ -66,14 +66,14 @@ module _ (t u : Transducer) (filter from to last k : ℕ) where
       let more : last - k ≡ suc (last - suc k) = omega arith in
       rw (add-one, more, eq-eqb (arc t k .output) 0 e, ne-eqb filter 0 f)
 
-  begin-met : (j : ℕ) → k < last → (arc t k .output ≡ 0 → ⊥) → j ≡ reading-from u (arc t k .output) (to - from) from → from ≤ to → j < to
+  begin-met : (j : ℕ) → k < last → (arc t k .output ≡ 0 → ⊥) → j ≡ fitting-from u (arc t k .output) (to - from) from → from ≤ to → j < to
       → begin-from t u filter from (to - from) (last - k) k ≡ record { alone = false; i = k; j = j }
   unfolding begin-from
   begin-met j l e r o h =
       let more : last - k ≡ suc (last - suc k) = omega arith in
       rw (more, ne-eqb (arc t k .output) 0 e, ← r, lt-ltb j (from + (to - from)) (omega arith))
 
-  begin-unmet : (j : ℕ) → k < last → (arc t k .output ≡ 0 → ⊥) → j ≡ reading-from u (arc t k .output) (to - from) from → from ≤ to → to ≤ j
+  begin-unmet : (j : ℕ) → k < last → (arc t k .output ≡ 0 → ⊥) → j ≡ fitting-from u (arc t k .output) (to - from) from → from ≤ to → to ≤ j
       → begin-from t u filter from (to - from) (last - k) k ≡ begin-from t u filter from (to - from) (last - (k + 1)) (k + 1)
   unfolding begin-from
   begin-unmet j l e r o h =
@@ -81,7 +81,7 @@ module _ (t u : Transducer) (filter from to last k : ℕ) where
       rw (add-one, more, ne-eqb (arc t k .output) 0 e, ← r, le-ltb j (from + (to - from)) (omega arith))
 
   begin-stop : last ≤ k
-      → begin-from t u filter from (to - from) (last - k) k ≡ record { alone = false; i = k; j = reading-from u 0 (to - from) from }
+      → begin-from t u filter from (to - from) (last - k) k ≡ record { alone = false; i = k; j = fitting-from u 0 (to - from) from }
   unfolding begin-from
   begin-stop l = let none : last - k ≡ 0 = omega arith in rw none
 
@@ -103,16 +103,16 @@ module _ {t u : Transducer} {filter from to i last : ℕ} where
   seeking-silent {k} l e f s =
       record { within = omega arith; same = sym (begin-silent t u filter from to last k l e f) ∙ s .same }
 
-  pub seeking-met : {k j : ℕ} → k < last → (arc t k .output ≡ 0 → ⊥) → j ≡ reading-from u (arc t k .output) (to - from) from → from ≤ to → j < to
+  pub seeking-met : {k j : ℕ} → k < last → (arc t k .output ≡ 0 → ⊥) → j ≡ fitting-from u (arc t k .output) (to - from) from → from ≤ to → j < to
       → Seeking t u filter from to i last k → record { alone = false; i = k; j = j } ≡ begin-from t u filter from (to - from) (last - i) i
   seeking-met {k} {j} l e r o h s = sym (begin-met t u filter from to last k j l e r o h) ∙ s .same
 
-  pub seeking-unmet : {k j : ℕ} → k < last → (arc t k .output ≡ 0 → ⊥) → j ≡ reading-from u (arc t k .output) (to - from) from → from ≤ to → to ≤ j
+  pub seeking-unmet : {k j : ℕ} → k < last → (arc t k .output ≡ 0 → ⊥) → j ≡ fitting-from u (arc t k .output) (to - from) from → from ≤ to → to ≤ j
       → Seeking t u filter from to i last k → Seeking t u filter from to i last (k + 1)
   seeking-unmet {k} {j} l e r o h s =
       record { within = omega arith; same = sym (begin-unmet t u filter from to last k j l e r o h) ∙ s .same }
 
-  pub seeking-stop : {k : ℕ} (j : ℕ) → last ≤ k → j ≡ reading-from u 0 (to - from) from → Seeking t u filter from to i last k
+  pub seeking-stop : {k : ℕ} (j : ℕ) → last ≤ k → j ≡ fitting-from u 0 (to - from) from → Seeking t u filter from to i last k
       → record { alone = false; i = last; j = j } ≡ begin-from t u filter from (to - from) (last - i) i
   seeking-stop {k} j l r s =
       let e : last ≡ k = omega (arith, s .within) in

@@ -1,9 +1,9 @@
--- The steps of a composed state as runs: of each left arc in turn, alone or with the right arcs that read its output, then of the right arcs alone.
+-- The steps of a composed state as runs: of each left arc in turn, alone or with the right arcs that fit its output, then of the right arcs alone.
 -- Assumes nothing.
 use mathlib.Core.Path.{_≡_, refl, sym, ap, _∙_}
 use mathlib.Core.Bool.{Bool, true, false, _||_, cond}
 use mathlib.Core.List.{List, [], _∷_, _++_, map, map-append, append-assoc}
-use Prim.Native.Nat.{ℕ, zero, suc, _+_, _*_, _-_, _≤_, _<_}
+use Prim.Native.Nat.{ℕ, zero, suc, _+_, _-_, _≤_, _<_}
 use native.Mathlib.Omega.{arith}
 use lib.Dec.{eqb}
 use lib.ListN.{length}
@@ -11,10 +11,11 @@ use borrow.Author.Tests.{eqb-true, eqb-false, eq-eqb, ne-eqb}
 use Rattle.transducer.specs.declared.Arc.{Arc}
 use Rattle.transducer.specs.Format.{Transducer, barred, sources-stay, Good}
 use Rattle.transducer.specs.Path.{arc}
-use Rattle.transducer.specs.Each.{each-arc, fits, passed}
+use Rattle.transducer.specs.Each.{each-arc, fits}
 use Rattle.transducer.specs.Leaf.{arcs-below}
 use Rattle.transducer.proofs.Ranges.{from-to, from-to-same, from-to-skip, map-from-to, arcs-below-length, arcs-below-rises, each-arc-range}
-use Rattle.wire.proofs.Bool.{by-test}
+use Rattle.transducer.proofs.Fits.{fits-none}
+use Rattle.wire.proofs.Bool.{by-test, is-false}
 use Rattle.explore.specs.Explore as explore
 use Rattle.steps.specs.declared.Origin.{Origin}
 use Rattle.steps.specs.declared.Run.{Run}
@@ -32,6 +33,19 @@ pub run-none : (u : Transducer) (r : Run) (j : ℕ) → run-steps u r 0 j ≡ []
 unfolding run-steps
 run-none u r j = refl
 
+-- A run in two parts.
+pub run-append : (u : Transducer) (r : Run) (n m j : ℕ) → run-steps u r (n + m) j ≡ run-steps u r n j ++ run-steps u r m (j + n)
+unfolding run-steps
+run-append u r zero m j =
+    let all : 0 + m ≡ m = omega arith in
+    let here : j + 0 ≡ j = omega arith in
+    rw (all, here) refl
+run-append u r (suc n) m j =
+    let all : suc n + m ≡ suc (n + m) = omega arith in
+    let further : j + suc n ≡ suc j + n = omega arith in
+    by-test (r .alone || fits u (r .label) (arc u j)) (λ e. rw (all, further, e, run-append u r n m (suc j)) refl)
+    (λ e. rw (all, further, e, run-append u r n m (suc j)) refl)
+
 -- A run of a left arc alone is one step.
 pub run-alone : (u : Transducer) (r : Run) (j : ℕ) → r .alone ≡ true → run-steps u r 1 j ≡ run-step u r j ∷ []
 unfolding run-steps
@@ -43,37 +57,37 @@ or-of a b c p q = rw p q
 module _ (u : Transducer) (r : Run) (together : r .alone ≡ false) where
   -- The steps that a right arc adds.
   abbrev pub run-arc : (j : ℕ) → List Step
-  run-arc j = cond (eqb (arc u j .input) (r .label)) (run-step u r j ∷ []) []
+  run-arc j = cond (fits u (r .label) (arc u j)) (run-step u r j ∷ []) []
 
-  tested : (j : ℕ) (b : Bool) → eqb (arc u j .input) (r .label) ≡ b → r .alone || eqb (arc u j .input) (r .label) ≡ b
-  tested j b e = or-of (r .alone) (eqb (arc u j .input) (r .label)) b together e
+  tested : (j : ℕ) (b : Bool) → fits u (r .label) (arc u j) ≡ b → r .alone || fits u (r .label) (arc u j) ≡ b
+  tested j b e = or-of (r .alone) (fits u (r .label) (arc u j)) b together e
 
   pub run-range : (n j : ℕ) → run-steps u r n j ≡ from-to n j run-arc
   unfolding run-steps from-to
   run-range zero j = refl
   run-range (suc n) j =
-      by-test (eqb (arc u j .input) (r .label))
+      by-test (fits u (r .label) (arc u j))
       (λ e. rw (tested j true e, e) (ap (λ (l : List Step). run-step u r j ∷ l) (run-range n (suc j))))
       (λ e. rw (tested j false e, e) (run-range n (suc j)))
 
-  -- Right arcs that do not read the label may be passed over.
-  pub run-skip : (j k to : ℕ) → j ≤ k → k ≤ to → ((m : ℕ) → j ≤ m → m < k → arc u m .input ≡ r .label → ⊥)
+  -- Right arcs that do not fit the label may be passed over.
+  pub run-skip : (j k to : ℕ) → j ≤ k → k ≤ to → ((m : ℕ) → j ≤ m → m < k → fits u (r .label) (arc u m) ≡ true → ⊥)
       → run-steps u r (to - j) j ≡ run-steps u r (to - k) k
   run-skip j k to l m unread =
-      run-range (to - j) j ∙ from-to-skip j k to run-arc l m (λ i p q. rw (ne-eqb (arc u i .input) (r .label) (unread i p q)))
+      run-range (to - j) j ∙ from-to-skip j k to run-arc l m (λ i p q. rw (is-false (fits u (r .label) (arc u i)) (unread i p q)))
       ∙ sym (run-range (to - k) k)
 
-  pub run-unread : (j to : ℕ) → j ≤ to → ((m : ℕ) → j ≤ m → m < to → arc u m .input ≡ r .label → ⊥) → run-steps u r (to - j) j ≡ []
+  pub run-unread : (j to : ℕ) → j ≤ to → ((m : ℕ) → j ≤ m → m < to → fits u (r .label) (arc u m) ≡ true → ⊥) → run-steps u r (to - j) j ≡ []
   run-unread j to l unread =
       let e : to - to ≡ 0 = omega arith in
       run-skip j to to l (omega arith) unread ∙ (rw e (run-none u r to))
 
-  -- A right arc that reads the label makes a step.
-  pub run-next : (j to : ℕ) → j < to → arc u j .input ≡ r .label → run-steps u r (to - j) j ≡ run-step u r j ∷ run-steps u r (to - suc j) (suc j)
+  -- A right arc that fits the label makes a step.
+  pub run-next : (j to : ℕ) → j < to → fits u (r .label) (arc u j) ≡ true → run-steps u r (to - j) j ≡ run-step u r j ∷ run-steps u r (to - suc j) (suc j)
   unfolding run-steps
-  run-next j to l reads =
+  run-next j to l fitted =
       let e : to - j ≡ suc (to - suc j) = omega arith in
-      rw (e, tested j true (eq-eqb (arc u j .input) (r .label) reads))
+      rw (e, tested j true fitted)
 
 -- The three kinds of run, from a state x: of left arc i alone, of left arc i with right arcs, of right arcs alone.
 
@@ -83,7 +97,14 @@ alone-run x i a =
 
 abbrev pub both-run : State → (i : ℕ) → Arc → Run
 both-run x i a =
-    record { alone = false; left = i; label = a .output; input = a .input; target = record { left = a .target; right = x .right; filter = 0 }; weight = a .weight }
+    record {
+      alone = false;
+      left = i;
+      label = a .output;
+      input = a .input;
+      target = record { left = a .target; right = x .right; filter = 0 };
+      weight = a .weight;
+    }
 
 abbrev pub right-run : State → Run
 right-run x =
@@ -100,7 +121,7 @@ unfolding coded left-alone run-step
 coded-left u x i j a = refl
 
 pub coded-both : (u : Transducer) (x : State) (i j : ℕ) (a : Arc) → i < 65535 → coded (both-step i a j (arc u j)) ≡ run-step u (both-run x i a) j
-unfolding coded both-step run-step passed
+unfolding coded both-step run-step
 coded-both u x i j a small = rw (ne-eqb i 65535 (λ q. omega arith))
 
 pub coded-right : (u : Transducer) (x : State) (j : ℕ) → coded (right-alone x j (arc u j)) ≡ run-step u (right-run x) j
@@ -123,18 +144,18 @@ pub left-steps-none : (u : Transducer) (x : State) (i : ℕ) (a : Arc) → a .ou
 unfolding left-steps
 left-steps-none u x i a e k = rw (eq-eqb (a .output) 0 e, ne-eqb (x .filter) 0 k)
 
--- A left arc that writes goes with each right arc that reads its output.
+-- A left arc that writes goes with each right arc that fits its output.
 pub left-steps-both : (u : Transducer) (x : State) (i : ℕ) (a : Arc) → sources-stay 0 (u .arcs) ≡ true → (a .output ≡ 0 → ⊥) → i < 65535
     → map coded (left-steps u x i a) ≡ right-steps-of u x (both-run x i a)
-unfolding left-steps fits
+unfolding left-steps
 left-steps-both u x i a stay writes small =
     let lo : ℕ = arcs-below (x .right) (u .arcs) in
     let n : ℕ = arcs-below (suc (x .right)) (u .arcs) - lo in
-    let f : ℕ → Arc → List (explore.Step State Origin) = λ j b. cond (eqb (b .input) (a .output)) (both-step i a j b ∷ []) [] in
+    let f : ℕ → Arc → List (explore.Step State Origin) = λ j b. cond (fits u (a .output) b) (both-step i a j b ∷ []) [] in
     rw (ne-eqb (a .output) 0 writes)
     (ap (map coded) (each-arc-range u (x .right) f stay) ∙ map-from-to coded n lo (λ j. f j (arc u j))
     ∙ from-to-same n lo (λ j. map coded (f j (arc u j))) (run-arc u (both-run x i a) refl)
-    (λ j p q. map-cond coded (eqb (arc u j .input) (a .output)) (both-step i a j (arc u j)) ∙ (rw (coded-both u x i j a small)))
+    (λ j p q. map-cond coded (fits u (a .output) (arc u j)) (both-step i a j (arc u j)) ∙ (rw (coded-both u x i j a small)))
     ∙ sym (run-range u (both-run x i a) refl n lo))
 
 -- The right arcs that read nothing go alone.
@@ -146,7 +167,7 @@ right-steps-alone u x stay =
     let n : ℕ = arcs-below (suc (x .right)) (u .arcs) - lo in
     ap (map coded) (each-arc-range u (x .right) (right-steps x) stay) ∙ map-from-to coded n lo (λ j. right-steps x j (arc u j))
     ∙ from-to-same n lo (λ j. map coded (right-steps x j (arc u j))) (run-arc u (right-run x) refl)
-    (λ j p q. map-cond coded (eqb (arc u j .input) 0) (right-alone x j (arc u j)) ∙ (rw (coded-right u x j)))
+    (λ j p q. map-cond coded (eqb (arc u j .input) 0) (right-alone x j (arc u j)) ∙ (rw (coded-right u x j, fits-none u (arc u j))))
     ∙ sym (run-range u (right-run x) refl n lo)
 
 -- The steps of left arc i.
@@ -173,9 +194,9 @@ module _ (t u : Transducer) (x : State) where
   unfolding arc-steps
   arc-steps-both i writes = rw (ne-eqb (arc t i .output) 0 writes)
 
-  -- An output that no right arc reads gives no step.
+  -- An output that no right arc fits gives no step.
   pub arc-steps-unread : (i : ℕ) → (arc t i .output ≡ 0 → ⊥)
-      → ((j : ℕ) → arcs-below (x .right) (u .arcs) ≤ j → j < arcs-below (suc (x .right)) (u .arcs) → arc u j .input ≡ arc t i .output → ⊥)
+      → ((j : ℕ) → arcs-below (x .right) (u .arcs) ≤ j → j < arcs-below (suc (x .right)) (u .arcs) → fits u (arc t i .output) (arc u j) ≡ true → ⊥)
       → arc-steps t u x i ≡ []
   arc-steps-unread i writes unread =
       arc-steps-both i writes

@@ -16,14 +16,15 @@ use Rattle.steps.specs.declared.Origin.the-variants.{Left, Right, Both}
 unfoldable pub same-state : State → State → Bool
 same-state x y = eqb (x .left) (y .left) && (eqb (x .right) (y .right) && eqb (x .filter) (y .filter))
 
--- A step of the left alone, of the right alone, and of both.
+-- A step of the left alone, of the right alone, and of both: it writes what the right arc writes for the label that the left one writes, which is
+-- the empty one where the right is alone.
 unfoldable pub left-alone : State → (i : ℕ) → Arc → Step State Origin
 left-alone x i a =
     record { target = record { left = a .target; right = x .right; filter = 0 }; input = a .input; output = 0; weight = a .weight; origin = Left i }
 
 unfoldable pub right-alone : State → (j : ℕ) → Arc → Step State Origin
 right-alone x j b =
-    record { target = record { left = x .left; right = b .target; filter = 1 }; input = 0; output = b .output; weight = b .weight; origin = Right j }
+    record { target = record { left = x .left; right = b .target; filter = 1 }; input = 0; output = passed 0 b; weight = b .weight; origin = Right j }
 
 unfoldable pub both-step : (i : ℕ) → (a : Arc) → (j : ℕ) → (b : Arc) → Step State Origin
 both-step i a j b =

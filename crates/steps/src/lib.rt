@@ -7,6 +7,8 @@ mod runs;
 pub use keys::pack;
 pub use keys::unpack;
 pub use lookup::LABEL_BUCKETS;
+pub use lookup::links_end;
+pub use lookup::next_fit;
 pub use lookup::put_chains;
 pub use runs::left_origin;
 pub use runs::next_run;
@@ -37,7 +39,7 @@ pub struct Step {
     pub weight: i32,
 }
 
-// Steps that differ in their right arc alone: of one left arc alone, of one left arc with each right arc that reads `label`, or of the
+// Steps that differ in their right arc alone: of one left arc alone, of one left arc with each right arc that fits `label`, or of the
 // right arcs alone that read nothing (then `left` is 65,535). The right part of `target` is where a left arc alone leads; a right arc leads
 // to its own target.
 pub struct Run {

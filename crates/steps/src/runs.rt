@@ -5,6 +5,7 @@ ghost use lib.Dec.{eqb};
 ghost use Prim.Native.Nat.{ℕ, _+_, _*_, _-_, _≤_, _<_};
 ghost use lib.ListN.{length};
 ghost use Rattle.transducer.specs.Format.{weight-good, decode, barred};
+ghost use Rattle.transducer.specs.Each.{named};
 ghost use Rattle.transducer.specs.Leaf.{Opened};
 ghost use Rattle.steps.specs.Steps.{left-origin, right-origin};
 ghost use Rattle.steps.specs.Lookup.{Heads, Chain, Leaving};
@@ -31,7 +32,7 @@ const AFTER_RIGHT: u32 = 1;
 const AFTER_BOTH: u32 = 0;
 
 // Where the next run with a step begins, from left arc `i` on: a left arc that writes nothing, where the filter state allows it; one
-// whose output some right arc reads; or behind the last left arc, with the first right arc that reads nothing.
+// whose output some right arc fits; or behind the last left arc, with the first right arc that reads nothing.
 pub fn next_run(
     left: &[u8],
     lfirst: usize,
@@ -42,11 +43,13 @@ pub fn next_run(
     rfirst: usize,
     heads: &[u16; lookup::LABEL_BUCKETS],
     chain: &[u16; MAX_ARCS],
+    exact: bool,
     q: u16,
     to: usize,
 ) -> Begin
     requires { ⌜ Opened (now left) lfirst × (i ≤ last) × (last ≤ length (decode (now left) .arcs)) ⌝ }
-    requires { ⌜ Opened (now right) rfirst × Heads (decode (now right)) 0 (now heads) × Chain (decode (now right)) 0 (now chain) ⌝ }
+    requires { ⌜ Opened (now right) rfirst × Heads (decode (now right)) 0 (now heads) × Chain (decode (now right)) 0 (now chain)
+        × (exact ≡ true → named (decode (now right)) ≡ true) ⌝ }
     ensures { λ r. ⌜ ((from : ℕ) → Leaving (decode (now (right .entry))) q from to →
         r ≡ begin-from (decode (now (left .entry))) (decode (now (right .entry))) filter from (to - from) (last - i) i) ⌝ }
 {
@@ -64,7 +67,7 @@ pub fn next_run(
                 };
             }
         } else {
-            let j = lookup::first_fit(right, rfirst, heads, chain, q, label, to);
+            let j = lookup::first_fit(right, rfirst, heads, chain, exact, q, label, to);
             if j < to {
                 return Begin {
                     alone: false,
@@ -77,7 +80,7 @@ pub fn next_run(
     Begin {
         alone: false,
         i: last,
-        j: lookup::first_fit(right, rfirst, heads, chain, q, 0, to),
+        j: lookup::first_fit(right, rfirst, heads, chain, exact, q, 0, to),
     }
 }
 
@@ -161,7 +164,7 @@ pub fn step_of(run: Run, right: &[u8], rfirst: usize, j: usize) -> Step
     Step {
         origin: with_right(run.left, j as u16),
         input: run.input,
-        output: b.output,
+        output: transducer::passed(run.label, b),
         target: keys::pack(to.left, b.target as u32, to.filter),
         weight: run.weight + b.weight,
     }

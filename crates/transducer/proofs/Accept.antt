@@ -3,7 +3,7 @@
 --     laid-refusal                   where it does, only the content is left to refuse
 --     accepted-..                    what acceptance gives; `Bounds` has it as plain bounds on the numbers
 -- Assumes nothing.
-use mathlib.Core.Path.{_≡_, refl}
+use mathlib.Core.Path.{_≡_}
 use mathlib.Core.Bool.{Bool, true, false, _&&_, not, cond}
 use mathlib.Core.List.{List}
 use Prim.Native.Nat.{ℕ, _+_, _*_, _≤_, _<_}
@@ -13,7 +13,7 @@ use lib.ListN.{length, getD}
 use Rattle.wire.specs.Bytes.{Bytes}
 use Rattle.wire.proofs.Bool.{and-true, true-and, passed, by-test}
 use Rattle.transducer.specs.declared.Final.{Final}
-use Rattle.transducer.specs.Format.{max-states, max-arcs, barred, arcs-at, arc-bytes, weight-good}
+use Rattle.transducer.specs.Format.{max-states, max-arcs, arcs-at, arc-bytes, weight-good}
 use Rattle.transducer.specs.Format.{Transducer, framed, records, kinds-good, decode, head-states, head-arcs, head-finals, head-start}
 use Rattle.transducer.specs.Format.{head-good, finals-rise, sources-stay, content-refusal, refusal}
 use Rattle.transducer.specs.Path.{no-arc, arc}
@@ -101,8 +101,8 @@ accepted-content bs h = all-passed bs h .content
 pub record Content-range (t : Transducer) : Type 0 where
   pub source : (i : ℕ) → i < length (t .arcs) → arc t i .source < t .states
   pub target : (i : ℕ) → i < length (t .arcs) → arc t i .target < t .states
-  pub input : (i : ℕ) → i < length (t .arcs) → arc t i .input < barred
-  pub output : (i : ℕ) → i < length (t .arcs) → arc t i .output < barred
+  pub input : (i : ℕ) → i < length (t .arcs) → arc t i .input < 65536
+  pub output : (i : ℕ) → i < length (t .arcs) → arc t i .output < 65536
   pub weight : (i : ℕ) → i < length (t .arcs) → weight-good (arc t i .weight) ≡ true
   pub final-state : (i : ℕ) (d : Final) → i < length (t .finals) → getD (t .finals) i d .state < t .states
   pub final-weight : (i : ℕ) (d : Final) → i < length (t .finals) → weight-good (getD (t .finals) i d .weight) ≡ true

@@ -30,7 +30,7 @@ use Rattle.transducer.specs.declared.check.Glance.{Glance}
 use Rattle.transducer.specs.Format.{barred, arc-bytes, min-weight, max-weight, weight-good, weight-at, labels-good, arc-at}
 use Rattle.transducer.specs.Check.{arc-checked, arcs-checked, with-floor, arc-word, unsure, eight, input-of, output-of, target-of}
 use Rattle.transducer.specs.Check.{Good-up-to, Good-fields, Rows, Between, Passing, None-under, Glanced, Goes-on, None-below, Each-up}
-use Rattle.transducer.specs.Check.{Each-writes, Glance-says}
+use Rattle.transducer.specs.Check.{Each-writes, Each-named, Glance-says}
 use Rattle.transducer.specs.Weight.{Weight, rebate, At-most}
 use Rattle.transducer.proofs.Labels.{unbarred-good}
 use Rattle.transducer.proofs.Weights.{good-range, range-good, most-trans}
@@ -42,13 +42,17 @@ use Rattle.transducer.proofs.Fields.{eight-input, eight-output, eight-t
 
 pub good-up-to : (any : ℕ) → input-of any < barred → output-of any < barred → Good-up-to any
 good-up-to any low high =
-    record { labels-are = λ input output p q. unbarred-good input output (record { read = omega (arith, p, low); written = omega (arith, q, high) }) }
+    record {
+      labels-are = λ input output p q. unbarred-good input output (record { read = omega (arith, p, low); written = omega (arith, q, high) });
+      by-name = low;
+    }
 
 good-before : {n : ℕ} {each : Bool} (any x : ℕ) → Good-fields (bitOr any x) n each → Good-fields any n each
 good-before any x g =
     record {
       labels = record {
         labels-are = λ input output p q. g .labels .labels-are input output (omega (arith, p, or-input-l any x)) (omega (arith, q, or-output-l any x));
+        by-name = omega (arith, g .labels .by-name, or-input-l any x);
       };
       targets = λ e. omega (arith, g .targets e, or-target-l any x);
     }
@@ -111,6 +115,7 @@ says-unsure bs at count n floor g e f not-up not-writes =
       light = rw f (none-below-good bs at count);
       up = λ u. clash u not-up;
       writes = λ u. clash u not-writes;
+      named = λ h. absurd (h e);
     }
 
 -- No target and no output is below that of fields gathered by bitAnd.
@@ -161,6 +166,7 @@ glanced-first bs at count n each floor any all least =
       passing = λ _ _ c e. rw (sym e);
       light = λ k h. absurd (omega arith);
       steps = λ k h. absurd (omega arith);
+      inputs = λ k h. absurd (omega arith);
       under = under-none bs at all;
     }
 
@@ -212,6 +218,19 @@ module _ {bs : List ℕ} {at count n : ℕ} {each : Bool} {floor last any all pl
           rw same (omega (arith, from))
       on false e = omega (arith, order, g .steps k (omega (arith, h, eqb-false k (g .arcs) e)))
 
+  inputs-more : Bytes bs → (k : ℕ) → k < g .arcs + 1 → arc-at bs (at + arc-bytes * k) .input ≤ input-of (bitOr any (eight bs (place + 4)))
+  unfolding arc-at
+  inputs-more b k h = on (eqb k (g .arcs)) refl
+    where
+      x : ℕ
+      x = eight bs (place + 4)
+
+      on : (t : Bool) → eqb k (g .arcs) ≡ t → two bs (at + 16 * k + 6) ≤ input-of (bitOr any x)
+      on true e =
+          let same : at + 16 * k + 6 ≡ place + 4 + 2 = omega (arith, eqb-true k (g .arcs) e, g .there) in
+          rw (same, ← eight-input bs (place + 4) b) (or-input-r any x)
+      on false e = omega (arith, g .inputs k (omega (arith, h, eqb-false k (g .arcs) e)), or-input-l any x)
+
   -- One more arc.
   pub glanced-next : (source : ℕ) → Bytes bs → place < at + arc-bytes * count → At-most min-weight least → Passing bs place n each last least source →
       Glanced bs at count n each floor source (bitOr any (eight bs (place + 4))) (bitAnd all (eight bs (place + 4))) least (place + 16)
@@ -226,6 +245,7 @@ module _ {bs : List ℕ} {at count n : ℕ} {each : Bool} {floor last any all pl
         passing = passing-more source b (p .head) (p .source-is) (p .order) (p .target) good;
         light = light-more (p .weight .not-below);
         steps = steps-more source (p .source-is) (p .order);
+        inputs = inputs-more b;
         under = under-next (g .arcs) b (g .there) (g .under);
       }
 
@@ -242,6 +262,7 @@ module _ {bs : List ℕ} {at count n : ℕ} {each : Bool} {floor last any all pl
         passing = g .passing;
         light = λ k l. most-trans lower least (arc-at bs (at + arc-bytes * k) .weight) h (g .light k l);
         steps = g .steps;
+        inputs = g .inputs;
         under = g .under;
       }
 
@@ -260,6 +281,9 @@ module _ {bs : List ℕ} {at count n : ℕ} {each : Bool} {floor last any all pl
     seen-writes : 0 < output-of all → Each-writes bs at count
     seen-writes u = record { some = λ k l. omega (arith, u, g .under .outputs k (omega (arith, l, seen-all, g .there))) }
 
+    seen-named : input-of any < barred → Each-named bs at count
+    seen-named u = record { by-name = λ k l. omega (arith, u, g .inputs k (omega (arith, l, seen-all))) }
+
     pub glanced-stop : last < n → Good-fields any n each → (r : Glance) → r .last ≡ last → r .least ≡ least → (r .up ≡ true → last < target-of all) →
         (r .writes ≡ true → 0 < output-of all) → Glance-says bs at count n floor r
     glanced-stop below good r e f up writes =
@@ -268,6 +292,7 @@ module _ {bs : List ℕ} {at count n : ℕ} {each : Bool} {floor last any all pl
           light = rw f seen-light;
           up = λ u. seen-up (up u);
           writes = λ u. seen-writes (writes u);
+          named = λ _. seen-named (good .labels .by-name);
         }
 
     -- The least weight is known where the labels are not.
@@ -278,6 +303,7 @@ module _ {bs : List ℕ} {at count n : ℕ} {each : Bool} {floor last any all pl
           light = rw f seen-light;
           up = λ u. clash u not-up;
           writes = λ u. clash u not-writes;
+          named = λ k. absurd (k e);
         }
 
 -- A run, of which the arcs up to `place` are seen.

@@ -1,7 +1,7 @@
 -- What the tests 3 and 5 to 8 say, as plain facts: `Head-range` of the head's numbers, `Content` of a transducer. Assumes nothing.
-use mathlib.Core.Path.{_≡_, refl}
-use mathlib.Core.Bool.{Bool, true, false, _&&_, not, cond}
-use Prim.Native.Nat.{ℕ, suc, _≤_, _<_}
+use mathlib.Core.Path.{_≡_}
+use mathlib.Core.Bool.{true, _&&_, not, cond}
+use Prim.Native.Nat.{ℕ, _≤_, _<_}
 use native.Mathlib.Omega.{arith}
 use borrow.Author.Tests.{ltb-true, leb-true}
 use lib.Dec.{ltb, leb}
@@ -11,8 +11,9 @@ use Rattle.wire.proofs.Places.{every-getD}
 use Rattle.wire.proofs.Bool.{and-true, passed}
 use Rattle.transducer.specs.declared.Arc.{Arc}
 use Rattle.transducer.specs.declared.Final.{Final}
-use Rattle.transducer.specs.Format.{max-states, max-arcs, barred}
-use Rattle.transducer.specs.Format.{Transducer, head-good, states-good, order-good, all-labels-good, weights-good, weight-good, labels-good, first-of, content-refusal, finals-rise, sources-stay}
+use Rattle.transducer.specs.Format.{max-states, max-arcs, Transducer, head-good, states-good, order-good, finals-rise, sources-stay}
+use Rattle.transducer.specs.Format.{labels-good, all-labels-good, weight-good, weights-good, first-of, content-refusal}
+use Rattle.transducer.proofs.Labels.{Short, good-short}
 
 pub record Head-range (n m f s : ℕ) : Type 0 where
   pub some : 1 ≤ n
@@ -77,13 +78,13 @@ module _ (t : Transducer) (good : Content t) where
       (every-getD (λ a. ltb (a .source) (t .states) && ltb (a .target) (t .states)) (t .arcs) i d (all .1) l) in
       (ltb-true (a .source) (t .states) (both .0), ltb-true (a .target) (t .states) (both .1))
 
-  pub arc-labels-below : (i : ℕ) (d : Arc) → i < length (t .arcs) → (getD (t .arcs) i d .input < barred) × (getD (t .arcs) i d .output < barred)
-  unfolding all-labels-good labels-good
+  pub arc-labels-below : (i : ℕ) (d : Arc) → i < length (t .arcs) → (getD (t .arcs) i d .input < 65536) × (getD (t .arcs) i d .output < 65536)
+  unfolding all-labels-good
   arc-labels-below i d l =
       let a : Arc = getD (t .arcs) i d in
-      let both = and-true (ltb (a .input) barred) (ltb (a .output) barred)
-      (every-getD (λ a. labels-good (a .input) (a .output)) (t .arcs) i d (good .labels) l) in
-      (ltb-true (a .input) barred (both .0), ltb-true (a .output) barred (both .1))
+      let short : Short (a .input) (a .output) =
+      good-short (a .input) (a .output) (every-getD (λ a. labels-good (a .input) (a .output)) (t .arcs) i d (good .labels) l) in
+      (omega (arith, short .read), omega (arith, short .written))
 
   pub finals-light : every (λ f. weight-good (f .weight)) (t .finals) ≡ true
   unfolding weights-good

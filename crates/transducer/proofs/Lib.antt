@@ -28,8 +28,10 @@ pub mod Members
 pub mod Each
 pub mod Ranges
 pub mod Fits
+pub mod Named
 -- Paths, their costs, and rings on them.
 pub mod Paths
+pub mod FitPaths
 pub mod Runs
 pub mod Rings
 pub mod Weights

@@ -24,14 +24,15 @@ use Rattle.wire.proofs.Places.{length-places}
 use Rattle.wire.proofs.Bool.{and-true, true-and}
 use Rattle.transducer.specs.declared.Arc.{Arc}
 use Rattle.transducer.specs.declared.Final.{Final}
-use Rattle.transducer.specs.Format.{Transducer, Good, max-bytes, final-at, arc-at, weight-at, weight-good, labels-good, decode, refusal, head-good, content-refusal}
-use Rattle.transducer.specs.Format.{states-good, order-good, all-labels-good, weights-good, head-states, head-arcs, head-finals, head-start}
+use Rattle.transducer.specs.Format.{Transducer, Good, max-bytes, final-at, arc-at, weight-at, weight-good, labels-good, decode, refusal, head-good}
+use Rattle.transducer.specs.Format.{content-refusal, states-good, order-good, all-labels-good, weights-good, head-states, head-arcs, head-finals, head-start}
 use Rattle.transducer.specs.Encode.{encode, head-record, final-record, arc-record, final-records, arc-records, weight-bytes}
 use Rattle.transducer.specs.Check.{head-word, final-word, arc-word}
 use Rattle.transducer.specs.Weight.{Weight}
 use Rattle.transducer.proofs.Laid.{Laid, laid-decode}
 use Rattle.transducer.proofs.Encode.{length-final-records, length-encode}
 use Rattle.transducer.proofs.WriteBack.{encode-laid}
+use Rattle.transducer.proofs.Labels.{good-short}
 use Rattle.transducer.proofs.Accept.{accepted-laid, accepted-head, accepted-content, laid-refusal, Content-range, content-range}
 use Rattle.transducer.proofs.Good.{Head-range, head-range, Content, content-good}
 use Rattle.transducer.proofs.Weights.{good-fits}
@@ -179,14 +180,13 @@ final-fits n f h s w = record { state = omega (arith, ltb-true (f .state) n s); 
 
 arc-fits : (n : ℕ) (a : Arc) → n ≤ 1024 → ltb (a .source) n && ltb (a .target) n ≡ true → labels-good (a .input) (a .output) ≡ true →
     weight-good (a .weight) ≡ true → Arc-fits a
-unfolding labels-good
 arc-fits n a h s l w =
     let states : (ltb (a .source) n ≡ true) × (ltb (a .target) n ≡ true) = and-true _ _ s in
-    let labels : (ltb (a .input) 65535 ≡ true) × (ltb (a .output) 65535 ≡ true) = and-true _ _ l in
+    let labels = good-short (a .input) (a .output) l in
     record {
       source = omega (arith, ltb-true (a .source) n (states .0));
-      input = omega (arith, ltb-true (a .input) 65535 (labels .0));
-      output = omega (arith, ltb-true (a .output) 65535 (labels .1));
+      input = omega (arith, labels .read);
+      output = omega (arith, labels .written);
       target = omega (arith, ltb-true (a .target) n (states .1));
       weight = good-fits (a .weight) w;
     }
@@ -321,7 +321,8 @@ finals-encode t g =
 arcs-encode : (t : Transducer) → Good t → places (length (t .arcs)) (12 + 10 * length (t .finals)) 16 (arc-at (encode t)) ≡ t .arcs
 arcs-encode t g =
     let p : Passed t = good-passed t g in
-    arcs-there (t .arcs) (encode t) (12 + 10 * length (t .finals)) (t .states) (good-range t g .states) (p .arc-states) (p .labels) (p .arc-weights) (arcs-stand t)
+    arcs-there (t .arcs) (encode t) (12 + 10 * length (t .finals)) (t .states) (good-range t g .states) (p .arc-states) (p .labels) (p .arc-weights)
+    (arcs-stand t)
 
 pub decode-encode : (t : Transducer) → Good t → decode (encode t) ≡ t
 decode-encode t g =

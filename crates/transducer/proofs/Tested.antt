@@ -13,13 +13,14 @@ use Rattle.transducer.specs.declared.Looked.{Looked}
 use Rattle.transducer.specs.Format.{decode, head-states, head-arcs, head-finals, head-start, head-good, first-of, refusal, arcs-at, arc-bytes, arc-at}
 use Rattle.transducer.specs.Format.{min-weight, weight-good}
 use Rattle.transducer.specs.Path.{arc}
-use Rattle.transducer.specs.Check.{head-word, final-word, arc-word, all-checked, walked, None-below, Each-up, Each-writes}
+use Rattle.transducer.specs.Check.{head-word, final-word, arc-word, all-checked, walked, None-below, Each-up, Each-writes, Each-named}
 use Rattle.transducer.specs.Leaf.{Looked-says}
 use Rattle.transducer.proofs.Laid.{Laid, laid-decode}
 use Rattle.transducer.proofs.Accept.{refused-early, laid-refusal, bounds}
 use Rattle.transducer.proofs.Checked.{all-checked-heads, all-checked-content}
 use Rattle.transducer.proofs.Glance.{none-below-good}
 use Rattle.transducer.proofs.Offsets.{arc-offset}
+use Rattle.transducer.proofs.Fits.{each-named}
 
 pub refused-short : (bs : List ℕ) → Bytes bs → length bs < 12 → refusal bs ≡ walked bs
 refused-short bs b h = refused-early b (λ l. omega (arith, l .long))
@@ -64,11 +65,12 @@ refusal-checked bs b word good long heads =
     ∙ sym (laid-refusal b l good)
 
 -- What a look tells beside the refusal: no arc of accepted bytes weighs less than a weight that none of their good arcs is below, and each leads up where
--- each record says so; the same of labels.
+-- each record says so; the same of labels and of arcs for any symbol.
 pub looked-light : (bs : List ℕ) → Bytes bs → (r : Looked) → r .refusal ≡ refusal bs → None-below bs (arcs-at (head-finals bs)) (head-arcs bs) (r .least) →
     (r .up ≡ true → Each-up bs (arcs-at (head-finals bs)) (head-arcs bs)) →
-    (r .writes ≡ true → Each-writes bs (arcs-at (head-finals bs)) (head-arcs bs)) → Looked-says bs r
-looked-light bs b r e below up writes =
+    (r .writes ≡ true → Each-writes bs (arcs-at (head-finals bs)) (head-arcs bs)) →
+    (r .named ≡ true → Each-named bs (arcs-at (head-finals bs)) (head-arcs bs)) → Looked-says bs r
+looked-light bs b r e below up writes named =
     record {
       refusal-is = e;
       light = λ h i l.
@@ -84,9 +86,15 @@ looked-light bs b r e below up writes =
       written = λ h u i l.
           let same : arc (decode bs) i ≡ arc-at bs (arcs-at (head-finals bs) + arc-bytes * i) = arc-offset bs b h i l in
           rw same (writes u .some i (omega (arith, l, bounds b h .arcs-long)));
+      by-name = λ h u.
+          each-named (decode bs)
+          (λ i l.
+          let same : arc (decode bs) i ≡ arc-at bs (arcs-at (head-finals bs) + arc-bytes * i) = arc-offset bs b h i l in
+          rw same (named u .by-name i (omega (arith, l, bounds b h .arcs-long))));
     }
 
 pub looked-misplaced : (bs : List ℕ) → Bytes bs → (r : Looked) → r .refusal ≡ refusal bs → r .least ≡ min-weight → r .up ≡ false → r .writes ≡ false →
-    Looked-says bs r
-looked-misplaced bs b r e f not-up not-writes =
+    r .named ≡ false → Looked-says bs r
+looked-misplaced bs b r e f not-up not-writes not-named =
     looked-light bs b r e (rw f (none-below-good bs (arcs-at (head-finals bs)) (head-arcs bs))) (λ u. clash u not-up) (λ u. clash u not-writes)
+    (λ u. clash u not-named)

@@ -10,7 +10,7 @@ use Rattle.transducer.specs.declared.Final.{Final}
 use Rattle.transducer.specs.declared.Checks.{Checks}
 use Rattle.transducer.specs.declared.check.Glance.{Glance}
 use Rattle.transducer.specs.Format.{head-bytes, final-bytes, arc-bytes, arcs-at, weight-good, labels-good, final-at, arc-at, framed, kinds-good, records}
-use Rattle.transducer.specs.Format.{head-good, head-states, head-arcs, head-finals, head-start, max-weight, weight-at}
+use Rattle.transducer.specs.Format.{head-good, head-states, head-arcs, head-finals, head-start, barred, max-weight, weight-at}
 use Rattle.transducer.specs.Weight.{Weight, rebate, At-most}
 
 -- Length and kind of a final's and of an arc's record, as one number of four bytes.
@@ -82,9 +82,11 @@ output-of fields = fields / 4294967296 % 65536
 abbrev pub target-of : ℕ → ℕ
 target-of fields = fields / 281474976710656
 
--- Labels up to those of `any` are good; and unless each target was tested, the target of `any` is a state.
+-- Labels up to those of `any`, the fields gathered, are good, and no input up to its own is 65,535; and unless each target was tested, the target of `any`
+-- is a state.
 pub record Good-up-to (any : ℕ) : Type 0 where
   pub labels-are : (input output : ℕ) → input ≤ input-of any → output ≤ output-of any → labels-good input output ≡ true
+  pub by-name : input-of any < barred
 
 pub record Good-fields (any n : ℕ) (each : Bool) : Type 0 where
   pub labels : Good-up-to any
@@ -110,7 +112,7 @@ pub record Between (low weight high : Weight) : Type 0 where
   pub not-above : At-most weight high
 
 -- What is seen of the arcs up to a place, of `count` from `at` on: if the last source is a state and the gathered fields are good, then each passes each
--- test. No weight is below `least`, no source is above the last, and no target and no output is below that of `all`.
+-- test. No weight is below `least`, no source is above the last, no input above that of `any`, and no target and no output is below that of `all`.
 pub record Glanced (bs : List ℕ) (at count n : ℕ) (each : Bool) (floor last any all : ℕ) (least : Weight) (place : ℕ) : Type 0 where
   pub arcs : ℕ
   pub within : arcs ≤ count
@@ -119,6 +121,7 @@ pub record Glanced (bs : List ℕ) (at count n : ℕ) (each : Bool) (floor last 
       arcs-checked arcs at arc-bytes n (four bs) (arc-at bs) c ≡ with-floor last c
   pub light : (k : ℕ) → k < arcs → At-most least (arc-at bs (at + arc-bytes * k) .weight)
   pub steps : (k : ℕ) → k < arcs → arc-at bs (at + arc-bytes * k) .source ≤ last
+  pub inputs : (k : ℕ) → k < arcs → arc-at bs (at + arc-bytes * k) .input ≤ input-of any
   pub under : None-under bs at all place
 
 -- An arc that passes each test but that of what is gathered: its weight is not below `least` and not too high, and its source is not below `before`.
@@ -159,11 +162,16 @@ pub record Each-up (bs : List ℕ) (at count : ℕ) : Type 0 where
 pub record Each-writes (bs : List ℕ) (at count : ℕ) : Type 0 where
   pub some : (k : ℕ) → k < count → 0 < arc-at bs (at + arc-bytes * k) .output
 
+-- None of them is for any symbol.
+pub record Each-named (bs : List ℕ) (at count : ℕ) : Type 0 where
+  pub by-name : (k : ℕ) → k < count → arc-at bs (at + arc-bytes * k) .input < barred
+
 pub record Glance-says (bs : List ℕ) (at count n floor : ℕ) (g : Glance) : Type 0 where
   pub plain : Plain bs at count n floor (g .last)
   pub light : None-below bs at count (g .least)
   pub up : g .up ≡ true → Each-up bs at count
   pub writes : g .writes ≡ true → Each-writes bs at count
+  pub named : (g .last ≡ unsure → ⊥) → Each-named bs at count
 
 -- The tests of all records, at the places that f finals and m arcs give.
 unfoldable pub all-checked : List ℕ → (n m f : ℕ) → Checks

@@ -1,10 +1,14 @@
--- For each arc of a state, in order; and what it means for an arc to fit a symbol. Assumes nothing: these are definitions.
-use mathlib.Core.Bool.{Bool, true, false, cond}
+-- For each arc of a state, in order; and what it means for an arc to fit a symbol, and for a path to fit a string. Assumes nothing: these are
+-- definitions.
+use mathlib.Core.Bool.{Bool, _&&_, _||_, not, cond}
 use mathlib.Core.List.{List, [], _∷_, _++_}
-use Prim.Native.Nat.{ℕ, zero, suc}
-use lib.Dec.{eqb}
+use Prim.Native.Nat.{ℕ, suc}
+use lib.Dec.{eqb, ltb}
+use lib.ListN.{length, getD, drop}
+use Rattle.wire.specs.Bytes.{every}
 use Rattle.transducer.specs.declared.Arc.{Arc}
-use Rattle.transducer.specs.Format.{Transducer}
+use Rattle.transducer.specs.Format.{Transducer, any}
+use Rattle.transducer.specs.Path.{arc, non-empty}
 
 -- What a function gives for each of a run of arcs, the first of which has the number i, one after the other.
 unfoldable pub by-number : {B : Type 0} → (i : ℕ) → (ℕ → Arc → List B) → List Arc → List B
@@ -15,9 +19,37 @@ by-number i f (a ∷ as') = f i a ++ by-number (suc i) f as'
 unfoldable pub each-arc : {B : Type 0} → Transducer → (s : ℕ) → (ℕ → Arc → List B) → List B
 each-arc t s f = by-number 0 (λ i a. cond (eqb (a .source) s) (f i a) []) (t .arcs)
 
--- Whether an arc of a transducer fits a symbol, and the output label that it then writes.
+-- Whether an arc of a transducer fits a symbol, 0 standing for none: one for any symbol fits each symbol and never none. And the label that it
+-- then writes: the symbol where it is passed on.
 unfoldable pub fits : Transducer → (symbol : ℕ) → Arc → Bool
-fits t symbol a = eqb (a .input) symbol
+fits t symbol a = eqb (a .input) symbol || (eqb (a .input) any && not (eqb symbol 0))
 
 unfoldable pub passed : (symbol : ℕ) → Arc → ℕ
-passed symbol a = a .output
+passed symbol a = cond (eqb (a .output) any) symbol (a .output)
+
+-- The symbol that an arc takes from the front of a string, 0 where it reads nothing or nothing is left; and the string behind it.
+unfoldable pub symbol-for : Arc → (string : List ℕ) → ℕ
+symbol-for a cs = cond (eqb (a .input) 0) 0 (getD cs 0 0)
+
+unfoldable pub left-by : Arc → (string : List ℕ) → List ℕ
+left-by a cs = cond (eqb (a .input) 0) cs (drop 1 cs)
+
+-- Whether a path fits a string, arc by arc, and what it then writes, with the symbols that it passes on.
+unfoldable pub path-fits : Transducer → (string path : List ℕ) → Bool
+path-fits t cs [] = eqb (length cs) 0
+path-fits t cs (i ∷ is) = fits t (symbol-for (arc t i) cs) (arc t i) && path-fits t (left-by (arc t i) cs) is
+
+unfoldable pub path-passed : Transducer → (string path : List ℕ) → List ℕ
+path-passed t cs [] = []
+path-passed t cs (i ∷ is) = non-empty (passed (symbol-for (arc t i) cs) (arc t i)) (path-passed t (left-by (arc t i) cs) is)
+
+-- Whether no arc is for any symbol; and whether no arc bears 65,535 at all.
+unfoldable pub named : Transducer → Bool
+named t = every (λ a. ltb (a .input) any) (t .arcs)
+
+unfoldable pub plain : Transducer → Bool
+plain t = every (λ a. ltb (a .input) any && ltb (a .output) any) (t .arcs)
+
+-- 18: an arc for any symbol, in a transducer that may have none
+unfoldable pub any-refusal : Transducer → ℕ
+any-refusal t = cond (named t) 0 18

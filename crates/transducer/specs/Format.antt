@@ -2,11 +2,11 @@
 use mathlib.Core.Path.{_≡_}
 use mathlib.Core.Bool.{Bool, true, false, _&&_, not, cond}
 use mathlib.Core.List.{List, [], _∷_}
-use Prim.Native.Nat.{ℕ, zero, suc, _+_, _*_}
+use Prim.Native.Nat.{ℕ, zero, suc, _+_}
 use lib.Dec.{ltb, leb, eqb}
 use lib.ListN.{length}
 use Rattle.wire.specs.Bytes.{two, signed-four, every}
-pub use Rattle.bounds.specs.Bounds.{max-states, max-arcs, index-long, max-weight, min-weight, barred, max-symbols, max-path, max-count, max-fields}
+pub use Rattle.bounds.specs.Bounds.{max-states, max-arcs, index-long, max-weight, min-weight, barred, any, max-symbols, max-path, max-count, max-fields}
 pub use Rattle.bounds.specs.Bounds.{max-origins, head-bytes, final-bytes, arc-bytes, arcs-at, max-bytes}
 unfoldable pub use Rattle.bounds.specs.Bounds.{head-good, labels-good, weight-good, first-of}
 use Rattle.transducer.specs.declared.Arc.{Arc}
@@ -121,7 +121,7 @@ sources-stay floor (a ∷ as') = leb floor (a .source) && sources-stay (a .sourc
 unfoldable pub order-good : Transducer → Bool
 order-good t = finals-rise 0 (t .finals) && sources-stay 0 (t .arcs)
 
--- 7: no label is barred
+-- 7: only an arc that reads any symbol passes it on
 unfoldable pub all-labels-good : Transducer → Bool
 all-labels-good t = every (λ a. labels-good (a .input) (a .output)) (t .arcs)
 

@@ -11,6 +11,7 @@ use Rattle.transducer.specs.declared.Header.{Header}
 use Rattle.transducer.specs.declared.Looked.{Looked}
 use Rattle.transducer.specs.Format.{Transducer, max-states, arcs-at, decode, refusal, head-states, head-arcs, head-finals, head-start}
 use Rattle.transducer.specs.Path.{arc, is-final, final-weight}
+use Rattle.transducer.specs.Each.{named}
 use Rattle.transducer.specs.Weight.{At-most, code-of}
 
 -- The head's four numbers, as an answer that is no refusal.
@@ -24,12 +25,13 @@ pub record Opened (bs : List ℕ) (first : ℕ) : Type 0 where
   pub first-is : first ≡ arcs-at (head-finals bs)
 
 -- What a look at bytes tells: the refusal or 0, and where they are accepted a weight that none of the arcs is below; `up` only where each arc leads to a
--- higher state, `writes` only where each writes a label.
+-- higher state, `writes` only where each writes a label, `named` only where none is for any symbol.
 pub record Looked-says (bs : List ℕ) (r : Looked) : Type 0 where
   pub refusal-is : r .refusal ≡ refusal bs
   pub light : refusal bs ≡ 0 → (i : ℕ) → i < length (decode bs .arcs) → At-most (r .least) (arc (decode bs) i .weight)
   pub rises : refusal bs ≡ 0 → r .up ≡ true → (i : ℕ) → i < length (decode bs .arcs) → arc (decode bs) i .source < arc (decode bs) i .target
   pub written : refusal bs ≡ 0 → r .writes ≡ true → (i : ℕ) → i < length (decode bs .arcs) → 0 < arc (decode bs) i .output
+  pub by-name : refusal bs ≡ 0 → r .named ≡ true → named (decode bs) ≡ true
 
 -- How many arcs leave states below s. Sources never fall, so the arcs of s are those numbered from here to below the same of s + 1.
 unfoldable pub arcs-below : (s : ℕ) → List Arc → ℕ

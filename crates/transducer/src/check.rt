@@ -15,7 +15,7 @@ use crate::Checks;
 use crate::Final;
 
 // No source: a closer look is needed.
-const UNSURE: u32 = 4294967295;
+pub const UNSURE: u32 = 4294967295;
 
 // What is gathered by `&` begins with this.
 const ALL_ONES: u64 = 18446744073709551615;

@@ -3,10 +3,12 @@ ghost use mathlib.Core.Path.{_≡_};
 
 mod check;
 mod leaf;
+mod naming;
 mod preparing;
 mod store;
 mod walk;
 
+pub use bounds::ANY;
 pub use bounds::ARC_BYTES;
 pub use bounds::BARRED;
 pub use bounds::FINAL_BYTES;
@@ -42,6 +44,8 @@ pub use leaf::plus;
 pub use leaf::put_codes;
 pub use leaf::put_index;
 pub use leaf::weight_of;
+pub use naming::all_named;
+pub use naming::passed;
 pub use preparing::Shape;
 pub use preparing::prepare;
 pub use store::put_arc;
@@ -76,12 +80,13 @@ pub struct Checks {
 }
 
 // What a look at bytes tells: the refusal or 0, and where they are accepted a weight that none of the arcs is below; `up` only where each arc leads to a
-// higher state, `writes` only where each writes a label.
+// higher state, `writes` only where each writes a label, `named` only where none is for any symbol.
 pub struct Looked {
     pub refusal: u32,
     pub least: i32,
     pub up: bool,
     pub writes: bool,
+    pub named: bool,
 }
 
 // What reading answers: the refusal or 0, then the head's numbers, 0 on refusal.

@@ -5,7 +5,7 @@ ghost use mathlib.Core.Bool.{true, false};
 ghost use Prim.Native.Nat.{_+_, _*_, _<_};
 ghost use lib.ListN.{length};
 ghost use Rattle.transducer.specs.Format.{framed, kinds-good, kind-good, records, refusal, arcs-at, arc-bytes, min-weight};
-ghost use Rattle.transducer.specs.Check.{all-checked, walked, None-below, Each-up, Each-writes};
+ghost use Rattle.transducer.specs.Check.{all-checked, walked, None-below, Each-up, Each-writes, Each-named};
 ghost use Rattle.transducer.specs.Leaf.{Looked-says};
 use crate::Checks;
 use crate::Looked;
@@ -91,19 +91,21 @@ fn walk(bytes: &[u8]) -> u32
 }
 
 // The tests of all records, and a weight that none of the arcs is below; `up` only where each arc leads to a higher state, `writes` only where
-// each writes a label.
+// each writes a label, `named` only where none is for any symbol.
 struct All {
     checks: Checks,
     least: i32,
     up: bool,
     writes: bool,
+    named: bool,
 }
 
 // The same for the records at the places that the head gives. The arcs come first: what is known of the finals would take registers from that loop.
 fn check_all(bytes: &[u8], n: u32, m: usize, f: usize, close: bool) -> All
     requires { ⌜ (length (now bytes) ≡ arcs-at f + arc-bytes * m) × (f < 65536) ⌝ }
     ensures { λ r. ⌜ (r .checks ≡ all-checked (now (bytes .entry)) n m f) × None-below (now (bytes .entry)) (arcs-at f) m (r .least)
-        × (r .up ≡ true → Each-up (now (bytes .entry)) (arcs-at f) m) × (r .writes ≡ true → Each-writes (now (bytes .entry)) (arcs-at f) m) ⌝ }
+        × (r .up ≡ true → Each-up (now (bytes .entry)) (arcs-at f) m) × (r .writes ≡ true → Each-writes (now (bytes .entry)) (arcs-at f) m)
+        × (r .named ≡ true → Each-named (now (bytes .entry)) (arcs-at f) m) ⌝ }
 {
     let none = Checks {
         heads: true,
@@ -121,23 +123,25 @@ fn check_all(bytes: &[u8], n: u32, m: usize, f: usize, close: bool) -> All
         least: seen.least,
         up: seen.up,
         writes: seen.writes,
+        named: seen.last != check::UNSURE,
     }
 }
 
 // What is told of bytes whose records do not stand where the head says.
 fn misplaced(bytes: &[u8]) -> Looked
-    ensures { λ r. ⌜ (r .refusal ≡ walked (now (bytes .entry))) × (r .least ≡ min-weight) × (r .up ≡ false) × (r .writes ≡ false) ⌝ }
+    ensures { λ r. ⌜ (r .refusal ≡ walked (now (bytes .entry))) × (r .least ≡ min-weight) × (r .up ≡ false) × (r .writes ≡ false) × (r .named ≡ false) ⌝ }
 {
     Looked {
         refusal: walk(bytes),
         least: bounds::MIN_WEIGHT,
         up: false,
         writes: false,
+        named: false,
     }
 }
 
-// Refusals 1 to 8 of bytes, or 0 where they are accepted, a weight that none of the arcs is below, and, if the look is `close` and states have many arcs,
-// whether each is known to lead up and to write a label. Linear in the bytes.
+// Refusals 1 to 8 of bytes, or 0 where they are accepted, a weight that none of the arcs is below, whether it is known that none is for any symbol, and, if
+// the look is `close` and states have many arcs, that each leads up and that each writes a label. Linear in the bytes.
 pub fn look(bytes: &[u8], close: bool) -> Looked
     ensures { λ r. ⌜ Looked-says (now (bytes .entry)) r ⌝ }
 {
@@ -167,6 +171,7 @@ pub fn look(bytes: &[u8], close: bool) -> Looked
         least: all.least,
         up: all.up,
         writes: all.writes,
+        named: all.named,
     }
 }
 

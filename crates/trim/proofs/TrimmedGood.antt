@@ -13,7 +13,8 @@ use Rattle.wire.proofs.Bool.{and-true, true-and}
 use Rattle.transducer.specs.declared.Arc.{Arc}
 use Rattle.transducer.specs.declared.Final.{Final}
 use Rattle.transducer.specs.Format.{Transducer, head-good, states-good, finals-rise, sources-stay, order-good}
-use Rattle.transducer.specs.Format.{labels-good, all-labels-good, weight-good, weights-good}
+use Rattle.transducer.specs.Format.{any, labels-good, all-labels-good, weight-good, weights-good}
+use Rattle.transducer.specs.Each.{plain}
 use Rattle.transducer.specs.Format.{first-of, content-refusal, Good}
 use Rattle.transducer.proofs.GoodParts.{GoodParts, good-parts, parts-good}
 use Rattle.trim.specs.Trim.{useful, arc-useful, renumbered, kept-arcs, kept-finals, trimmed}
@@ -161,6 +162,11 @@ unfolding all-labels-good kept moved
 kept-labels-good t h =
     every-kept-arc t (λ a. labels-good (a .input) (a .output)) (λ a. labels-good (a .input) (a .output)) (t .arcs) (λ a u g. g) h
 
+kept-plain : (t : Transducer) → plain t ≡ true → plain (kept t) ≡ true
+unfolding plain kept moved
+kept-plain t h =
+    every-kept-arc t (λ a. ltb (a .input) any && ltb (a .output) any) (λ a. ltb (a .input) any && ltb (a .output) any) (t .arcs) (λ a u g. g) h
+
 kept-weights-good : (t : Transducer) → weights-good t ≡ true → weights-good (kept t) ≡ true
 unfolding weights-good kept moved moved-final
 kept-weights-good t h =
@@ -199,3 +205,15 @@ trimmed-good t g = on (useful t (t .start)) refl
     on : (b : Bool) → useful t (t .start) ≡ b → Good (trimmed t)
     on true u = rw (trimmed-kept t u) (kept-good t u g)
     on false u = rw (trimmed-lone t u) lone-good
+
+lone-plain : plain lone ≡ true
+unfolding lone plain every
+lone-plain = refl
+
+-- Trimming brings no 65,535 in.
+pub trimmed-plain : (t : Transducer) → plain t ≡ true → plain (trimmed t) ≡ true
+trimmed-plain t h = on (useful t (t .start)) refl
+  where
+    on : (b : Bool) → useful t (t .start) ≡ b → plain (trimmed t) ≡ true
+    on true u = rw (trimmed-kept t u) (kept-plain t h)
+    on false u = rw (trimmed-lone t u) lone-plain

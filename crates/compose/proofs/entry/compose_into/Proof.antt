@@ -1,6 +1,6 @@
 -- The heads, the walk, 11 and 12, each with its law in `ComposeSays`; what is written is `write_out`'s.
 use borrow.Author.Needs.{needs}
-use mathlib.Core.Path.{refl}
+use mathlib.Core.Path.{refl, _∙_}
 use Prim.Native.Nat.{ℕ}
 use native.Mathlib.Omega.{arith}
 use lib.ListN.{length-replicate}
@@ -24,6 +24,37 @@ heads c = c .before .before .before .before .before .before .before .before .bef
 abbrev packed : tie.After-walk-all → tie.After-pack
 packed c = c .before .before .before .before .before .before .before .before .before
 
+abbrev walked : tie.After-struct-known8 → tie.After-walk-all
+walked c = c .before .before .before .before .before .before .before
+
+-- Refused for too many states, for too many arcs; the codes of final states, and what is written.
+abbrev refused : tie.After-slice-known9 → tie.After-refuse
+refused c = c .before .before .before .before .before .before
+
+abbrev many-states : tie.After-refuse → tie.Then1
+many-states c = c .before .before .before .before
+
+abbrev refused-arcs : tie.After-slice-known12 → tie.After-refuse2
+refused-arcs c = c .before .before .before .before .before .before
+
+abbrev many-arcs : tie.After-refuse2 → tie.Then2
+many-arcs c = c .before .before .before .before
+
+abbrev passed : tie.Else2 → tie.After-walk-all
+passed c = walked (c .before .before)
+
+abbrev left-coded : tie.After-final-codes2 → tie.After-final-codes
+left-coded c = c .before .before
+
+abbrev coded : tie.After-write-out-arg3 → tie.After-final-codes2
+coded c = c .before .before .before .before .before
+
+abbrev few : tie.After-write-out-arg3 → tie.Else2
+few c = left-coded (coded c) .before .before
+
+abbrev written : tie.After-slice-known15 → tie.After-write-out
+written c = c .before .before .before .before .before .before
+
 -- The bytes are bytes.
 left-bytes : (c : tie.After-shared-slice-known2) → Bytes (entry c .args .left .now)
 left-bytes c = λ i. omega (arith, c .before .shared-slice-known .given i)
@@ -35,20 +66,20 @@ right-bytes c = λ i. omega (arith, c .shared-slice-known2 .given i)
 left-head : (c : tie.After-header2) → Opening (entry (lent (c .before)) .args .left .now) (c .before .header .result)
 left-head c =
     let k = lent (c .before) in
-    opening (entry k .args .left .now) (c .before .header .result) (left-bytes k) (entry k .pre .left-accepted) (c .before .header .ensures)
+    opening (entry k .args .left .now) (c .before .header .result) (left-bytes k) (entry k .pre .0 .left-accepted) (c .before .header .ensures)
 
 right-head : (c : tie.After-header2) → Opening (entry (lent (c .before)) .args .right .now) (c .header2 .result)
 right-head c =
     let k = lent (c .before) in
-    opening (entry k .args .right .now) (c .header2 .result) (right-bytes k) (entry k .pre .right-accepted) (c .header2 .ensures)
+    opening (entry k .args .right .now) (c .header2 .result) (right-bytes k) (entry k .pre .0 .right-accepted) (c .header2 .ensures)
 
 header-requires : tie.Need-header-requires
 header-requires c κs =
     let k = c .before .before .before in
-    head-inside (entry k .args .left .now) (left-bytes k) (entry k .pre .left-accepted)
+    head-inside (entry k .args .left .now) (left-bytes k) (entry k .pre .0 .left-accepted)
 
 header-requires-2 : tie.Need-header-requires-2
-header-requires-2 c κs = let k = lent c in head-inside (entry k .args .right .now) (right-bytes k) (entry k .pre .right-accepted)
+header-requires-2 c κs = let k = lent c in head-inside (entry k .args .right .now) (right-bytes k) (entry k .pre .0 .right-accepted)
 
 cast-lfirst : tie.Need-cast-lfirst
 cast-lfirst c = search needs
@@ -104,13 +135,14 @@ walk-all-requires c κs =
     let p = c .before .before .before .before .before .before .before .before in
     let h = heads p in
     let k = lent (h .before) in
-    let pre = entry k .pre in (
+    let pre = entry k .pre .0 in (
       record {
         left-open = left-head h .opened;
         left-index = p .before .before .before .before .before .before .before .before .before .first-arcs .ensures;
         right-open = right-head h .opened;
         right-index = p .before .before .before .before .before .before .first-arcs2 .ensures;
         right-lookup = p .before .put-chains .ensures;
+        right-named = entry k .pre .1;
       },
       (
         first-key (decode (entry k .args .left .now)) (decode (entry k .args .right .now)) (p .pack .result)
@@ -133,13 +165,13 @@ same-length-3 c = search needs
 
 returns : tie.Need-returns
 returns c =
-    let w = c .before .before .before .before .before .before .before .before .before .before .before .before .before .before .before .before .before in
+    let full = many-states (refused c) in
+    let w = walked (full .before) in
     let k = lent (heads (packed w) .before) in
-    let pre = entry k .pre in
+    let pre = entry k .pre .0 in
     let said = w .walk-all .ensures in
-    says-11 _ _ (left-bytes k) (right-bytes k) (pre .left-accepted) (pre .right-accepted) _ _ _ _ _ _ _ _ _ _
-    (said .full (c .before .before .before .before .before .before .before .before .before .before .if1 .taken)) (said .table-kept) (said .origins-kept) (said .states-kept)
-    (c .before .before .before .before .before .before .refuse .ensures)
+    says-11 _ _ (left-bytes k) (right-bytes k) (pre .left-accepted) (pre .left-named) (pre .right-accepted) _ _ _ _ _ _ _ _ _ _
+    (said .full (full .if1 .taken)) (said .table-kept) (said .origins-kept) (said .states-kept) (refused c .refuse .ensures)
 
 refuse-requires-2 : tie.Need-refuse-requires-2
 refuse-requires-2 c κs = search needs
@@ -155,51 +187,53 @@ same-length-6 c = search needs
 
 returns-2 : tie.Need-returns-2
 returns-2 c =
-    let w = c .before .before .before .before .before .before .before .before .before .before .before .before .before .before .before .before .before .before in
+    let over = many-arcs (refused-arcs c) in
+    let w = walked (over .before .before) in
     let k = lent (heads (packed w) .before) in
-    let pre = entry k .pre in
+    let pre = entry k .pre .0 in
     let said = w .walk-all .ensures in
-    let then2 = c .before .before .before .before .before .before .before .before .before .before in
-    says-12 _ _ (left-bytes k) (right-bytes k) (pre .left-accepted) (pre .right-accepted) _ _ _ _ (said .done (then2 .before .if1 .left)) _ _ _ _ _ _ _
-    (then2 .if2 .taken) (said .table-kept) (said .origins-kept) (said .states-kept) (c .before .before .before .before .before .before .refuse2 .ensures)
+    says-12 _ _ (left-bytes k) (right-bytes k) (pre .left-accepted) (pre .left-named) (pre .right-accepted) _ _ _ _
+    (said .done (over .before .if1 .left)) _ _ _ _ _ _ _ (over .if2 .taken) (said .table-kept) (said .origins-kept) (said .states-kept)
+    (refused-arcs c .refuse2 .ensures)
 
 cast-final-codes : tie.Need-cast-final-codes
 cast-final-codes c = search needs
 
 final-codes-requires : tie.Need-final-codes-requires
 final-codes-requires c κs =
-    let h = heads (packed (c .before .before .before .before .before .before .before .before .before)) in
-    (entry (lent (h .before)) .pre .left-accepted, left-head h .finals)
+    let h = heads (packed (passed (c .before))) in
+    (entry (lent (h .before)) .pre .0 .left-accepted, left-head h .finals)
 
 cast-final-codes-2 : tie.Need-cast-final-codes-2
 cast-final-codes-2 c = search needs
 
 final-codes-requires-2 : tie.Need-final-codes-requires-2
 final-codes-requires-2 c κs =
-    let h = heads (packed (c .before .before .before .before .before .before .before .before .before .before .before)) in
-    (entry (lent (h .before)) .pre .right-accepted, right-head h .finals)
+    let h = heads (packed (passed (c .before .before .before))) in
+    (entry (lent (h .before)) .pre .0 .right-accepted, right-head h .finals)
 
 write-out-requires : tie.Need-write-out-requires
 write-out-requires c κs =
-    let w = c .before .before .before .before .before .before .before .before .before .before .before .before .before .before .before .before .before in
-    let pre = entry (lent (heads (packed w) .before)) .pre in
-    let said = w .walk-all .ensures in
-    let else2 = c .before .before .before .before .before .before .before .before .before in (
+    let w = passed (few c) in
+    let pre = entry (lent (heads (packed w) .before)) .pre .0 in
+    let said = w .walk-all .ensures in (
       record {
         left-accepted = pre .left-accepted;
+        left-named = pre .left-named;
         right-accepted = pre .right-accepted;
         table-long = omega (arith, said .table-kept, pre .table-long);
         origins-long = omega (arith, said .origins-kept, pre .origins-long);
         states-long = omega (arith, said .states-kept, pre .states-long);
       },
       (
-        (c .before .before .before .before .before .before .before .final-codes .ensures, c .before .before .before .before .before .final-codes2 .ensures),
-        record { told = said .done (else2 .before .if1 .left); few-arcs = else2 .if2 .left },
+        (left-coded (coded c) .final-codes .ensures, coded c .final-codes2 .ensures),
+        record { told = said .done (few c .before .if1 .left); few-arcs = few c .if2 .left },
       ),
     )
 
 same-length-7 : tie.Need-same-length-7
-same-length-7 c = search needs
+same-length-7 c =
+    written c .write-out .kept .1 .1 .1 .1 .1 .0 ∙ passed (few (written c .before)) .walk-all .ensures .table-kept
 
 same-length-8 : tie.Need-same-length-8
 same-length-8 c = search needs
@@ -209,12 +243,12 @@ same-length-9 c = search needs
 
 returns-3 : tie.Need-returns-3
 returns-3 c =
-    let w = c .before .before .before .before .before .before .before .before .before .before .before .before .before .before .before .before .before .before .before .before .before .before .before .before in
+    let w = passed (few (written c .before)) in
     let k = lent (heads (packed w) .before) in
-    let pre = entry k .pre in
+    let pre = entry k .pre .0 in
     let said = w .walk-all .ensures in
-    says-same _ _ (left-bytes k) (right-bytes k) (pre .left-accepted) (pre .right-accepted) _ _ _ _ _ _ _ _ _ _
-    (said .table-kept) (said .origins-kept) (said .states-kept) (c .before .before .before .before .before .before .write-out .ensures)
+    says-same _ _ (left-bytes k) (right-bytes k) (pre .left-accepted) (pre .left-named) (pre .right-accepted) _ _ _ _ _ _ _ _ _ _
+    (said .table-kept) (said .origins-kept) (said .states-kept) (written c .write-out .ensures)
 
 pub compose-into-spec : {M : Type 1} → statement M
 compose-into-spec =

@@ -13,8 +13,11 @@ lent c = c .before .before .before .before .before
 abbrev entry : tie.After-shared-slice-known2 → tie.Start
 entry c = c .before .before
 
+abbrev tested : tie.After-struct-known → tie.After-put-finals
+tested c = c .before .before .before
+
 abbrev finals-put : tie.Else2 → tie.After-put-finals
-finals-put c = c .before .before .before .before
+finals-put c = tested (c .before .before)
 
 abbrev arcs-moved : tie.After-put-head → tie.After-move-arcs
 arcs-moved c = c .before .before .before .before
@@ -41,6 +44,9 @@ head-put c = c .before .before .before .before
 abbrev table-cleared : tie.After-clear16 → tie.After-clear8
 table-cleared c = c .before .before .before .before
 
+abbrev put-before : tie.After-clear8 → tie.After-put-finals
+put-before c = finals-put (arcs-moved (head-put c) .before .before)
+
 abbrev origins-cleared : tie.After-slice-known15 → tie.After-clear16
 origins-cleared c = c .before .before .before .before .before .before
 
@@ -58,15 +64,15 @@ fits : (c : tie.After-put-finals) → Writable (entry (lent (c .before)) .args .
 fits c =
     let k = lent (c .before) in
     let pre = entry k .pre in
-    writable _ _ (left-bytes k) (right-bytes k) (pre .0 .left-accepted) (pre .0 .right-accepted) _ _ _ _ (pre .1 .1 .told) (pre .1 .1 .few-arcs) _ _
-    (pre .1 .0 .0) (pre .1 .0 .1) _ _ (c .put-finals .ensures)
+    writable _ _ (left-bytes k) (right-bytes k) (pre .0 .left-accepted) (pre .0 .left-named) (pre .0 .right-accepted) _ _ _ _
+    (pre .1 .1 .told) (pre .1 .1 .few-arcs) _ _ (pre .1 .0 .0) (pre .1 .0 .1) _ _ (c .put-finals .ensures)
 
 put-finals-requires : tie.Need-put-finals-requires
 put-finals-requires c κs =
     let k = lent c in
     let pre = entry k .pre in
-    finishable _ _ (left-bytes k) (right-bytes k) (pre .0 .left-accepted) (pre .0 .right-accepted) _ _ _ _ (pre .1 .1 .told) (pre .1 .1 .few-arcs) _ _
-    (pre .1 .0 .0) (pre .1 .0 .1) (pre .0 .table-long) (pre .0 .states-long)
+    finishable _ _ (left-bytes k) (right-bytes k) (pre .0 .left-accepted) (pre .0 .left-named) (pre .0 .right-accepted) _ _ _ _
+    (pre .1 .1 .told) (pre .1 .1 .few-arcs) _ _ (pre .1 .0 .0) (pre .1 .0 .1) (pre .0 .table-long) (pre .0 .states-long)
 
 refuse-requires : tie.Need-refuse-requires
 refuse-requires c κs = search needs
@@ -82,12 +88,12 @@ same-length-3 c = search needs
 
 returns : tie.Need-returns
 returns c =
-    let put = dear-arcs (refused-arcs c) .before .before .before in
+    let put = tested (dear-arcs (refused-arcs c) .before) in
     let k = lent (put .before) in
     let pre = entry k .pre in
-    says-13-arcs _ _ (left-bytes k) (right-bytes k) (pre .0 .left-accepted) (pre .0 .right-accepted) _ _ _ _ (pre .1 .1 .told) (pre .1 .1 .few-arcs) _ _
-    (pre .1 .0 .0) (pre .1 .0 .1) _ _ (put .put-finals .ensures) _ _ _ _ (dear-arcs (refused-arcs c) .if1 .taken)
-    (refused-arcs c .refuse .ensures)
+    says-13-arcs _ _ (left-bytes k) (right-bytes k) (pre .0 .left-accepted) (pre .0 .left-named) (pre .0 .right-accepted) _ _ _ _
+    (pre .1 .1 .told) (pre .1 .1 .few-arcs) _ _ (pre .1 .0 .0) (pre .1 .0 .1) _ _ (put .put-finals .ensures) _ _ _ _
+    (dear-arcs (refused-arcs c) .if1 .taken) (refused-arcs c .refuse .ensures)
 
 refuse-requires-2 : tie.Need-refuse-requires-2
 refuse-requires-2 c κs = search needs
@@ -103,12 +109,12 @@ same-length-6 c = search needs
 
 returns-2 : tie.Need-returns-2
 returns-2 c =
-    let put = dear-finals (refused-finals c) .before .before .before .before in
+    let put = tested (dear-finals (refused-finals c) .before .before) in
     let k = lent (put .before) in
     let pre = entry k .pre in
-    says-13-finals _ _ (left-bytes k) (right-bytes k) (pre .0 .left-accepted) (pre .0 .right-accepted) _ _ _ _ (pre .1 .1 .told) (pre .1 .1 .few-arcs) _ _
-    (pre .1 .0 .0) (pre .1 .0 .1) _ _ (put .put-finals .ensures) _ _ _ _ (dear-finals (refused-finals c) .if2 .taken)
-    (refused-finals c .refuse2 .ensures)
+    says-13-finals _ _ (left-bytes k) (right-bytes k) (pre .0 .left-accepted) (pre .0 .left-named) (pre .0 .right-accepted) _ _ _ _
+    (pre .1 .1 .told) (pre .1 .1 .few-arcs) _ _ (pre .1 .0 .0) (pre .1 .0 .1) _ _ (put .put-finals .ensures) _ _ _ _
+    (dear-finals (refused-finals c) .if2 .taken) (refused-finals c .refuse2 .ensures)
 
 mul-behind : tie.Need-mul-behind
 mul-behind c = omega (arith, fits (finals-put c))
@@ -128,8 +134,8 @@ move-arcs-requires c κs =
     let k = lent (put .before) in
     let pre = entry k .pre in
     let kept =
-    finals-kept _ _ (left-bytes k) (right-bytes k) (pre .0 .left-accepted) (pre .0 .right-accepted) _ _ _ _ (pre .1 .1 .told) (pre .1 .1 .few-arcs) _ _
-    (pre .1 .0 .0) (pre .1 .0 .1) _ _ (put .put-finals .ensures) in
+    finals-kept _ _ (left-bytes k) (right-bytes k) (pre .0 .left-accepted) (pre .0 .left-named) (pre .0 .right-accepted) _ _ _ _
+    (pre .1 .1 .told) (pre .1 .1 .few-arcs) _ _ (pre .1 .0 .0) (pre .1 .0 .1) _ _ (put .put-finals .ensures) in
     (omega (arith, fits put), omega (arith, fits put, kept, pre .0 .table-long))
 
 cast-put-head : tie.Need-cast-put-head
@@ -152,18 +158,22 @@ clear8-requires c κs =
     let k = lent (put .before) in
     let pre = entry k .pre in
     let kept =
-    finals-kept _ _ (left-bytes k) (right-bytes k) (pre .0 .left-accepted) (pre .0 .right-accepted) _ _ _ _ (pre .1 .1 .told) (pre .1 .1 .few-arcs) _ _
-    (pre .1 .0 .0) (pre .1 .0 .1) _ _ (put .put-finals .ensures) in
+    finals-kept _ _ (left-bytes k) (right-bytes k) (pre .0 .left-accepted) (pre .0 .left-named) (pre .0 .right-accepted) _ _ _ _
+    (pre .1 .1 .told) (pre .1 .1 .few-arcs) _ _ (pre .1 .0 .0) (pre .1 .0 .1) _ _ (put .put-finals .ensures) in
     omega (arith, fits put, kept, head .put-head .kept .0, moved .move-arcs .kept .0, pre .0 .table-long)
 
 mul-clear16 : tie.Need-mul-clear16
-mul-clear16 c = search needs
+mul-clear16 c = omega (arith, fits (put-before (c .before .before .before)))
 
 clear16-requires : tie.Need-clear16-requires
-clear16-requires c κs = search needs
+clear16-requires c κs =
+    let put = put-before (c .before .before .before) in
+    omega (arith, fits put, entry (lent (put .before)) .pre .0 .origins-long)
 
 clear32-requires : tie.Need-clear32-requires
-clear32-requires c κs = search needs
+clear32-requires c κs =
+    let put = put-before (table-cleared (c .before .before .before)) in
+    omega (arith, entry (lent (put .before)) .pre .0 .states-long)
 
 cast-t47 : tie.Need-cast-t47
 cast-t47 c = omega (arith, fits (finals-put (all-moved c .before .before)))
@@ -185,10 +195,10 @@ returns-3 c =
     let put = finals-put else2 in
     let k = lent (put .before) in
     let pre = entry k .pre in
-    says-written _ _ (left-bytes k) (right-bytes k) (pre .0 .left-accepted) (pre .0 .right-accepted) _ _ _ _ (pre .1 .1 .told) (pre .1 .1 .few-arcs) _ _
-    (pre .1 .0 .0) (pre .1 .0 .1) _ _ (put .put-finals .ensures) _ _ _ _ _ (else2 .before .if1 .left) (else2 .if2 .left) (pre .0 .table-long)
-    (all-moved c .move-arcs .ensures) (head-put written .put-head .ensures) (written .clear8 .ensures) (cleared .clear16 .ensures)
-    (c .before .before .clear32 .ensures)
+    says-written _ _ (left-bytes k) (right-bytes k) (pre .0 .left-accepted) (pre .0 .left-named) (pre .0 .right-accepted) _ _ _ _
+    (pre .1 .1 .told) (pre .1 .1 .few-arcs) _ _ (pre .1 .0 .0) (pre .1 .0 .1) _ _ (put .put-finals .ensures) _ _ _ _ _
+    (else2 .before .if1 .left) (else2 .if2 .left) (pre .0 .table-long) (all-moved c .move-arcs .ensures) (head-put written .put-head .ensures)
+    (written .clear8 .ensures) (cleared .clear16 .ensures) (c .before .before .clear32 .ensures)
 
 pub write-out-spec : {M : Type 1} → statement M
 write-out-spec =

@@ -1,7 +1,7 @@
 -- A store loop over the keys, a record for each that is final. The invariant, `Finishing`: the finals of the first `s` keys are written and counted.
 use borrow.Author.Needs.{needs}
 use mathlib.Core.Path.{_≡_, sym, ap, ap₂, _∙_}
-use Prim.Native.Nat.{_+_, _-_}
+use Prim.Native.Nat.{_-_}
 use native.Mathlib.Omega.{arith}
 use lib.ListN.{getD}
 use mir.Syntax.{w32}
@@ -164,8 +164,8 @@ loop-again-2 c =
     let x = start .args in
     finishing-none (key-final (x .lcodes .now) (x .rcodes .now)) (key-weight (x .lcodes .now) (x .rcodes .now)) (x .states .now) (h .loop .inv)
     (here .before .before .loop-test .taken) (start .pre .stored)
-    (right-not-final (x .lcodes .now) (x .rcodes .now) (getD (x .states .now) (h .loop .s) 0) (here .unpack .result) (here .unpack .ensures) (c .before .if1 .taken)
-    (c .if2 .left))
+    (right-not-final (x .lcodes .now) (x .rcodes .now) (getD (x .states .now) (h .loop .s) 0) (here .unpack .result) (here .unpack .ensures)
+    (c .before .if1 .taken) (c .if2 .left))
 
 loop-less-3 : tie.Need-loop-less-3 Inv-loop μ-loop
 loop-less-3 c = omega (arith, unpacking (c .before) .before .before .loop-test .taken)
@@ -187,7 +187,8 @@ returns : tie.Need-returns Inv-loop μ-loop
 returns c =
     let h = c .before in
     let x = h .before .before .before .args in
-    finishing-stop (key-final (x .lcodes .now) (x .rcodes .now)) (key-weight (x .lcodes .now) (x .rcodes .now)) (x .states .now) (h .loop .inv) (c .loop-test .left)
+    finishing-stop (key-final (x .lcodes .now) (x .rcodes .now)) (key-weight (x .lcodes .now) (x .rcodes .now)) (x .states .now) (h .loop .inv)
+    (c .loop-test .left)
 
 pub put-finals-spec : {M : Type 1} → statement M
 put-finals-spec =

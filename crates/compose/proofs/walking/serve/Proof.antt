@@ -15,12 +15,24 @@ use Rattle.steps.specs.Runs.{run-at, In-both}
 use Rattle.compose.specs.Walk.{key-steps}
 use Rattle.steps.proofs.Reading.{right-from, Run-here, next-run-here}
 use Rattle.compose.specs.Taking.{run-left}
-use Rattle.compose.proofs.WalkCode.{Placed, placed, placed-left, placed-right, placed-leaving, Serving, serving-first, serving-next, serving-full, serving-stop}
+use Rattle.compose.proofs.WalkCode.{
+  Placed,
+  placed,
+  placed-left,
+  placed-right,
+  placed-leaving,
+  Serving,
+  serving-first,
+  serving-next,
+  serving-full,
+  serving-stop,
+}
 use Rattle.compose.proofs.walking.serve.Statement.{statement}
 use Rattle.compose.proofs.walking.serve.Tie as tie
 
 abbrev Inv-loop : tie.InvT-loop
-Inv-loop left lfirst lindex right rfirst rindex rheads chain again source table₀ origins₀ states₀ heads₀ links₀ x p q to last walk₀ i₀ table origins states heads links walk i =
+Inv-loop left lfirst lindex right rfirst rindex rheads chain again exact source table₀ origins₀ states₀ heads₀ links₀ x p q to last walk₀ i₀
+    table origins states heads links walk i =
     ((b : Sofar) → Walked 2 b walk₀ table₀ origins₀ states₀ heads₀ links₀
     → Serving (decode left) (decode right) x source last (state-served (key-steps (decode left) (decode right)) source b) i walk table origins states
     heads links)
@@ -28,7 +40,8 @@ Inv-loop left lfirst lindex right rfirst rindex rheads chain again source table�
     × (length states ≡ length states₀)
 
 abbrev μ-loop : tie.MeasureT-loop
-μ-loop left lfirst lindex right rfirst rindex rheads chain again source table₀ origins₀ states₀ heads₀ links₀ x p q to last walk₀ i₀ table origins states heads links walk i =
+μ-loop left lfirst lindex right rfirst rindex rheads chain again exact source table₀ origins₀ states₀ heads₀ links₀ x p q to last walk₀ i₀
+    table origins states heads links walk i =
     last + 1 - i
 
 -- Places to look back to: the start, the state unpacked, the loop's head in a turn, the run made, the run taken.
@@ -50,8 +63,8 @@ head c = c .before .before
 abbrev made : tie.After-take-run Inv-loop μ-loop → tie.After-run-of Inv-loop μ-loop
 made c = c .before .before .before .before .before .before .before
 
-abbrev taken : tie.After-slice-known7 Inv-loop μ-loop → tie.After-take-run Inv-loop μ-loop
-taken c = c .before .before .before .before .before .before
+abbrev taken : tie.After-struct-known3 Inv-loop μ-loop → tie.After-take-run Inv-loop μ-loop
+taken c = c .before .before .before .before .before .before .before
 
 abbrev turn : tie.After-take-run Inv-loop μ-loop → tie.At-loop Inv-loop μ-loop
 turn c = head (made c .before)
@@ -186,7 +199,7 @@ next-run-requires : tie.Need-next-run-requires Inv-loop μ-loop
 next-run-requires c κs =
     let walkable = entry (state (c .before)) .pre .0 .0 in (
       (walkable .left-open, c .loop-test .taken, placed-left (c .before .loop .inv .1) .1),
-      (walkable .right-open, walkable .right-lookup .headed, walkable .right-lookup .chained),
+      (walkable .right-open, walkable .right-lookup .headed, walkable .right-lookup .chained, walkable .right-named),
     )
 
 -- The run that begins at the place that `next_run` gave is the next one.
@@ -227,8 +240,15 @@ take-run-requires c κs =
     let ended = c .before .before .before .before .before in
     let t = head (ended .before .before) in
     let pre = entry (state t) .pre in
+    let run = here (ended .before) in
     let g = t .loop .inv .0 (pre .1 .1 .0) (pre .1 .1 .1) in (
-      (pre .0 .0 .right-open, pre .0 .0 .right-lookup .repeated, rw (ended .end-of .ensures) (here (ended .before) .ready)),
+      (
+        pre .0 .0 .right-open,
+        pre .0 .0 .right-lookup .repeated,
+        rw (ended .end-of .ensures) (run .ready),
+        pre .0 .0 .right-named,
+        rw (ended .end-of .ensures) (run .ends),
+      ),
       (g .taking .sofar, g .taking .walked),
     )
 
@@ -238,30 +258,30 @@ went : (c : tie.After-take-run Inv-loop μ-loop) (b : Sofar)
     → Went 2 (all-taken (entry (state (turn c)) .args .source)
     (run-left (decode (entry (state (turn c)) .args .right .now)) (made c .run-of .result)
     (cond (made c .before .next-run .result .alone) 1 (to-of (state (turn c)))) (made c .before .next-run .result .j)) b)
-    (c .take-run .result) (c .take-run .last .1 .1 .1 .1 .1 .1 .1 .1 .0) (c .take-run .last .1 .1 .1 .1 .1 .1 .1 .1 .1 .0)
-    (c .take-run .last .1 .1 .1 .1 .1 .1 .1 .1 .1 .1 .0) (c .take-run .last .1 .1 .1 .1 .1 .1 .1 .1 .1 .1 .1 .0)
-    (c .take-run .last .1 .1 .1 .1 .1 .1 .1 .1 .1 .1 .1 .1 .0)
+    (c .take-run .result) (c .take-run .last .1 .1 .1 .1 .1 .1 .1 .1 .1 .0) (c .take-run .last .1 .1 .1 .1 .1 .1 .1 .1 .1 .1 .0)
+    (c .take-run .last .1 .1 .1 .1 .1 .1 .1 .1 .1 .1 .1 .0) (c .take-run .last .1 .1 .1 .1 .1 .1 .1 .1 .1 .1 .1 .1 .0)
+    (c .take-run .last .1 .1 .1 .1 .1 .1 .1 .1 .1 .1 .1 .1 .1 .0)
 went c b k = rw (← c .before .before .before .before .before .before .end-of .ensures) (c .take-run .ensures b k)
 
 same-length : tie.Need-same-length Inv-loop μ-loop
-same-length c = let k = taken (c .before) in k .take-run .kept .1 .1 .1 .1 .1 .1 .1 .1 .0 ∙ turn k .loop .inv .2
+same-length c = let k = taken (c .before) in k .take-run .kept .1 .1 .1 .1 .1 .1 .1 .1 .1 .0 ∙ turn k .loop .inv .2
 
 same-length-2 : tie.Need-same-length-2 Inv-loop μ-loop
-same-length-2 c = let k = taken (c .before) in k .take-run .kept .1 .1 .1 .1 .1 .1 .1 .1 .1 .0 ∙ turn k .loop .inv .3
+same-length-2 c = let k = taken (c .before) in k .take-run .kept .1 .1 .1 .1 .1 .1 .1 .1 .1 .1 .0 ∙ turn k .loop .inv .3
 
 same-length-3 : tie.Need-same-length-3 Inv-loop μ-loop
-same-length-3 c = let k = taken (c .before) in k .take-run .kept .1 .1 .1 .1 .1 .1 .1 .1 .1 .1 .0 ∙ turn k .loop .inv .4
+same-length-3 c = let k = taken (c .before) in k .take-run .kept .1 .1 .1 .1 .1 .1 .1 .1 .1 .1 .1 .0 ∙ turn k .loop .inv .4
 
 returns : tie.Need-returns Inv-loop μ-loop
 returns c = λ b was.
     let k = taken (c .before) in
     let g = turn k .loop .inv .0 b was in
-    let out = k .take-run .last .1 .1 .1 .1 .1 .1 .1 .1 in
+    let out = k .take-run .last .1 .1 .1 .1 .1 .1 .1 .1 .1 in
     serving-full g (made k .before .before .loop-test .taken) (here (made k)) (k .take-run .result) (out .0) (out .1 .0) (out .1 .1 .0)
     (out .1 .1 .1 .0) (out .1 .1 .1 .1 .0) (went k (g .taking .sofar) (g .taking .walked)) (c .if1 .taken)
 
 -- The run taken, once it is known that the walk is not full.
-abbrev passed : tie.After-struct-known3 Inv-loop μ-loop → tie.After-take-run Inv-loop μ-loop
+abbrev passed : tie.After-struct-known4 Inv-loop μ-loop → tie.After-take-run Inv-loop μ-loop
 passed c = taken (c .before .before)
 
 add-i : tie.Need-add-i Inv-loop μ-loop
@@ -274,8 +294,8 @@ loop-again : tie.Need-loop-again Inv-loop μ-loop
 loop-again c =
     let k = passed c in
     let t = turn k .loop in
-    let out = k .take-run .last .1 .1 .1 .1 .1 .1 .1 .1 in
-    let kept = k .take-run .kept .1 .1 .1 .1 .1 .1 .1 .1 in (
+    let out = k .take-run .last .1 .1 .1 .1 .1 .1 .1 .1 .1 in
+    let kept = k .take-run .kept .1 .1 .1 .1 .1 .1 .1 .1 .1 in (
       λ b was.
           let g = t .inv .0 b was in
           serving-next g (made k .before .before .loop-test .taken) (here (made k)) (k .take-run .result) (out .0) (out .1 .0) (out .1 .1 .0)

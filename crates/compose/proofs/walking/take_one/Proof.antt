@@ -1,6 +1,6 @@
 -- The one step is taken by the laws of `Taking`, as a step of `take_each` is, and `find` gives the number of its target.
 use borrow.Author.Needs.{needs}
-use mathlib.Core.Path.{_≡_, refl, sym}
+use mathlib.Core.Path.{_≡_, sym}
 use mathlib.Core.List.{List}
 use Prim.Native.Nat.{ℕ, suc, _≤_, _<_}
 use native.Mathlib.Omega.{arith}
@@ -21,18 +21,22 @@ use Rattle.compose.proofs.walking.take_one.Statement.{statement}
 use Rattle.compose.proofs.walking.take_one.Tie as tie
 
 -- The run at its start.
-first : (c : tie.Start) (b : Sofar) → Walked 2 b (c .args .w) (c .args .table .now) (c .args .origins .now) (c .args .states .now) (c .args .heads .now) (c .args .links .now)
+first : (c : tie.Start) (b : Sofar)
+    → Walked 2 b (c .args .w) (c .args .table .now) (c .args .origins .now) (c .args .states .now) (c .args .heads .now) (c .args .links .now)
     → Taking 2 (c .args .source) (run-left (decode (c .args .right .now)) (c .args .r) (c .args .to) (c .args .from))
     (all-taken (c .args .source) (run-left (decode (c .args .right .now)) (c .args .r) (c .args .to) (c .args .from)) b)
     (c .args .w) (c .args .table .now) (c .args .origins .now) (c .args .states .now) (c .args .heads .now) (c .args .links .now)
 first c b k = let a = c .args in taking-first (a .source) (run-left (decode (a .right .now)) (a .r) (a .to) (a .from)) k
 
 -- The way back from a place to an earlier one.
-abbrev start : tie.After-find → tie.Start
-start c = c .before .before .before .before .before .before .before .before .before .before
+abbrev entered : tie.After-step-of → tie.Start
+entered c = c .before .before .before .before .before .before
 
 abbrev stepped : tie.After-find → tie.After-step-of
 stepped c = c .before .before .before .before
+
+abbrev start : tie.After-find → tie.Start
+start c = entered (stepped c)
 
 abbrev not-full : tie.After-record-step-arg2 → tie.Else2
 not-full c = c .before .before .before .before .before .before .before .before
@@ -58,7 +62,7 @@ step-of-requires c κs =
     (pre .0 .0, λ e. clash (pre .0 .2) e, pre .0 .1 .target-fits, pre .0 .1 .weight-fits)
 
 find-requires : tie.Need-find-requires
-find-requires c κs = let k = c .before .before .before .before .before .before .before .before .before .pre .1 in (k .0 .keys, k .1 .chained, sym (k .1 .states-are))
+find-requires c κs = let k = entered (c .before .before .before) .pre .1 in (k .0 .keys, k .1 .chained, sym (k .1 .states-are))
 
 -- The number found is the key's, or the next one.
 number-is : (c : tie.After-find) (xs : List ℕ) → Chained xs (start c .args .states .now) (start c .args .heads .now) (start c .args .links .now)
@@ -88,7 +92,7 @@ returns-2 c = λ b k.
     let u = decode (a .right .now) in
     let g = first s b k in
     let w = g .walked in
-    went-full refl
+    went-full (λ e. omega arith)
     (taking-over g (keyed-step (step .result)) (run-left u (a .r) (a .to) (suc (a .from)))
     (run-left-first u (a .r) (a .to) (a .from) (step .result) (s .pre .0 .1) (stepped found .before .if1 .left) (step .ensures)) (found .find .result)
     (number-is found (g .sofar .keys) (w .chained) (sym (w .states-are))) (c .if2 .taken))

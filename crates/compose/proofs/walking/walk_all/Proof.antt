@@ -8,7 +8,6 @@ use lib.ListN.{length}
 use Rattle.transducer.specs.Format.{decode, Good}
 use Rattle.transducer.proofs.RoundTrip.{accepted-good}
 use Rattle.explore.specs.Explore.{there}
-use Rattle.wire.proofs.Bool.{clash}
 use Rattle.explore.proofs.Chain.{chained-zeros}
 use Rattle.explore.proofs.ExploredKeys.{Keying}
 use Rattle.explore.proofs.Walking.{Walking, walking-first, walking-small, walking-state, walking-next, walking-full, walking-stop}
@@ -21,13 +20,15 @@ use Rattle.compose.proofs.walking.walk_all.Statement.{statement}
 use Rattle.compose.proofs.walking.walk_all.Tie as tie
 
 abbrev Inv-loop : tie.InvT-loop
-Inv-loop left lfirst lindex right rfirst rindex rheads chain again first table₀ origins₀ states₀ heads₀ links₀ walk₀ s₀ table origins states heads links walk s =
+Inv-loop left lfirst lindex right rfirst rindex rheads chain again exact first table₀ origins₀ states₀ heads₀ links₀ walk₀ s₀
+    table origins states heads links walk s =
     Walking pack (Within (decode left) (decode right)) 2 (key-steps (decode left) (decode right)) (pack (first-state (decode left) (decode right))) s walk
     table origins states heads links × (length table ≡ length table₀) × (length origins ≡ length origins₀)
     × (length states ≡ length states₀)
 
 abbrev μ-loop : tie.MeasureT-loop
-μ-loop left lfirst lindex right rfirst rindex rheads chain again first table₀ origins₀ states₀ heads₀ links₀ walk₀ s₀ table origins states heads links walk s =
+μ-loop left lfirst lindex right rfirst rindex rheads chain again exact first table₀ origins₀ states₀ heads₀ links₀ walk₀ s₀
+    table origins states heads links walk s =
     1024 - s
 
 -- Places to look back to: the start, the first state stored, the loop's head, the turn in which a state is served.
@@ -46,8 +47,8 @@ turn c = c .before .before .before .before .before .before
 abbrev head : tie.Then1 Inv-loop μ-loop → tie.At-loop Inv-loop μ-loop
 head c = c .before .before
 
-abbrev served : tie.After-slice-known7 Inv-loop μ-loop → tie.After-serve Inv-loop μ-loop
-served c = c .before .before .before .before .before .before
+abbrev served : tie.After-struct-known2 Inv-loop μ-loop → tie.After-serve Inv-loop μ-loop
+served c = c .before .before .before .before .before .before .before
 
 -- Both transducers are good ones.
 left-good : (c : tie.After-shared-slice-known2 Inv-loop μ-loop) → Good (decode (start c .args .left .now))
@@ -103,29 +104,29 @@ small c = walking-small (keying (lent (begun (head c)))) 2 (head c .loop .inv .0
 same-length : tie.Need-same-length Inv-loop μ-loop
 same-length c =
     let k = served (c .before) in
-    k .serve .kept .1 .1 .1 .1 .1 .1 .1 .1 .1 .1 .1 .0 ∙ head (turn k) .loop .inv .1
+    k .serve .kept .1 .1 .1 .1 .1 .1 .1 .1 .1 .1 .1 .1 .0 ∙ head (turn k) .loop .inv .1
 
 same-length-2 : tie.Need-same-length-2 Inv-loop μ-loop
 same-length-2 c =
     let k = served (c .before) in
-    k .serve .kept .1 .1 .1 .1 .1 .1 .1 .1 .1 .1 .1 .1 .0 ∙ head (turn k) .loop .inv .2
+    k .serve .kept .1 .1 .1 .1 .1 .1 .1 .1 .1 .1 .1 .1 .1 .0 ∙ head (turn k) .loop .inv .2
 
 same-length-3 : tie.Need-same-length-3 Inv-loop μ-loop
 same-length-3 c =
     let k = served (c .before) in
-    k .serve .kept .1 .1 .1 .1 .1 .1 .1 .1 .1 .1 .1 .1 .1 .0 ∙ head (turn k) .loop .inv .3 ∙ begun (head (turn k)) .insert .kept .0
+    k .serve .kept .1 .1 .1 .1 .1 .1 .1 .1 .1 .1 .1 .1 .1 .1 .0 ∙ head (turn k) .loop .inv .3 ∙ begun (head (turn k)) .insert .kept .0
 
 returns : tie.Need-returns Inv-loop μ-loop
 returns c =
     let k = served (c .before) in
     let h = head (turn k) in
     let g = h .loop .inv .0 in
-    let out = k .serve .last .1 .1 .1 .1 .1 .1 .1 .1 .1 .1 .1 in
+    let out = k .serve .last .1 .1 .1 .1 .1 .1 .1 .1 .1 .1 .1 .1 in
     record {
       full =
           walking-full (keying (lent (begun h))) 2 g (turn k .if1 .taken) (k .serve .result) (out .0) (out .1 .0) (out .1 .1 .0) (out .1 .1 .1 .0)
           (out .1 .1 .1 .1 .0) (k .serve .ensures (g .sofar) (g .walked));
-      done = λ e. clash (c .if2 .taken) e;
+      done = λ e. absurd (c .if2 .taken e);
       table-kept = same-length c;
       origins-kept = same-length-2 c;
       states-kept = same-length-3 c;
@@ -142,8 +143,8 @@ loop-again c =
     let k = served (c .before) in
     let h = head (turn k) in
     let g = h .loop .inv .0 in
-    let out = k .serve .last .1 .1 .1 .1 .1 .1 .1 .1 .1 .1 .1 in
-    let kept = k .serve .kept .1 .1 .1 .1 .1 .1 .1 .1 .1 .1 .1 in (
+    let out = k .serve .last .1 .1 .1 .1 .1 .1 .1 .1 .1 .1 .1 .1 in
+    let kept = k .serve .kept .1 .1 .1 .1 .1 .1 .1 .1 .1 .1 .1 .1 in (
       walking-next (keying (lent (begun h))) 2 g (turn k .if1 .taken) (k .serve .result) (out .0) (out .1 .0) (out .1 .1 .0) (out .1 .1 .1 .0)
           (out .1 .1 .1 .1 .0) (k .serve .ensures (g .sofar) (g .walked)) (c .if2 .left),
       kept .0 ∙ h .loop .inv .1,
@@ -165,7 +166,7 @@ returns-2 c =
     let h = c .before .before in
     let g = h .loop .inv .0 in
     record {
-      full = λ e. clash e (g .walked .not-full);
+      full = λ e. absurd (e (g .walked .not-full));
       done = λ e. walking-stop (keying (lent (begun h))) 2 g (c .if1 .left);
       table-kept = same-length-4 c;
       origins-kept = same-length-5 c;

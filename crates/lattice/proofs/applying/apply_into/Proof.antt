@@ -34,10 +34,10 @@ abbrev opened : tie.After-walk-all → tie.After-header
 opened c = at-header (numbered (indexed c))
 
 abbrev walked-full : tie.Then1 → tie.After-walk-all
-walked-full c = c .before .before .before .before .before
+walked-full c = c .before .before .before .before .before .before
 
 abbrev walked-on : tie.Else1 → tie.After-walk-all
-walked-on c = c .before .before .before .before .before
+walked-on c = c .before .before .before .before .before .before
 
 abbrev walked : tie.Else2 → tie.After-walk-all
 walked c = walked-on (c .before)

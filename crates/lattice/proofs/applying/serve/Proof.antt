@@ -2,24 +2,30 @@
 -- builds.
 use borrow.Author.Needs.{needs}
 use mathlib.Core.Path.{_≡_, refl, sym, ap, subst, _∙_}
+use mathlib.Core.Bool.{true, false}
 use mathlib.Core.Logic.{⊎-elim}
 use mathlib.Core.List.{_∷_, []}
 use Prim.Native.Nat.{ℕ, _+_, _-_, _≤_, _<_}
 use native.Mathlib.Omega.{arith}
+use lib.Dec.{eqb}
 use lib.ListN.{length, getD}
+use borrow.Author.Tests.{not-true, not-false}
 use mir.Syntax.{w32}
 use mir.Val.{toZ, ofZ}
 use mir.Facts.{toZ-ofZ}
 use Rattle.transducer.specs.Format.{Transducer, decode, Good, max-states, max-arcs, max-symbols}
 use Rattle.transducer.proofs.RoundTrip.{accepted-good, good-range, good-content}
+use Rattle.transducer.specs.Each.{fits, passed}
+use Rattle.wire.proofs.Bool.{cond-most}
 use Rattle.transducer.specs.Weight.{Weight}
 use Rattle.transducer.specs.declared.Arc.{Arc}
-use Rattle.explore.specs.Walk.{Sofar, state-served, Walked, Went, taken}
+use Rattle.explore.specs.Walk.{Keyed, Sofar, state-served, Walked, Went, taken}
 use Rattle.explore.proofs.Walking.{Taking}
 use Rattle.lattice.specs.declared.State.{State}
 use Rattle.lattice.specs.Pack.{unpacked}
 use Rattle.lattice.specs.Applying.{next, arc-keyed, State-in}
-use Rattle.lattice.proofs.ServedArcs.{index-within, arc-next, arcs-left, symbol-of, leaving, empty-taken, symbol-taken, none-taken}
+use Rattle.lattice.proofs.ServedArcs.{index-within, arc-next, arcs-left, symbol-of, reading, Reads, reads-some, reads-written, reads-nothing}
+use Rattle.lattice.proofs.ServedArcs.{reads-itself, read-taken, none-taken}
 use Rattle.lattice.proofs.ServedArcs.{serving-first, serving-skip, serving-next, serving-full, serving-stop}
 use Rattle.lattice.proofs.Symbols.{string-short}
 use Rattle.lattice.proofs.applying.serve.Statement.{statement}
@@ -58,18 +64,25 @@ opened c = at-unpack (at-symbol c)
 abbrev at-turn : tie.After-arc-of Inv-loop μ-loop → tie.At-loop Inv-loop μ-loop
 at-turn c = c .before .before
 
+abbrev at-join : tie.After-struct-known2 Inv-loop μ-loop → tie.Joined1 Inv-loop μ-loop
+at-join c = c .before .before .before
+
 abbrev at-arc : tie.After-struct-known2 Inv-loop μ-loop → tie.After-arc-of Inv-loop μ-loop
-at-arc c = c .before .before .before .before
+at-arc c = at-join c .before
 
 abbrev at-pack : tie.After-take-step Inv-loop μ-loop → tie.After-pack Inv-loop μ-loop
 at-pack c = c .before .before .before .before .before .before
 
-abbrev at-step : tie.After-slice-known7 Inv-loop μ-loop → tie.After-take-step Inv-loop μ-loop
-at-step c = c .before .before .before .before .before .before
+abbrev at-step : tie.After-struct-known3 Inv-loop μ-loop → tie.After-take-step Inv-loop μ-loop
+at-step c = c .before .before .before .before .before .before .before
 
 -- The arc of the turn in which a step was taken.
 abbrev arc-read : tie.After-take-step Inv-loop μ-loop → tie.After-arc-of Inv-loop μ-loop
 arc-read c = at-arc (at-pack c .before)
+
+-- What was read in it, and what is written for that.
+abbrev join-of : tie.After-take-step Inv-loop μ-loop → tie.Joined1 Inv-loop μ-loop
+join-of c = at-join (at-pack c .before)
 
 -- The transducer, and the key of the state served.
 abbrev table-of : tie.Start Inv-loop μ-loop → Transducer
@@ -172,30 +185,67 @@ arc-of-requires c κs = (start (opened (c .before)) .pre .0 .0 .opened, below c)
 add-i : tie.Need-add-i Inv-loop μ-loop
 add-i c = omega (arith, number-lt (c .before))
 
+fits-requires : tie.Need-fits-requires Inv-loop μ-loop
+fits-requires c κs = search needs
+
 loop-less : tie.Need-loop-less Inv-loop μ-loop
-loop-less c = omega (arith, c .before .before .before .loop-test .taken)
+loop-less c = omega (arith, c .before .before .before .before .before .loop-test .taken)
 
 loop-again : tie.Need-loop-again Inv-loop μ-loop
 loop-again c =
-    let at = c .before .before in
+    let at = c .before .before .before .before in
     let turn = at-turn at in
     let s = start (opened turn) in
-    let none = none-taken (s .args .string .now) (table-of s) (unpacked (key-of s)) (turn .loop .i) (s .args .source) (at .arc-of .result)
-    (at .arc-of .ensures) (c .before .if1 .taken) (λ e. c .if2 .taken (e ∙ sym (symbol-is (at-symbol turn)))) in (
+    let a = at .arc-of .result in
+    let unfit = sym (c .before .fits2 .ensures (table-of s) a refl) ∙ not-true (c .before .fits2 .result) (c .if3 .taken) in
+    let none = none-taken (s .args .string .now) (table-of s) (unpacked (key-of s)) (turn .loop .i) (s .args .source) a
+    (at .arc-of .ensures) (c .before .before .if2 .taken)
+    (subst (λ (symbol : ℕ). fits (table-of s) symbol a ≡ false) (symbol-is (at-symbol turn)) unfit) in (
       λ b k. serving-skip (s .args .string .now) (table-of s) (unpacked (key-of s)) (turn .loop .inv .0 b k) (at .before .loop-test .taken) none,
       turn .loop .inv .1,
       turn .loop .inv .2,
       turn .loop .inv .3,
     )
 
-cast-t37 : tie.Need-cast-t37 Inv-loop μ-loop
-cast-t37 c = omega (arith, source-lt (start (opened (at-turn (c .before)))))
+-- What the arc of this turn reads, and what it writes for that.
+was-read : (c : tie.Joined1 Inv-loop μ-loop)
+    → Reads (start (opened (at-turn (c .before))) .args .string .now) (table-of (start (opened (at-turn (c .before)))))
+    (unpacked (key-of (start (opened (at-turn (c .before)))))) (c .before .arc-of .result) (c .if1 .read) (c .if1 .output)
+was-read c =
+    let at = c .before in
+    let turn = at-turn at in
+    let s = start (opened turn) in
+    let a = at .arc-of .result in
+    let cs = s .args .string .now in
+    let x = unpacked (key-of s) in
+    let own = reads-nothing cs (table-of s) x (good (lent (opened turn))) (turn .loop .i) (below (at .before)) a (at .arc-of .ensures)
+    (c .if1 .read) (c .if1 .output) in
+    let itself = reads-itself cs (table-of s) x (good (lent (opened turn))) (turn .loop .i) (below (at .before)) a (at .arc-of .ensures)
+    (c .if1 .read) (c .if1 .output) in
+    ⊎-elim
+    (λ w. reads-some (w .1 .taken)
+    (subst (λ (symbol : ℕ). fits (table-of s) symbol a ≡ true) (symbol-is (at-symbol turn))
+    (sym (w .2 .ensures (table-of s) a refl) ∙ not-false (w .2 .result) (w .3 .left))) (w .5 ∙ symbol-is (at-symbol turn))
+    (w .6 ∙ w .4 .ensures ∙ ap (λ (symbol : ℕ). passed symbol a) (sym (w .5))))
+    (λ w. ⊎-elim (λ w. own (w .2) (w .3) (w .1 .left))
+    (λ w. itself (w .1) (w .2) (s .pre .0 .0 .good) (w .0 .left ∙ symbol-is (at-symbol turn))) w) (c .if1 .came)
+
+cast-t40 : tie.Need-cast-t40 Inv-loop μ-loop
+cast-t40 c = omega (arith, source-lt (start (opened (at-turn (c .before)))))
+
+passed-requires : tie.Need-passed-requires Inv-loop μ-loop
+passed-requires c κs = search needs
+
+moved-requires : tie.Need-moved-requires Inv-loop μ-loop
+moved-requires c κs = search needs
 
 -- The position of this step's target is at most one on.
-target-le : (c : tie.Joined1 Inv-loop μ-loop) → opened (at-turn (c .before)) .unpack .result .position + c .if1 .moved ≤ max-symbols + 1
-target-le c =
-    let l = position-le (opened (at-turn (c .before))) in
-    ⊎-elim (λ w. omega (arith, l, w .2)) (λ w. omega (arith, l, w .1)) (c .if1 .came)
+moved-le : (c : tie.After-moved Inv-loop μ-loop) → c .moved .result ≤ 1
+moved-le c = subst (λ (n : ℕ). n ≤ 1) (sym (c .moved .ensures)) (cond-most (eqb (c .before .before .if1 .read) 0) 0 1 (omega arith) (omega arith))
+
+target-le : (c : tie.After-moved Inv-loop μ-loop)
+    → opened (at-turn (c .before .before .before)) .unpack .result .position + c .moved .result ≤ max-symbols + 1
+target-le c = omega (arith, position-le (opened (at-turn (c .before .before .before))), moved-le c)
 
 target-lt : (c : tie.After-arc-of Inv-loop μ-loop) → c .arc-of .result .target < max-states
 target-lt c =
@@ -205,19 +255,19 @@ target-lt c =
     rw (c .arc-of .ensures) (omega (arith, good-content t g .target (at-turn c .loop .i) (below (c .before)), good-range t g .states))
 
 add-pack : tie.Need-add-pack Inv-loop μ-loop
-add-pack c = omega (arith, target-le (c .before .before))
+add-pack c = omega (arith, target-le c)
 
 cast-pack : tie.Need-cast-pack Inv-loop μ-loop
 cast-pack c = omega (arith, target-lt (at-arc c))
 
 pack-requires : tie.Need-pack-requires Inv-loop μ-loop
-pack-requires c κs = (omega (arith, target-le (c .before .before .before)), target-lt (at-arc c))
+pack-requires c κs = (omega (arith, target-le (c .before)), target-lt (at-arc c))
 
 -- The step of this turn's arc.
 taken-here : (c : tie.After-pack Inv-loop μ-loop)
     → arc-next (start (opened (at-turn (at-arc (c .before)))) .args .string .now) (table-of (start (opened (at-turn (at-arc (c .before))))))
     (unpacked (key-of (start (opened (at-turn (at-arc (c .before))))))) (at-turn (at-arc (c .before)) .loop .i)
-    ≡ arc-keyed (leaving (start (opened (at-turn (at-arc (c .before)))) .args .source) (at-arc (c .before) .arc-of .result))
+    ≡ arc-keyed (reading (start (opened (at-turn (at-arc (c .before)))) .args .source) (at-join (c .before) .if1 .read) (at-arc (c .before) .arc-of .result))
     (at-turn (at-arc (c .before)) .loop .i) (c .pack .result) ∷ []
 taken-here c =
     let at = at-arc (c .before) in
@@ -226,17 +276,40 @@ taken-here c =
     let s = start u in
     let x = unpacked (key-of s) in
     let same : u .unpack .result .position ≡ x .position = ap (λ (x : State). x .position) (u .unpack .ensures) in
-    ⊎-elim
-    (λ w. symbol-taken (s .args .string .now) (table-of s) x (turn .loop .i) (s .args .source) (at .arc-of .result) (at .arc-of .ensures) _ refl
-    (c .pack .result) (c .pack .ensures) (w .0 .taken) (w .1 .left ∙ symbol-is (at-symbol turn)) (omega (arith, same, w .2)))
-    (λ w. empty-taken (s .args .string .now) (table-of s) x (turn .loop .i) (s .args .source) (at .arc-of .result) (at .arc-of .ensures) _ refl
-    (c .pack .result) (c .pack .ensures) (w .0 .left) (omega (arith, same, w .1)))
-    (c .before .before .before .before .if1 .came)
+    let call = c .before .before .moved in
+    read-taken (s .args .string .now) (table-of s) x (turn .loop .i) (s .args .source) (at .arc-of .result) (at .arc-of .ensures) _ refl
+    (c .pack .result) (c .pack .ensures) (at-join (c .before) .if1 .read) (at-join (c .before) .if1 .output) (call .result) (was-read (at-join (c .before))) (call .ensures)
+    (omega (arith, same))
 
 -- The weight goes over from arc to arc as it is.
 weight-is : (c : tie.After-pack Inv-loop μ-loop) →
     toZ w32 (ofZ w32 (at-arc (c .before) .arc-of .result .weight)) ≡ at-arc (c .before) .arc-of .result .weight
 weight-is c = toZ-ofZ (record { sfits = c .before .before .before .struct-told .given .1 .1 .1 .1 .0 .1 })
+
+-- The number of the state served, and its step by this turn's arc.
+abbrev source-of : tie.After-take-step Inv-loop μ-loop → ℕ
+source-of c = start (opened (at-turn (arc-read c))) .args .source
+
+abbrev step-by : tie.After-take-step Inv-loop μ-loop → Arc → Keyed
+step-by c a = arc-keyed a (at-turn (arc-read c) .loop .i) (at-pack c .pack .result)
+
+abbrev step-of : tie.After-take-step Inv-loop μ-loop → Keyed
+step-of c = step-by c (reading (source-of c) (join-of c .if1 .read) (arc-read c .arc-of .result))
+
+-- What `take_step` leaves, with the output and the weight of the arc written out.
+went : (c : tie.After-take-step Inv-loop μ-loop) (b : Sofar) → let h = at-turn (arc-read c) .loop in
+    Walked 1 b (h .walk) (h .table) (h .origins) (h .states) (h .heads) (h .links)
+    → let out = c .take-step .last .1 .1 .1 .1 in
+    Went 1 (taken (source-of c) (step-of c) b) (c .take-step .result) (out .0) (out .1 .0) (out .1 .1 .0) (out .1 .1 .1 .0) (out .1 .1 .1 .1 .0)
+went c b k =
+    let a = arc-read c .arc-of .result in
+    let put : ℕ → Weight → Arc = λ o w.
+    record { source = source-of c; input = join-of c .if1 .read; output = o; target = a .target; weight = w } in
+    let out = c .take-step .last .1 .1 .1 .1 in
+    let By : Arc → Type 0 = λ z.
+    Went 1 (taken (source-of c) (step-by c z) b) (c .take-step .result) (out .0) (out .1 .0) (out .1 .1 .0) (out .1 .1 .1 .0) (out .1 .1 .1 .1 .0) in
+    subst (λ (o : ℕ). By (put o (a .weight))) (reads-written (was-read (join-of c)))
+    (subst (λ (w : Weight). By (put (join-of c .if1 .output) w)) (weight-is (at-pack c)) (c .take-step .ensures b k))
 
 take-step-requires : tie.Need-take-step-requires Inv-loop μ-loop
 take-step-requires c κs =
@@ -257,21 +330,13 @@ same-length-3 c = let at = at-step (c .before) in at .take-step .kept .1 .1 .1 .
 returns : tie.Need-returns Inv-loop μ-loop
 returns c = λ b k.
     let at = at-step (c .before) in
-    let read = arc-read at in
-    let turn = at-turn read in
+    let turn = at-turn (arc-read at) in
     let s = start (opened turn) in
     let g = turn .loop .inv .0 b k in
-    let call = at .take-step in
-    let out = call .last .1 .1 .1 .1 in
-    let a = read .arc-of .result in
-    let step : Weight → Arc = λ w.
-    record { source = s .args .source; input = a .input; output = a .output; target = a .target; weight = w } in
-    let went =
-    subst (λ (w : Weight). Went 1 (taken (s .args .source) (arc-keyed (step w) (turn .loop .i) (at-pack at .pack .result)) (g .sofar)) (call .result)
-    (out .0) (out .1 .0) (out .1 .1 .0) (out .1 .1 .1 .0) (out .1 .1 .1 .1 .0)) (weight-is (at-pack at)) (call .ensures (g .sofar) (g .walked)) in
-    serving-full (s .args .string .now) (table-of s) (unpacked (key-of s)) g (read .before .loop-test .taken)
-    (arc-keyed (leaving (s .args .source) (read .arc-of .result)) (turn .loop .i) (at-pack at .pack .result)) (taken-here (at-pack at)) (call .result)
-    (out .0) (out .1 .0) (out .1 .1 .0) (out .1 .1 .1 .0) (out .1 .1 .1 .1 .0) went (c .if3 .taken)
+    let out = at .take-step .last .1 .1 .1 .1 in
+    serving-full (s .args .string .now) (table-of s) (unpacked (key-of s)) g (arc-read at .before .loop-test .taken) (step-of at)
+    (taken-here (at-pack at)) (at .take-step .result) (out .0) (out .1 .0) (out .1 .1 .0) (out .1 .1 .1 .0) (out .1 .1 .1 .1 .0)
+    (went at (g .sofar) (g .walked)) (c .if4 .taken)
 
 loop-less-2 : tie.Need-loop-less-2 Inv-loop μ-loop
 loop-less-2 c = omega (arith, arc-read (at-step (c .before)) .before .loop-test .taken)
@@ -279,23 +344,15 @@ loop-less-2 c = omega (arith, arc-read (at-step (c .before)) .before .loop-test 
 loop-again-2 : tie.Need-loop-again-2 Inv-loop μ-loop
 loop-again-2 c =
     let at = at-step (c .before) in
-    let read = arc-read at in
-    let turn = at-turn read in
+    let turn = at-turn (arc-read at) in
     let s = start (opened turn) in
-    let call = at .take-step in
-    let out = call .last .1 .1 .1 .1 in
-    let kept = call .kept .1 .1 .1 .1 in (
+    let out = at .take-step .last .1 .1 .1 .1 in
+    let kept = at .take-step .kept .1 .1 .1 .1 in (
       λ b k.
           let g = turn .loop .inv .0 b k in
-          let a = read .arc-of .result in
-          let step : Weight → Arc = λ w.
-          record { source = s .args .source; input = a .input; output = a .output; target = a .target; weight = w } in
-          let went =
-          subst (λ (w : Weight). Went 1 (taken (s .args .source) (arc-keyed (step w) (turn .loop .i) (at-pack at .pack .result)) (g .sofar)) (call .result)
-          (out .0) (out .1 .0) (out .1 .1 .0) (out .1 .1 .1 .0) (out .1 .1 .1 .1 .0)) (weight-is (at-pack at)) (call .ensures (g .sofar) (g .walked)) in
-          serving-next (s .args .string .now) (table-of s) (unpacked (key-of s)) g (read .before .loop-test .taken)
-          (arc-keyed (leaving (s .args .source) (read .arc-of .result)) (turn .loop .i) (at-pack at .pack .result)) (taken-here (at-pack at)) (call .result)
-          (out .0) (out .1 .0) (out .1 .1 .0) (out .1 .1 .1 .0) (out .1 .1 .1 .1 .0) went (c .if3 .left),
+          serving-next (s .args .string .now) (table-of s) (unpacked (key-of s)) g (arc-read at .before .loop-test .taken) (step-of at)
+          (taken-here (at-pack at)) (at .take-step .result) (out .0) (out .1 .0) (out .1 .1 .0) (out .1 .1 .1 .0) (out .1 .1 .1 .1 .0)
+          (went at (g .sofar) (g .walked)) (c .if4 .left),
       kept .0 ∙ turn .loop .inv .1,
       kept .1 .0 ∙ turn .loop .inv .2,
       kept .1 .1 .0 ∙ turn .loop .inv .3,
@@ -337,9 +394,12 @@ serve-spec =
     loop-holds
     arc-of-requires
     add-i
+    fits-requires
     loop-less
     loop-again
-    cast-t37
+    passed-requires
+    cast-t40
+    moved-requires
     add-pack
     cast-pack
     pack-requires

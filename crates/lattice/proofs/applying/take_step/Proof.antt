@@ -52,7 +52,7 @@ unfolding arc-keyed
 returns c = λ b k.
     let at = c .before in
     let a = start at .args in
-    went-full refl
+    went-full (λ e. omega arith)
     (taken-over (a .a .source) (at .find .result) (arc-keyed (a .a) (a .i) (a .key)) k (at .find .ensures (b .keys) (k .chained) (sym (k .states-are)))
     (c .if1 .taken))
 

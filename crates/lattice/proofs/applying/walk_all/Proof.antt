@@ -8,7 +8,6 @@ use lib.ListN.{length, getD}
 use Rattle.transducer.specs.Format.{Transducer, decode, Good, max-states}
 use Rattle.transducer.proofs.RoundTrip.{accepted-good, good-range}
 use Rattle.explore.specs.Explore.{there}
-use Rattle.wire.proofs.Bool.{clash}
 use Rattle.explore.proofs.Chain.{chained-zeros}
 use Rattle.explore.proofs.ExploredKeys.{Keying}
 use Rattle.explore.proofs.Walking.{Walking, walking-first, walking-small, walking-state, walking-next, walking-full, walking-stop}
@@ -56,8 +55,8 @@ at-turn c = c .before .before
 abbrev in-turn : tie.After-links2 Inv-loop μ-loop → tie.Then1 Inv-loop μ-loop
 in-turn c = c .before .before .before .before .before
 
-abbrev at-serve : tie.After-slice-known7 Inv-loop μ-loop → tie.After-serve Inv-loop μ-loop
-at-serve c = c .before .before .before .before .before .before
+abbrev at-serve : tie.After-struct-known2 Inv-loop μ-loop → tie.After-serve Inv-loop μ-loop
+at-serve c = c .before .before .before .before .before .before .before
 
 abbrev served-in : tie.After-serve Inv-loop μ-loop → tie.Then1 Inv-loop μ-loop
 served-in c = in-turn (c .before)
@@ -141,7 +140,7 @@ returns c =
       full = λ h.
           walking-full (keys (begun (stored turn))) 1 g (served-in at .if1 .taken) (call .result)
           (out .0) (out .1 .0) (out .1 .1 .0) (out .1 .1 .1 .0) (out .1 .1 .1 .1 .0) (call .ensures (g .sofar) (g .walked)) h;
-      done = λ h. clash (c .if2 .taken) h;
+      done = λ h. absurd (c .if2 .taken h);
       table-kept = same-length c;
       origins-kept = same-length-2 c;
       states-kept = same-length-3 c;
@@ -181,7 +180,7 @@ returns-2 : tie.Need-returns-2 Inv-loop μ-loop
 returns-2 c =
     let g = c .before .before .loop .inv .0 in
     record {
-      full = λ h. clash h (g .walked .not-full);
+      full = λ h. absurd (h (g .walked .not-full));
       done = λ h. walking-stop (keys (begun (stored (c .before .before)))) 1 g (c .if1 .left);
       table-kept = same-length-4 c;
       origins-kept = same-length-5 c;

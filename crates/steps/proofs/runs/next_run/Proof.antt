@@ -7,17 +7,18 @@ use Rattle.wire.specs.Bytes.{Bytes}
 use Rattle.transducer.specs.Format.{decode}
 use Rattle.transducer.specs.Path.{arc}
 use Rattle.steps.specs.Lookup.{Leaving}
-use Rattle.steps.specs.Runs.{reading-from}
-use Rattle.steps.proofs.RunCode.{opened-inside, output-in-place, Seeking, seeking-first, seeking-alone, seeking-silent, seeking-met, seeking-unmet, seeking-stop}
+use Rattle.steps.specs.Runs.{fitting-from}
+use Rattle.steps.proofs.RunCode.{opened-inside, output-in-place}
+use Rattle.steps.proofs.RunCode.{Seeking, seeking-first, seeking-alone, seeking-silent, seeking-met, seeking-unmet, seeking-stop}
 use Rattle.steps.proofs.runs.next_run.Statement.{statement}
 use Rattle.steps.proofs.runs.next_run.Tie as tie
 
 abbrev Inv-loop : tie.InvT-loop
-Inv-loop left lfirst i last filter right rfirst heads chain q to k₀ k =
+Inv-loop left lfirst i last filter right rfirst heads chain exact q to k₀ k =
     (from : ℕ) → Leaving (decode right) q from to → Seeking (decode left) (decode right) filter from to i last k
 
 abbrev μ-loop : tie.MeasureT-loop
-μ-loop left lfirst i last filter right rfirst heads chain q to k₀ k = last - k
+μ-loop left lfirst i last filter right rfirst heads chain exact q to k₀ k = last - k
 
 -- Places to look back to.
 abbrev start : tie.In-loop Inv-loop μ-loop → tie.Start Inv-loop μ-loop
@@ -60,11 +61,11 @@ label-is c =
     output-in-place (s .args .left .now) (is-bytes (c .before)) (s .args .lfirst) (s .pre .0 .0) (c .before .before .loop .k) (is-arc (c .before))
     ∙ sym (c .u16-at .ensures)
 
--- The right arc that is found is the first that reads the label.
+-- The right arc that is found is the first that fits the label.
 found-is : (c : tie.After-first-fit Inv-loop μ-loop) (from : ℕ)
     → Leaving (decode (start (turn c) .args .right .now)) (start (turn c) .args .q) from (start (turn c) .args .to)
     → c .first-fit .result
-    ≡ reading-from (decode (start (turn c) .args .right .now)) (arc (decode (start (turn c) .args .left .now)) (turn c .before .loop .k) .output)
+    ≡ fitting-from (decode (start (turn c) .args .right .now)) (arc (decode (start (turn c) .args .left .now)) (turn c .before .loop .k) .output)
     (start (turn c) .args .to - from) from
 found-is c from leaving = rw (label-is (c .before .before)) (c .first-fit .ensures from leaving)
 

@@ -1,6 +1,6 @@
 -- The code is the definition, with the right arc read in place. Acceptance bounds its number, its target and its weight.
 use borrow.Author.Needs.{needs}
-use Prim.Native.Nat.{_≤_, _<_}
+use Prim.Native.Nat.{_<_}
 use native.Mathlib.Omega.{arith}
 use mathlib.Core.Path.{_≡_}
 use mathlib.Core.Bool.{true}
@@ -58,44 +58,48 @@ cast-with-right c = omega (arith, few (c .before))
 with-right-requires : tie.Need-with-right-requires
 with-right-requires c κs = search needs
 
+passed-requires : tie.Need-passed-requires
+passed-requires c κs = search needs
+
 cast-pack : tie.Need-cast-pack
 cast-pack c = search needs
 
 pack-requires-2 : tie.Need-pack-requires-2
 pack-requires-2 c κs =
-    let arc = c .before .before in
+    let arc = c .before .before .before in
     let to = arc .before .before .before .before .pre .2 in
     record { left = to .left; right = near arc; filter = to .filter }
 
 -- The two weights, and their sum: exact in 32 bits.
 run-weight : (c : tie.After-struct-told3) →
-    let start = c .before .before .before .before .before .before .before .before .before .before .before in SFits w32 (start .args .run .weight)
+    let start = c .before .before .before .before .before .before .before .before .before .before .before .before in SFits w32 (start .args .run .weight)
 run-weight c = record { sfits = c .before .before .struct-told2 .given .1 .1 .1 .1 .1 .0 .1 }
 
 arc-weight : (c : tie.After-struct-told3) →
-    let got = c .before .before .before .before .before .before .before in SFits w32 (got .arc-of .result .weight)
+    let got = c .before .before .before .before .before .before .before .before in SFits w32 (got .arc-of .result .weight)
 arc-weight c = record { sfits = c .struct-told3 .given .1 .1 .1 .1 .0 .1 }
 
 sum-fits : (c : tie.After-struct-told3) →
-    let got = c .before .before .before .before .before .before .before in
+    let got = c .before .before .before .before .before .before .before .before in
     SFits w32 (plus (got .before .before .before .before .args .run .weight) (got .arc-of .result .weight))
 sum-fits c =
-    let got = c .before .before .before .before .before .before .before in
+    let got = c .before .before .before .before .before .before .before .before in
     let start = got .before .before .before .before in
     plus-fits (start .args .run .weight) (got .arc-of .result .weight) (start .pre .3) (light got)
 
-add-t14 : tie.Need-add-t14
-add-t14 c = rw (toZ-ofZ (run-weight c), toZ-ofZ (arc-weight c)) (sum-fits c)
+add-t15 : tie.Need-add-t15
+add-t15 c = rw (toZ-ofZ (run-weight c), toZ-ofZ (arc-weight c)) (sum-fits c)
 
 returns-2 : tie.Need-returns-2
 unfolding run-step
 returns-2 c =
     let packed = c .before .before .before .before in
-    let made = packed .before .before in
+    let made = packed .before .before .before in
     rw (
       toZ-ofZ (run-weight c),
       toZ-ofZ (arc-weight c),
       toZ-ofZ (sum-fits c),
+      packed .before .before .passed .ensures,
       made .with-right .ensures,
       packed .pack2 .ensures,
       made .before .arc-of .ensures,
@@ -111,7 +115,8 @@ step-of-spec =
     arc-of-requires
     cast-with-right
     with-right-requires
+    passed-requires
     cast-pack
     pack-requires-2
-    add-t14
+    add-t15
     returns-2)

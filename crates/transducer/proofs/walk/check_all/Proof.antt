@@ -1,9 +1,11 @@
 -- The code is the definition, by what the calls answer.
 use borrow.Author.Needs.{needs}
+use borrow.Author.Tests.{eqb-false, not-true}
 use native.Mathlib.Omega.{arith}
+use lib.Dec.{eqb}
 use mir.Syntax.{w32}
 use mir.Facts.{toZ-ofZ}
-use Rattle.transducer.specs.Check.{from-0, all-checked}
+use Rattle.transducer.specs.Check.{from-0, all-checked, unsure}
 use Rattle.transducer.proofs.walk.check_all.Statement.{statement}
 use Rattle.transducer.proofs.walk.check_all.Tie as tie
 
@@ -29,14 +31,18 @@ check-arcs-requires c κs =
 returns : tie.Need-returns
 unfolding all-checked
 returns c =
-    let finals = c .before .before in
+    let tested = c .before .before in
+    let finals = tested .before in
     let glance = finals .before .before in
     let placed = glance .before in
     let least = toZ-ofZ {w = w32} {z = glance .glance-at .result .least} (record { sfits = c .struct-told .given .1 .0 .1 }) in (
-      rw (c .before .check-arcs .ensures, placed .arcs-at .ensures, finals .restart .ensures, finals .before .check-finals .ensures),
+      rw (tested .check-arcs .ensures, placed .arcs-at .ensures, finals .restart .ensures, finals .before .check-finals .ensures),
       rw (least, ← placed .arcs-at .ensures) (glance .glance-at .ensures .light),
       rw (← placed .arcs-at .ensures) (glance .glance-at .ensures .up),
       rw (← placed .arcs-at .ensures) (glance .glance-at .ensures .writes),
+      (λ e.
+          let last = glance .glance-at .result .last in
+          rw (← placed .arcs-at .ensures) (glance .glance-at .ensures .named (eqb-false last unsure (not-true (eqb last unsure) e)))),
     )
 
 pub check-all-spec : {M : Type 1} → statement M

@@ -70,9 +70,9 @@ all-tested k =
     rw (← states-read h, ← arcs-read h, ← finals-read h) (k .check-all .ensures .0)
 
 -- Where the walk is taken, it says which refusal it is.
-misplaced : (bs : List ℕ) → Bytes bs → (r : Looked) → (r .refusal ≡ walked bs) × (r .least ≡ min-weight) × (r .up ≡ false) × (r .writes ≡ false) → refusal bs ≡ walked bs →
-    Looked-says bs r
-misplaced bs b r says e = looked-misplaced bs b r (says .0 ∙ sym e) (says .1) (says .2) (says .3)
+misplaced : (bs : List ℕ) → Bytes bs → (r : Looked) → (r .refusal ≡ walked bs) × (r .least ≡ min-weight) × (r .up ≡ false) × (r .writes ≡ false)
+    × (r .named ≡ false) → refusal bs ≡ walked bs → Looked-says bs r
+misplaced bs b r says e = looked-misplaced bs b r (says .0 ∙ sym e) (says .1) (says .2) (says .3) (says .4)
 
 misplaced-requires : tie.Need-misplaced-requires
 misplaced-requires c κs = search needs
@@ -188,7 +188,8 @@ returns-6 c =
     let a = placed k in
     let h = headed a in
     let bs : List ℕ = bytes-of h in
-    let word : four bs 0 ≡ 65544 = sym (h .before .before .before .before .before .before .u32-at .ensures) ∙ h .before .before .before .before .before .if2 .left in
+    let word : four bs 0 ≡ 65544 =
+    sym (h .before .before .before .before .before .before .u32-at .ensures) ∙ h .before .before .before .before .before .if2 .left in
     let good : head-good (head-states bs) (head-arcs bs) (head-finals bs) (head-start bs) ≡ true =
     sym (head-tested h) ∙ not-false (h .head-ok .result) (a .before .if3 .left) in
     let long : length bs ≡ arcs-at (head-finals bs) + arc-bytes * head-arcs bs =
@@ -198,7 +199,7 @@ returns-6 c =
     let told : c .before .number .result ≡ first (k .check-all .result .checks) = c .before .number .ensures in
     looked-light bs (is-bytes h) _ (told ∙ ap first (all-tested k) ∙ refusal-checked bs (is-bytes h) word good long heads)
     (rw (least, ← finals-read h, ← arcs-read h) (k .check-all .ensures .1)) (rw (← finals-read h, ← arcs-read h) (k .check-all .ensures .2))
-    (rw (← finals-read h, ← arcs-read h) (k .check-all .ensures .3))
+    (rw (← finals-read h, ← arcs-read h) (k .check-all .ensures .3)) (rw (← finals-read h, ← arcs-read h) (k .check-all .ensures .4))
 
 pub look-spec : {M : Type 1} → statement M
 look-spec =
