@@ -406,6 +406,32 @@ fn round_of_loops() {
     println!("loops compose {ns:.1}");
 }
 
+// A final state with an arc onto itself for each of 3,072 symbols; or one for any symbol in the place of them all.
+fn catalogue(written_out: bool) -> Vec<u8> {
+    let labels: Vec<u16> = if written_out { (1..=3072).collect() } else { vec![65_535] };
+    let head = [8, 1, 1, labels.len() as u16, 1, 0, 6, 2, 0, 0, 0];
+    let arcs = labels.into_iter().flat_map(|label| [12, 3, 0, label, label, 0, 0, 0]);
+    head.into_iter().chain(arcs).flat_map(u16::to_le_bytes).collect()
+}
+
+// Both as the right table of a composition with 3,072 symbols, and with a string of 64 applied to them: the answers are the same but for origins.
+fn round_of_catalogues() {
+    let (left, string) = (catalogue(true), Vec::from_iter((1..=64u16).map(|k| 48 * k)));
+    for (name, table) in [("any", catalogue(false)), ("written-out", catalogue(true))] {
+        let mut made = reader::Composed::new();
+        assert_eq!(reader::compose(&left, &table, &mut made), (0, 12 + 10 + 16 * 3072), "{name}");
+        let ns = median_ns(&mut || {
+            black_box(reader::compose(black_box(&left), black_box(&table), &mut made));
+        });
+        println!("catalogue-{name} compose {ns:.1}");
+        assert_eq!(reader::apply(&string, &table, &mut made), (0, 12 + 10 + 16 * 64), "{name}");
+        let ns = median_ns(&mut || {
+            black_box(reader::apply(black_box(&string), black_box(&table), &mut made));
+        });
+        println!("catalogue-{name} apply {ns:.1}");
+    }
+}
+
 fn round(folder: &str, name: &str) {
     let (left, right) = (file(folder, "left.tab"), file(folder, "right.tab"));
     let (joined, lattice) = (file(folder, "joined.tab"), file(folder, "lattice.tab"));
@@ -476,6 +502,7 @@ fn main() {
         round(&format!("{folder}/{name}"), &name);
     }
     round_of_loops();
+    round_of_catalogues();
     round_of_backwards();
     round_of_cycles();
 }

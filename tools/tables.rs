@@ -13,6 +13,9 @@ const MAX_STATES: usize = 1_024;
 const MAX_ARCS: usize = 3_072;
 const MAX_CODE: usize = 64;
 const MAX_LABEL: u16 = 65_534;
+/// As an input it reads any symbol, as an output it passes on the symbol read; and how it is written.
+const ANY: u16 = 65_535;
+const ANY_WORD: &str = "<any>";
 
 /// The weights that a table holds, and the four bytes of one, two's complement.
 mod weights {
@@ -137,8 +140,8 @@ fn from_bytes(bytes: &[u8]) -> Result<Table, String> {
     if let Some(i) = (1..m).find(|&i| arcs[i - 1].source > arcs[i].source) {
         return Err(format!("refused 6: arc {i} has source {} after {}", arcs[i].source, arcs[i - 1].source));
     }
-    if let Some(i) = arcs.iter().position(|a| a.input > MAX_LABEL || a.output > MAX_LABEL) {
-        return Err(format!("refused 7: arc {i} has label 65535"));
+    if let Some(i) = arcs.iter().position(|a| a.output == ANY && a.input != ANY) {
+        return Err(format!("refused 7: arc {i} has output 65535 beside input {}", arcs[i].input));
     }
     if let Some(i) = finals.iter().position(|x| !weights::fits(x.1)) {
         return Err(format!("refused 8: final {i} has weight {}", finals[i].1));
@@ -173,6 +176,9 @@ impl Symbols {
                 [word, label] => (word, number_label(label).map_err(at)?),
                 _ => return Err(at(format!("{} fields; a symbol has 2, a word and its label", fields.len()))),
             };
+            if word == ANY_WORD {
+                return Err(at(format!("{ANY_WORD} stands for any symbol and is no word")));
+            }
             if let Some(old) = symbols.label_of.insert(word.to_string(), label) {
                 return Err(at(format!("{word} is label {old} already, see line {}", line_of[&old])));
             }
@@ -185,6 +191,9 @@ impl Symbols {
     }
 
     fn label(&self, text: &str) -> Result<u16, String> {
+        if text == ANY_WORD {
+            return Ok(ANY);
+        }
         match &self.file {
             None => number_label(text),
             Some(file) => self.label_of.get(text).copied().ok_or_else(|| format!("{text} is no word of {file}")),
@@ -192,6 +201,9 @@ impl Symbols {
     }
 
     fn word(&self, label: u16) -> Result<String, String> {
+        if label == ANY {
+            return Ok(ANY_WORD.to_string());
+        }
         match &self.file {
             None => Ok(label.to_string()),
             Some(file) => self.word_of.get(&label).cloned().ok_or_else(|| format!("label {label} has no word in {file}")),
@@ -245,7 +257,7 @@ fn state(text: &str) -> Result<u16, String> {
 
 fn number_label(text: &str) -> Result<u16, String> {
     match text.parse::<u64>() {
-        Ok(65_535) => Err("label 65535 is barred".into()),
+        Ok(65_535) => Err(format!("label 65535 is no symbol; any symbol is {ANY_WORD}")),
         Ok(x) if x <= u64::from(MAX_LABEL) => Ok(x as u16),
         Ok(x) => Err(format!("label {x} is above {MAX_LABEL}")),
         Err(_) => Err(format!("label {text} is not a number")),
@@ -323,6 +335,9 @@ fn from_text(text: &str, words: &Words) -> Result<Table, String> {
                 4 | 5 => {
                     let target = state(fields[1])?;
                     let (input, output) = (words.input.label(fields[2])?, words.output.label(fields[3])?);
+                    if output == ANY && input != ANY {
+                        return Err(format!("output {ANY_WORD} beside input {}", fields[2]));
+                    }
                     let w = fields.get(4).map_or(Ok(0), |x| weight(x))?;
                     if arcs.len() == MAX_ARCS {
                         return Err(format!("more than {MAX_ARCS} arcs"));
@@ -357,6 +372,7 @@ fn code_of(fields: &[(String, &str)], symbols: &Symbols) -> Result<Vec<u8>, Stri
         let at = |e: String| format!("{place}: {e}");
         match symbols.label(field).map_err(at)? {
             0 => return Err(at(format!("{field} is label 0, and a code has none"))),
+            ANY => return Err(at(format!("{field} is no symbol, and a code has none but symbols"))),
             _ if out.len() == 2 * MAX_CODE => return Err(at(format!("more than {MAX_CODE} labels"))),
             label => out.extend(label.to_le_bytes()),
         }
@@ -411,6 +427,7 @@ fn named(t: &Table) -> Result<Words, String> {
     let file = |letter: char, mut labels: Vec<u16>| {
         labels.sort();
         labels.dedup();
+        labels.retain(|&x| x != ANY);
         let lines: Vec<String> = labels.iter().map(|x| format!("{letter}{x}\t{x}\n")).collect();
         Symbols::read("words", &lines.concat())
     };
@@ -436,7 +453,10 @@ fn selftest() -> Result<String, String> {
         for _ in 0..m {
             let mut small = |n: u64| below(n) as u16;
             let (source, target) = (small(n as u64), small(n as u64));
-            let (input, output) = ([0, 1, 2, 65_534][small(4) as usize], small(65_535));
+            let (input, mut output) = ([0, 1, 2, 65_534, ANY][small(5) as usize], small(65_535));
+            if input == ANY && small(2) == 0 {
+                output = ANY;
+            }
             let weight = [weights::LEAST, -1, 0, 1, 999_999, weights::MOST][small(6) as usize];
             arcs.push(Arc { source, input, output, target, weight });
         }
@@ -483,7 +503,9 @@ fn selftest() -> Result<String, String> {
     }
     for (text, wanted) in [
         ("", "line 1: no start state, the text is empty"),
-        ("0 1 2 3\n\n0 1 65535 3 4", "line 3: label 65535 is barred"),
+        ("0 1 2 3\n\n0 1 65535 3 4", "line 3: label 65535 is no symbol; any symbol is <any>"),
+        ("0 1 <any> <any> 4\n0 1 5 <any> 4", "line 2: output <any> beside input 5"),
+        ("0 1 0 <any>", "line 1: output <any> beside input 0"),
         ("0 1 2 65536 4", "line 1: label 65536 is above 65534"),
         ("0 1 2 x", "line 1: label x is not a number"),
         ("0 1024 1 1", "line 1: state 1024 is not below 1024"),
@@ -582,7 +604,7 @@ Exit status: 0 done, 1 refused with the line or record named, 2 wrong usage.
 const INPUT_WORDS: &str = "  --isymbols FILE    words for input labels: OpenFst's symbol file, lines of a word and its label\n";
 const OUTPUT_WORDS: &str = "  --osymbols FILE    words for output labels\n";
 const OPTIONS_END: &str = "  -o OUT             write to OUT and not to standard output
-With a symbol file a label is one of its words, and never a number; without one it is a number.
+With a symbol file a label is one of its words, and never a number; without one it is a number. <any> is any symbol, either way.
 ";
 
 /// What each command says of itself: how it is used, and what it does.

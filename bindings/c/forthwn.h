@@ -4,9 +4,9 @@
  *
  * What holds for every call:
  *
- *  - It returns a refusal: 0 (FORTHWN_OK), or the lowest number of `enum forthwn_refusals` whose condition holds (of two tables, 1 to 8 of
- *    the left one come before those of the right one). forthwn_refusal_text says it in words. The other numbers that the call tells
- *    (len, count, head, path) are 0 on every refusal.
+ *  - It returns a refusal: 0 (FORTHWN_OK), or the lowest number of `enum forthwn_refusals` whose condition holds (of two tables, 1 to 8
+ *    and then 18 of the left one come before 1 to 8 of the right one). forthwn_refusal_text says it in words. The other numbers that
+ *    the call tells (len, count, head, path) are 0 on every refusal.
  *  - Memory is lent as a pointer and a number of cells (bytes, 16-bit, 32-bit or 64-bit numbers, not always bytes); enough of them is never too
  *    many. The call touches no other memory, keeps no pointer, allocates nothing and has no state of its own, so calls may run in
  *    several threads at once.
@@ -16,7 +16,8 @@
  *    every buffer lent for writing is all 0; after every other refusal each keeps its contents.
  *  - It always ends, and needs at most FORTHWN_STACK bytes of stack.
  *
- * A label is 16 bits: 0 reads or writes nothing, 1 to 65534 are symbols, 65535 is barred. States and arcs are numbered from 0, an arc's
+ * A label is 16 bits: 0 reads or writes nothing, 1 to 65534 are symbols. An arc of input 65535 reads any symbol, and with output 65535 it
+ * writes the symbol that it read; composed tables and lattices hold the symbol itself. States and arcs are numbered from 0, an arc's
  * number is its place. A path is a run of arcs from the start; it accepts where it ends in a final state.
  *
  * The bytes of a table are records: the length of the body (2 bytes), a kind (2), the body. Kind 1, first and once: states, arcs, finals,
@@ -45,6 +46,9 @@ enum {
 
 /* Bytes of stack that a call needs at most, for whoever sizes the stack of a thread. */
 enum { FORTHWN_STACK = 327680 };
+
+/* The label for any symbol, as an input and, beside that input alone, as an output. */
+enum { FORTHWN_ANY = 65535 };
 
 /* The side that stood still in a step of a composition, in place of an arc's number; and the count that stands for 99 or more. */
 enum { FORTHWN_STOOD_STILL = 65535, FORTHWN_MANY = 99 };
@@ -96,6 +100,7 @@ enum forthwn_refusals {
     FORTHWN_ENDLESS = 14,
     FORTHWN_NO_SUCH_PATH = 15,
     FORTHWN_NO_PATH = 16,
+    FORTHWN_ANY_INPUT = 18,
     FORTHWN_NEGATIVE_CYCLE = 19
 };
 
@@ -109,7 +114,7 @@ static inline const char *forthwn_refusal_text(uint32_t refusal) {
     case FORTHWN_BAD_NUMBER: return "final or arc records are not as many as the head says";
     case FORTHWN_BAD_STATE: return "a state number is not below the number of states";
     case FORTHWN_BAD_ORDER: return "final states do not rise, or sources of arcs fall";
-    case FORTHWN_BAD_LABEL: return "a label of 65535";
+    case FORTHWN_BAD_LABEL: return "output 65535 beside another input";
     case FORTHWN_BAD_WEIGHT: return "a weight below -1000000 or above 1000000";
     case FORTHWN_BAD_CODE: return "the code has more than 64 labels, half a label, or a label 0 or 65535";
     case FORTHWN_SHORT_BUFFER: return "a lent buffer is too short";
@@ -119,6 +124,7 @@ static inline const char *forthwn_refusal_text(uint32_t refusal) {
     case FORTHWN_ENDLESS: return "infinitely many accepting paths";
     case FORTHWN_NO_SUCH_PATH: return "no path of that number";
     case FORTHWN_NO_PATH: return "no accepting path";
+    case FORTHWN_ANY_INPUT: return "an arc for any symbol (input 65535) where none may be";
     case FORTHWN_NEGATIVE_CYCLE: return "a cycle below 0 on a path to a final state";
     default: return "no refusal of that number";
     }
@@ -153,7 +159,7 @@ uint32_t forthwn_write(uint32_t states, uint32_t arcs, uint32_t finals, uint32_t
  * and for each of its arcs two origins, the left arc and the right arc it came from, FORTHWN_STOOD_STILL where that side stood still.
  * States are numbered as first reached. `states` is lent to work in.
  * Lent: FORTHWN_TABLE_LEN bytes, FORTHWN_ORIGINS_LEN origins, FORTHWN_STATES_LEN states.
- * Refusals: 1 to 8 of the left table, then of the right one; 10 to 13.
+ * Refusals: 1 to 8 of the left table, 18 where it has an arc of input 65535, 1 to 8 of the right one; 10 to 13.
  * Time grows with the arcs of the right table, the left arcs taken at the states reached and the arcs made. */
 uint32_t forthwn_compose(const uint8_t *left, size_t left_len, const uint8_t *right, size_t right_len,
                          uint8_t *table, size_t table_len, uint16_t *origins, size_t origins_len,

@@ -51,7 +51,7 @@ REFUSALS = {
     4: ("BAD_NUMBER", "final or arc records are not as many as the head says"),
     5: ("BAD_STATE", "a state number is not below the number of states"),
     6: ("BAD_ORDER", "final states do not rise, or sources of arcs fall"),
-    7: ("BAD_LABEL", "a label of 65535"),
+    7: ("BAD_LABEL", "output 65535 beside another input"),
     8: ("BAD_WEIGHT", "a weight below -1000000 or above 1000000"),
     9: ("BAD_CODE", "the code has more than 64 labels, half a label, or a label 0 or 65535"),
     10: ("SHORT_BUFFER", "a lent buffer is too short"),
@@ -61,10 +61,13 @@ REFUSALS = {
     14: ("ENDLESS", "infinitely many accepting paths"),
     15: ("NO_SUCH_PATH", "no path of that number"),
     16: ("NO_PATH", "no accepting path"),
+    18: ("ANY_INPUT", "an arc for any symbol (input 65535) where none may be"),
     19: ("NEGATIVE_CYCLE", "a cycle below 0 on a path to a final state"),
 }
 MANY = 99
 """The count that stands for 99 or more."""
+ANY = 65535
+"""The label for any symbol, as an input and, beside that input alone, as an output."""
 
 # Lengths of the buffers that the library is lent, in cells.
 _TABLE, _ORIGINS, _LATTICE_ORIGINS, _STATES, _PATH, _FINALS, _FIELDS, _WEIGHTS, _TEXT = 59404, 6144, 3072, 1024, 1023, 1024, 12288, 3072, 602996
@@ -265,7 +268,7 @@ def write(table: Table) -> bytes:
 
 
 def compose(left, right) -> Composed:
-    """Composes two tables. Refusals 1 to 8, of the left one first, and 11 to 13."""
+    """Composes two tables. Refusals 1 to 8 of the left one, 18 where it has an arc of input 65535, 1 to 8 of the right one, 11 to 13."""
     table, origins, length = (_u8 * _TABLE)(), (_u16 * _ORIGINS)(), _u32()
     _call("forthwn_compose", _bytes(left), _bytes(right), table, origins, (_u32 * _STATES)(), length)
     made = bytes(table[: length.value])

@@ -85,7 +85,7 @@ class Calls(unittest.TestCase):
         self.refused(4, forthwn.count, LEFT[:-16])
         self.refused(5, forthwn.write, Table(1, 0, [Final(1, 0)], []))
         self.refused(6, forthwn.write, Table(2, 0, [Final(1, 0), Final(0, 0)], []))
-        self.refused(7, forthwn.write, Table(1, 0, [], [Arc(0, 65535, 1, 0, 0)]))
+        self.refused(7, forthwn.write, Table(1, 0, [], [Arc(0, 1, 65535, 0, 0)]))
         self.refused(8, forthwn.trim, LEFT[:-1] + b"\1")
         for weight in (1000001, -1000001, 2**31 - 1, -(2**31)):
             self.refused(8, forthwn.write, Table(1, 0, [Final(0, weight)], []))
@@ -99,6 +99,9 @@ class Calls(unittest.TestCase):
         self.refused(14, forthwn.paths, ring)
         self.refused(15, forthwn.nth, one, 2**40)
         self.refused(16, forthwn.shortest, nothing)
+        copies = forthwn.write(Table(1, 0, [Final(0, 0)], [Arc(0, forthwn.ANY, forthwn.ANY, 0, 1)]))
+        self.refused(18, forthwn.compose, copies, LEFT[:3])
+        self.assertEqual(forthwn.shortest(forthwn.apply([7, 3], copies).table).labels, [7, 3])
         self.refused(19, forthwn.shortest, forthwn.write(Table(1, 0, [Final(0, 0)], [Arc(0, 0, 7, 0, -1)])))
         self.refused(19, forthwn.distance, forthwn.write(Table(2, 0, [Final(1, 0)], [Arc(1, 0, 7, 1, -1)])))
         self.assertEqual(forthwn.listing(LEFT, RIGHT, b"\7").said.number, 9)

@@ -66,8 +66,8 @@ def refused_rows():
     yield r(6, "a final state twice", sound(finals=((2, 5), (2, 0))))
     yield r(6, "final states that fall", sound(finals=((2, 5), (0, 0))))
     yield r(6, "sources that fall", sound(arcs=((1, 1, 2, 1, 3), (0, 1, 2, 1, 3))))
-    yield r(7, "a barred input", sound(arcs=((0, 65535, 2, 1, 3),)))
-    yield r(7, "a barred output", sound(arcs=((0, 1, 65535, 1, 3),)))
+    yield r(7, "output 65535 beside a symbol", sound(arcs=((0, 1, 65535, 1, 3),)))
+    yield r(7, "output 65535 beside no symbol", sound(arcs=((0, 0, 65535, 1, 3),)))
     yield r(8, "a final weight of 1000001", sound(finals=((0, 1000001),)))
     yield r(8, "an arc weight of 1000001", sound(arcs=((0, 1, 2, 1, 1000001),)))
     yield r(8, "an arc weight of 2147483647", sound(arcs=((0, 1, 2, 1, 2147483647),)))
@@ -91,6 +91,8 @@ def bound_rows():
     yield r(0, "the bytes of an arc weight of -1", WEIGHED + b"\xff\xff\xff\xff")
     yield r(8, "the sign alone", WEIGHED + b"\x00\x00\x00\x80")
     yield r(0, "labels of 65534", sound(arcs=((0, 65534, 65534, 1, 0),)))
+    for output in (65535, 65534, 2, 0):
+        yield r(0, f"input 65535, output {output}", sound(arcs=((0, 65535, output, 1, 3), (1, 1, 2, 1, 3))))
     yield r(0, "each state final", sound(finals=((0, 0), (1, 0), (2, 0), (3, 0)), start=3))
     yield r(0, "the last state throughout", sound(finals=((3, 1),), arcs=((3, 1, 1, 3, 1), (3, 1, 1, 3, 1)), start=3))
 
@@ -98,7 +100,7 @@ def bound_rows():
 # Two neighbours hold, and the lower number wins.
 def pair_rows():
     r = read_row
-    both = ((3, 65535, 2, 0, 1000001), (0, 1, 2, 1, 3))
+    both = ((3, 2, 65535, 0, 1000001), (0, 1, 2, 1, 3))
     yield r(1, "1 before 2", SMALLEST + SMALLEST + b"\x00", also=[2])
     yield r(2, "2 before 3", sound(n=0, start=0, finals=(), arcs=()) + record(4, b""), also=[3])
     yield r(3, "3 before 4", sound(start=4, m=4), also=[4])
@@ -169,8 +171,9 @@ def write_rows():
     yield w(6, "a final state twice", fst(finals=((2, 5), (2, 0))))
     yield w(6, "final states that fall", fst(finals=((2, 5), (0, 0))))
     yield w(6, "sources that fall", fst(arcs=((1, 1, 2, 1, 3),) + arc))
-    yield w(7, "a barred input", fst(arcs=((0, 65535, 2, 1, 3),)))
-    yield w(7, "a barred output", fst(arcs=((0, 1, 65535, 1, 3),)))
+    yield w(0, "inputs of 65535", fst(arcs=((0, 65535, 65535, 1, 3), (0, 65535, 0, 1, 3), (1, 65535, 7, 0, 0))))
+    yield w(7, "output 65535 beside a symbol", fst(arcs=((0, 1, 65535, 1, 3),)))
+    yield w(7, "output 65535 beside no symbol", fst(arcs=((0, 0, 65535, 1, 3),)))
     yield w(8, "a final weight of 1000001", fst(finals=((0, 1000001),)))
     yield w(8, "an arc weight of 1000001", fst(arcs=((0, 1, 2, 1, 1000001),)))
     yield w(8, "a final weight of -1000001", fst(finals=((0, -1000001),)))
@@ -181,8 +184,8 @@ def write_rows():
     yield w(3, "3 before 4", fst(start=4, f=3), also=[4])
     yield w(4, "4 before 5", fst(arcs=((0, 1, 2, 4, 3),), f=3), also=[5])
     yield w(5, "5 before 6", fst(finals=((4, 5), (4, 0))), also=[6])
-    yield w(6, "6 before 7", fst(arcs=((3, 65535, 2, 0, 3),) + arc), also=[7])
-    yield w(7, "7 before 8", fst(arcs=((3, 65535, 2, 0, 1000001),)), also=[8])
+    yield w(6, "6 before 7", fst(arcs=((3, 2, 65535, 0, 3),) + arc), also=[7])
+    yield w(7, "7 before 8", fst(arcs=((3, 2, 65535, 0, 1000001),)), also=[8])
     yield w(8, "8 before 10", fst(finals=((0, 1000001),)), room=OUT_SHORT, also=[10])
     yield from run_rows()
 

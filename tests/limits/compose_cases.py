@@ -53,6 +53,7 @@ def compose_rows():
     yield from size_rows()
     yield from weight_rows()
     yield from order_rows()
+    yield from any_rows()
     yield from room_rows()
 
 
@@ -125,6 +126,27 @@ def order_rows():
     less = ((1, 1, 2, -600000), (1, 2, 3, -400001))
     yield c(12, "13 below met before 12", one_state(less[0], (56, 1, 4, 0)), one_state(less[1], (55, 4, 3, 0)), also=[13])
     yield c(12, "12 with a dear final", one_state((56, 1, 2, 0), weight=600000), one_state((55, 2, 3, 0), weight=400001), also=[13])
+
+
+# Arcs for any symbol: on the right in arc order among the others, never read by an empty output; on the left 18, wherever they stand.
+def any_rows():
+    c = compose_row
+    any_left = one_state((1, 65535, 2, 0))
+    for output in (65535, 9, 0):
+        yield c(0, f"65535:{output} on the right", one_state((1, 1, 6, 2)), one_state((1, 65535, output, 3)))
+        yield c(0, f"65535:{output} and an empty output", one_state((1, 1, 0, 2)), one_state((1, 65535, output, 3)))
+        yield c(18, f"65535:{output} on the left", one_state((1, 65535, output, 2)), one_state((1, 2, 3, 3)))
+    mixed = one_state((1, 65535, 65535, 1), (1, 6, 6, 4), (1, 0, 8, 1), (1, 65535, 9, 5))
+    yield c(0, "named and any arcs, mixed", one_state((2, 1, 6, 2), (1, 1, 7, 2)), mixed)
+    bits = one_state((1, 43690, 6, 2), (1, 21845, 7, 2))
+    yield c(0, "inputs whose bits make up 65535 on the left", bits, one_state((1, 6, 9, 3)), built=(1, 1, 1))
+    yield c(0, "inputs whose bits make up 65535 on the right", one_state((1, 1, 43690, 2), (1, 1, 8, 2)), bits, built=(1, 1, 1))
+    yield c(18, "65535 on an arc that is not reached", sound(n=2, start=0, finals=(), arcs=((1, 65535, 2, 1, 0),)), one_state((1, 2, 3, 3)))
+    yield c(18, "18 before 1 on the right", any_left, SMALLEST[:-1], also=[1])
+    yield c(18, "18 before 10", any_left, one_state((1, 2, 3, 3)), room=TABLE_SHORT, also=[10])
+    yield c(8, "8 on the left before 18", one_state((1, 65535, 2, 1000001)), one_state((1, 2, 3, 3)))
+    yield c(12, "12 by arcs for any symbol", one_state((56, 1, 2, 0)), one_state((55, 65535, 3, 0)))
+    yield c(13, "13 by an arc for any symbol", one_state((1, 1, 2, 600000)), one_state((1, 65535, 3, 400001)))
 
 
 # The left one's 1 to 8, the right one's, 10 with nothing touched, then 11.

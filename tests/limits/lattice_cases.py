@@ -78,6 +78,14 @@ def apply_rows():
     yield a(0, "arcs that read nothing", (1, 1), silent, after=(4, 4))
     less = sound(n=2, start=0, finals=((1, -1000000),), arcs=((0, 1, 3, 1, -1000000), (0, 1, 4, 1, 1000000), (1, 0, 5, 0, -1)))
     yield a(0, "weights below 0", (1, 1), less, after=(4, 5))
+    for output in (65535, 9, 0):
+        yield a(0, f"65535:{output} applied", (5, 65534), one_state((1, 65535, output, 2)), after=(3, 2))
+    mixed = sound(n=2, start=0, finals=((1, 0),), arcs=((0, 65535, 65535, 1, 1), (0, 6, 7, 1, 4), (0, 0, 8, 1, 2), (1, 65535, 0, 1, 5)))
+    yield a(0, "named and any arcs, mixed", (6, 7), mixed, after=(4, 5))
+    bits = one_state((1, 43690, 6, 2), (1, 21845, 7, 2))
+    yield a(0, "inputs whose bits make up 65535", (43690, 21845), bits, after=(3, 2))
+    yield a(0, "inputs whose bits make up 65535, and another symbol", (8,), bits, after=(1, 0))
+    yield a(0, "any arcs and nothing left to read", (), one_state((1, 65535, 65535, 2)), after=(1, 0))
     yield from apply_size_rows()
     yield from apply_room_rows()
 
@@ -128,6 +136,8 @@ def trim_rows():
     yield t(0, "each second arc kept", sound(n=3, start=0, finals=((1, 0),), arcs=arcs), after=(2, 5))
     less = sound(n=3, start=0, finals=((1, -1), (2, 9)), arcs=((0, 1, 1, 1, -1000000), (0, 1, 1, 0, -1), (2, 1, 1, 1, -7)))
     yield t(0, "weights below 0, and a ring below 0", less, after=(2, 2))
+    wild = sound(n=3, start=0, finals=((1, 0),), arcs=((0, 65535, 6, 2, 1), (0, 65535, 65535, 1, 2), (1, 65535, 0, 1, 3)))
+    yield t(0, "arcs for any symbol", wild, after=(2, 2))
     yield t(5, "5", sound(arcs=((0, 1, 2, 4, 3),)))
     yield t(1, "1 before 10", SMALLEST[:-1], room=TRIMMED_SHORT, also=[10])
     yield t(10, "bytes one short", SMALLEST, room=TRIMMED_SHORT)

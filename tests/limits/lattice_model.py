@@ -1,7 +1,8 @@
-"""Paper 01 in plain Python, for the limit cases: applying a string (a code there) and trimming, with refusals 9 to 12."""
+"""Paper 01 in plain Python, for the limit cases: applying a string (a code there) and trimming, with refusals 9 to 12, and arcs for any symbol
+(paper 02, Point 5)."""
 from functools import lru_cache
 
-from model import ARCS, BARRED, BYTES, STATES, Arc, Final, Transducer, arcs_of, built_conditions, byte_conditions, decode, encode, split
+from model import ARCS, BARRED, BYTES, STATES, Arc, Final, Transducer, arcs_of, built_conditions, byte_conditions, decode, encode, fits, passed, split
 
 
 def string_wrong(string):
@@ -15,16 +16,17 @@ def applied(string, data):
     pairs, number_of, arcs, origins = [(0, t.start)], {(0, t.start): 0}, [], []
     for number, (place, state) in enumerate(pairs):
         for i, a in arcs_of(t, state):
+            symbol = string[place] if place < len(string) else 0
             if a.input == 0:
-                target = (place, a.target)
-            elif place < len(string) and string[place] == a.input:
+                target, symbol = (place, a.target), 0
+            elif fits(a, symbol):
                 target = (place + 1, a.target)
             else:
                 continue
             if target not in number_of:
                 number_of[target] = len(pairs)
                 pairs.append(target)
-            arcs.append(Arc(number, a.input, a.output, number_of[target], a.weight))
+            arcs.append(Arc(number, symbol, passed(a, symbol), number_of[target], a.weight))
             origins.append(i)
     weights = dict(t.finals)
     finals = [Final(number, weights[state]) for number, (place, state) in enumerate(pairs) if place == len(string) and state in weights]

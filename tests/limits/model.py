@@ -1,5 +1,5 @@
-"""Paper 01, with the weights of paper 02 (Point 8), in plain Python, for the limit cases: the bytes of a transducer (a table there),
-refusals 1 to 8, reading and writing, and composition (the join there) with refusals 10 to 13.
+"""Paper 01, with the weights of paper 02 (Point 8) and its label for any symbol (Point 5), in plain Python, for the limit cases: the bytes of a
+transducer (a table there), refusals 1 to 8, reading and writing, and composition (the join there) with refusals 10 to 13 and 18.
 
 Written from the paper alone and made to be read, not to be fast: each refusal is the sentence of the paper as a test of
 its own, so that a case can say which conditions hold together.
@@ -9,6 +9,9 @@ from collections import namedtuple
 from functools import lru_cache
 
 STATES, ARCS, WEIGHT, BARRED, BYTES = 1024, 3072, 1000000, 65535, 59404
+
+# As an input it fits each symbol, as an output it passes on the symbol that was read.
+ANY = 65535
 
 Final = namedtuple("Final", "state weight")
 Arc = namedtuple("Arc", "source input output target weight")
@@ -91,7 +94,7 @@ def content_conditions(t):
     staying = all(x.source <= y.source for x, y in zip(t.arcs, t.arcs[1:]))
     if not rising or not staying:
         held.add(6)
-    if any(BARRED in (x.input, x.output) for x in t.arcs):
+    if any(x.output == ANY and x.input != ANY for x in t.arcs):
         held.add(7)
     if any(beyond(x.weight) for x in t.finals + t.arcs):
         held.add(8)
@@ -183,12 +186,22 @@ def arcs_of(t, state):
     return [(i, x) for i, x in enumerate(t.arcs) if x.source == state]
 
 
+def fits(arc, symbol):
+    """Whether an arc fits a symbol; the empty label is none."""
+    return symbol != 0 and arc.input in (symbol, ANY)
+
+
+def passed(arc, symbol):
+    """What an arc writes that reads a symbol."""
+    return symbol if arc.output == ANY else arc.output
+
+
 def steps_of_left(left, right, p, q, mark):
     for i, a in arcs_of(left, p):
         if a.output != 0:
             for j, b in arcs_of(right, q):
-                if b.input == a.output:
-                    yield Step((a.target, b.target, 0), a.input, b.output, a.weight + b.weight, (i, j))
+                if fits(b, a.output):
+                    yield Step((a.target, b.target, 0), a.input, passed(b, a.output), a.weight + b.weight, (i, j))
         elif mark == 0:
             yield Step((a.target, q, 0), a.input, 0, a.weight, (i, BARRED))
 
@@ -241,9 +254,14 @@ def built_conditions(t):
     return held
 
 
+def any_condition(data):
+    """18, where an arc of a sound table has input 65,535, reached or not."""
+    return [18] if not byte_conditions(data) and any(x.input == ANY for x in decode(split(data)[0]).arcs) else []
+
+
 def compose_conditions(left, right, lengths):
-    """Which of 1 to 13 hold, as they are tested: of the left bytes, of the right ones, of the lent lengths, of what is joined."""
-    held = [*sorted(byte_conditions(left)), *sorted(byte_conditions(right))]
+    """Which of 1 to 13 and 18 hold, as they are tested: of the left bytes, of the right ones, of the lent lengths, of what is joined."""
+    held = [*sorted(byte_conditions(left)), *any_condition(left), *sorted(byte_conditions(right))]
     sound = not held
     if any(lengths[k] < COMPOSE_LEAST[k] for k in COMPOSE_LEAST):
         held.append(10)
@@ -255,7 +273,7 @@ def compose_conditions(left, right, lengths):
 def compose(left, right, buffers):
     """The refusal, the length and the buffers after composition. `buffers` has the lent cells by number."""
     held = compose_conditions(left, right, {k: len(cells) for k, cells in buffers.items()})
-    if held and held[0] <= 10:
+    if held and held[0] not in (11, 12, 13):
         return held[0], 0, buffers
     if held:
         return held[0], 0, {k: [0] * len(cells) for k, cells in buffers.items()}

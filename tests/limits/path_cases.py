@@ -100,6 +100,10 @@ def apart_from_a_ring(total):
     return ring(total, [(0, 1, 2, 4, 3)], ((4, -2),))
 
 
+# Handed to a call directly, 65535 is one label of one arc.
+ANY = sound(n=3, start=0, finals=((2, 0),), arcs=((0, 65535, 65535, 2, 5), (0, 65535, 0, 1, 2), (1, 65535, 0, 2, 3)))
+
+
 def count_rows():
     c = count_row
     for n, paths in ((98, 98), (99, 99), (100, 99)):
@@ -120,6 +124,7 @@ def count_rows():
     yield c(0, "a line of 1024 states numbered backwards", backwards, 1)
     double = sound(n=8, start=0, finals=((7, 0),), arcs=[(s, 1, 1, s + 1, 1) for s in range(7) for _ in (0, 1)])
     yield c(0, "128 paths", double, 99)
+    yield c(0, "arcs for any symbol", ANY, 2)
     yield c(2, "0 bytes", b"")
     yield c(8, "8", sound(arcs=((0, 1, 2, 1, 1000001),)))
 
@@ -144,6 +149,7 @@ def nth_rows():
     yield p(0, "the empty path", 0, one_state(weight=9), (9, 0, 0))
     yield p(0, "a path before its extensions", 1, sound(n=2, start=0, finals=((0, 3), (1, 4)), arcs=((0, 1, 0, 1, 5), (0, 2, 6, 1, 1))), (9, 1, 0))
     yield p(0, "1023 arcs", 0, LONG, (0, 1023, 0))
+    yield p(0, "65535 as a label", 0, ANY, (5, 1, 1))
     yield p(15, "nothing accepts", 0, SMALLEST)
     yield p(1, "1 before 10", 0, SMALLEST[:-1], room=ARCS_SHORT, also=[10])
     yield p(10, "arcs one short", 0, LATTICE, room=ARCS_SHORT)
@@ -201,6 +207,7 @@ def tie_rows():
     yield s(0, "a silent way among many arcs below 0", sound(n=3, start=0, finals=((1, 0),), arcs=below), (-1, 2, 0))
     loops_of_7 = [(0, 1, 7, 1, 1)] * 40 + [(0, 1, 7, 1, 0)] * 40
     yield s(0, "many arcs that all write a label", sound(n=2, start=0, finals=((1, 0),), arcs=loops_of_7), (0, 1, 1))
+    yield s(0, "65535 counts as a label", ANY, (5, 2, 0))
 
 
 def shortest_rows():
@@ -256,6 +263,7 @@ def distance_rows():
         yield d(0, f"1023 arcs of {w}", long, [1024 * w, 1023 * w, 1022 * w])
     both = [(0, 1, 2, 2, i - 5) for i in range(30)] + [(1, 1, 2, 2, 7 - i) for i in range(30)]
     yield d(0, "many arcs of both signs, each to a state above all sources", sound(n=3, start=0, finals=((2, 1),), arcs=both), [-4, -21, 1, none])
+    yield d(0, "arcs for any symbol", ANY, [5, 3, 0, none])
     yield d(0, "1024 states, the last one not reached and not final", sound(n=STATES, start=0, finals=((0, 7),), arcs=()), [7, none, none])
     yield d(0, "1024 states, the last one final", sound(n=STATES, start=0, finals=((STATES - 1, 7),), arcs=((0, 1, 2, STATES - 1, -9),)), [-2, none])
     yield d(2, "0 bytes", b"")

@@ -14,7 +14,7 @@ sys.path.insert(0, str(ROOT / "tests/limits"))
 
 from compose_cases import LAST_LEFT, LAST_RIGHT, REST, line, one_state
 from lattice_model import applied, string_wrong, trimmed
-from model import WEIGHT, built_conditions, byte_conditions, composed, encode
+from model import ANY, WEIGHT, any_condition, built_conditions, byte_conditions, composed, encode
 from path_model import cost, endless, paths
 from rows import sound
 
@@ -28,9 +28,9 @@ def labels(*codes):
 
 def refusal(left, right, code):
     """The composition's refusal, then the string's, then that of applying it; 0 where none holds."""
-    for data in (left, right):
-        if byte_conditions(data):
-            return min(byte_conditions(data))
+    for held in (byte_conditions(left), any_condition(left), byte_conditions(right)):
+        if held:
+            return min(held)
     joined = composed(left, right)[0]
     if built_conditions(joined):
         return min(built_conditions(joined))
@@ -79,6 +79,7 @@ def longest():
 
 TURN = one_state((1, 1, 2, 0))  # turns 1 into 2
 COPY = one_state((1, 2, 2, 0))  # hands 2 on
+ANY_TO_7 = sound(n=2, start=0, finals=((1, 0),), arcs=[(0, ANY, 7, 1, 0)])
 ONE = labels(1)
 EMPTY_RECORDS = bytes(MOST_READ)  # of kind 0, 4 bytes each
 UP_TO_A_RECORD = (COPY + b"\2\0\0\0\0\0" + EMPTY_RECORDS)[:MOST_READ]
@@ -107,12 +108,17 @@ def cases():
     yield "3,072 arcs in the lattice", "readings 99+", one_state((48, 1, 2, 0)), COPY, ONE * 64
     yield "the longest listing", "readings 98", one_state(), longest(), b""
     yield "the largest labels", "readings 1", one_state((1, 65534, 65534, 0)), one_state((1, 65534, 65534, 0)), labels(65534)
+    yield "arcs for any symbol", "readings 3", one_state((1, 6, 6, 0)), one_state((1, ANY, ANY, 1), (1, 6, 8, 4), (1, ANY, 0, 2)), labels(6)
+    yield "an arc for any symbol and an empty output", "readings 0", one_state((1, 6, 0, 0)), ANY_TO_7, labels(6)
     # Refusals: the left table, the right one, the composition, the string, its application.
     yield "left missing", "refused 2", None, COPY, ONE
     yield "right missing", "refused 2", COPY, None, ONE
     yield "all missing", "refused 2", None, None, None
     yield "3 bytes", "refused 1", COPY[:3], COPY, ONE
     yield "left before right", "refused 8", like_arcs(1, WEIGHT + 1), COPY[:3], ONE
+    yield "18 of the left before 1 of the right", "refused 18", one_state((1, ANY, 2, 0)), COPY[:3], ONE
+    yield "8 of the left before 18", "refused 8", one_state((1, ANY, 2, WEIGHT + 1)), COPY, ONE
+    yield "18 before the code", "refused 18", one_state((1, ANY, ANY, 0)), COPY, ONE[:1]
     yield "right before the code", "refused 1", COPY, COPY[:3], ONE[:1]
     yield "513 states in a line", "refused 11", line(513), REST, ONE
     yield "11 before the code", "refused 11", line(513), REST, ONE[:1]

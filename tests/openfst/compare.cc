@@ -14,7 +14,9 @@
 //     mark, so that must be where the right side has no empty input or every left state has an empty output.
 // Left out: pairs that end in 11, 12 or 13, since OpenFst has no such limits. Bytes that are no table (1 to 8), strings that are
 // refused (9), short buffers (10), path order, origins and ties are not compared here: OpenFst has none of them.
-// PLANT is none, or a fault of OpenFst's side to show that differences are found: filter, weight, arcs or sign.
+// OpenFst's composition has no label for any symbol: it gets such arcs of the right table written out, one for each symbol that the left one
+// writes. What is compared stays the same, since each of these is read in one way.
+// PLANT is none, or a fault of OpenFst's side to show that differences are found: filter, weight, arcs, sign or any.
 #include <fst/arcsort.h>
 #include <fst/compose.h>
 #include <fst/connect.h>
@@ -30,6 +32,7 @@
 #include <fstream>
 #include <iterator>
 #include <map>
+#include <set>
 #include <string>
 #include <utility>
 #include <vector>
@@ -43,6 +46,7 @@ using Fst = fst::VectorFst<Arc>;
 using Reading = std::pair<int64_t, std::vector<int>>;  // cost, output labels
 
 static std::string plant = "none";
+static std::map<std::string, long> tally;
 
 // ---- OpenFst's side
 
@@ -62,6 +66,30 @@ static Fst build(const Bytes &b) {
     if (plant == "arcs" && i > 0 && std::equal(b.begin() + at, b.begin() + at + 16, b.begin() + at - 16)) continue;
     t.AddArc(u16_at(b, at + 4), Arc(u16_at(b, at + 6), u16_at(b, at + 8), weight_at(b, at + 12), u16_at(b, at + 10)));
   }
+  return t;
+}
+
+// The right transducer with arcs for any symbol written out, for the symbols that the left one writes.
+static Fst written_out(const Fst &left, const Fst &right) {
+  std::set<int> symbols;
+  for (int s = 0; s < left.NumStates(); ++s)
+    for (fst::ArcIterator<Fst> it(left, s); !it.Done(); it.Next())
+      if (it.Value().olabel) symbols.insert(it.Value().olabel);
+  Fst t(right);
+  bool some = false;
+  for (int s = 0; s < right.NumStates(); ++s) {
+    t.DeleteArcs(s);
+    for (fst::ArcIterator<Fst> it(right, s); !it.Done(); it.Next()) {
+      const Arc &a = it.Value();
+      if (a.ilabel != ANY) {
+        t.AddArc(s, a);
+        continue;
+      }
+      some = true;
+      for (int x : symbols) t.AddArc(s, Arc(x, a.olabel == ANY && plant != "any" ? x : a.olabel, a.weight, a.nextstate));
+    }
+  }
+  tally["arcs for any symbol"] += some;
   return t;
 }
 
@@ -208,7 +236,6 @@ static Reading our_path(const Bytes &b, uint32_t k) {
 
 // ---- comparing
 
-static std::map<std::string, long> tally;
 static std::vector<forthwn_cost> cells(FORTHWN_CELLS_LEN);
 
 static std::string kind_of(int n) {
@@ -282,7 +309,7 @@ static std::string compared(const Case &c) {
   if (refused) return differ("trim refuses", refused, 0);
   const Bytes small = front(trimmed, len);
 
-  const Fst left = build(c.left), right = build(c.right), string = acceptor(c.string);
+  const Fst left = build(c.left), right = written_out(left, build(c.right)), string = acceptor(c.string);
   const Fst composed = compose(left, right), result = connected(compose(string, composed));
   const int n = our_count(applied);
   ++tally[kind_of(n)];

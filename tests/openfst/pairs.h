@@ -11,6 +11,9 @@
 using Bytes = std::vector<uint8_t>;
 using Labels = std::vector<uint16_t>;
 
+// As an input it reads any symbol, as an output it passes on the symbol read.
+constexpr int ANY = 65535;
+
 struct Case {
   Bytes left, right;
   Labels string;
@@ -173,6 +176,10 @@ static Case make_case(uint64_t seed, uint64_t number) {
   if (string.size() > 64) string.resize(64);
   if (r.chance(1, 12)) string.push_back(r.range(1, 3));
   if (r.chance(1, 12)) string.clear();
+  // Of three cases one has arcs for any symbol on the right; they pass it on, or write what they did.
+  if (r.chance(1, 3))
+    for (auto &a : right.arcs)
+      if (a.input && r.chance(1, 3)) a.input = ANY, a.output = r.chance(1, 2) ? ANY : a.output;
   return {left.bytes(), right.bytes(), string};
 }
 

@@ -20,6 +20,7 @@ from rows import sound
 COPY, TURN = one_state((1, 2, 2, 0)), one_state((1, 1, 2, 0))
 FALLING = sound(n=2, start=0, finals=((1, 0), (0, 0)), arcs=())
 HEAVY = sound(n=1, start=0, finals=((0, WEIGHT + 1),), arcs=())
+ANY = one_state((1, 65535, 65535, 0))
 DEAR = one_state((1, 2, 2, WEIGHT))
 DEARER = one_state((1, 2, 2, 1))
 REBATE, MORE_REBATE = one_state((1, 2, 2, -WEIGHT)), one_state((1, 2, 2, -1))
@@ -41,6 +42,8 @@ CASES = [
     ("a missing code", None, COPY, COPY, None),
     ("the left table", (6, "in left.tab"), FALLING, HEAVY, ONE),
     ("the left table before the right one, whose number is lower", (8, "in left.tab"), HEAVY, FALLING, ONE),
+    ("an arc for any symbol in the left table", (18, "in left.tab"), ANY, FALLING, ONE),
+    ("an arc for any symbol in the right table", None, COPY, ANY, b"\2\0"),
     ("the right table", (6, "in right.tab"), COPY, FALLING, b"\1"),
     ("the same refusal of both", (6, "in left.tab"), FALLING, FALLING, ONE),
     ("a left table that is missing", (2, "in left.tab"), None, COPY, ONE),

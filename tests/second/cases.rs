@@ -172,6 +172,21 @@ pub fn small(rng: &mut Rng, most: usize, max_arcs: usize) -> Draft {
     d
 }
 
+/// Makes some arcs arcs for any symbol, which pass it on, write a symbol of
+/// their own, or write nothing. One table in `seldom` gets such arcs.
+pub fn with_any(rng: &mut Rng, d: &mut Draft, seldom: usize) {
+    if !rng.chance(1, seldom) {
+        return;
+    }
+    let often = rng.pick(&[1, 2, 4]);
+    for a in &mut d.arcs {
+        if rng.chance(1, often) {
+            a.0[1] = 65_535;
+            a.0[2] = rng.pick(&[65_535, 65_535, 0, a.0[2], a.0[2], 65_534]);
+        }
+    }
+}
+
 /// A ring of states with a few arcs beside it; it may lie off every
 /// accepting path. It sums to zero, or to one more or less, or to anything.
 pub fn ring(rng: &mut Rng) -> Draft {
@@ -421,7 +436,13 @@ pub fn damage(rng: &mut Rng, d: &mut Draft, aim: u32) {
                 d.arcs.swap(0, last);
             }
         },
-        7 => d.arcs[a].0[rng.range(1, 2)] = 65_535,
+        7 => {
+            let fields = &mut d.arcs[a].0;
+            if fields[1] == 65_535 {
+                fields[1] = rng.below(3) as u16;
+            }
+            fields[2] = 65_535;
+        }
         8 => {
             let bad = rng.pick(&[1_000_001, 1_000_001, -1_000_001, -1_000_001, 0x0100_0000, i32::MAX, i32::MIN]);
             if rng.chance(1, 2) {
@@ -578,8 +599,10 @@ pub fn along(rng: &mut Rng, d: &Draft) -> Vec<u16> {
             break;
         }
         let a = next[rng.below(next.len())];
-        if a.0[1] != 0 {
-            out.push(a.0[1]);
+        match a.0[1] {
+            0 => (),
+            65_535 => out.push(rng.pick(&[1, 2, 3, 9, 65_534])),
+            symbol => out.push(symbol),
         }
         state = a.0[3];
     }
@@ -658,7 +681,8 @@ pub fn fixed() -> Vec<Case> {
         raw("weight -2^31", one_arc(1, 2, i32::MIN, 0).bytes(), 8),
         raw("final weight 2^31 - 1", one_arc(1, 2, 0, i32::MAX).bytes(), 8),
         raw("label 65,534", one_arc(65_534, 2, 0, 0).bytes(), 0),
-        raw("label 65,535", one_arc(1, 65_535, 0, 0).bytes(), 7),
+        raw("output 65,535 beside a symbol", one_arc(1, 65_535, 0, 0).bytes(), 7),
+        raw("output 65,535 beside nothing", one_arc(0, 65_535, 0, 0).bytes(), 7),
     ];
     let mut rng = Rng::new(1, 1);
     for a in 1..=8 {
@@ -814,9 +838,55 @@ pub fn fixed() -> Vec<Case> {
     for n in [63, 64, 65] {
         out.push(given("string length", loops(1, 1, 2, 1), loops(1, 2, 2, 1), &vec![1; n], ok));
     }
+    out.extend(any_symbol());
     for bad in [0, 65_535] {
         out.push(given("string with a barred label", loops(1, 1, 2, 1), copy(), &[1, bad, 1], ok));
     }
+    out
+}
+
+/// Arcs for any symbol on either side of a composition, and applied directly.
+fn any_symbol() -> Vec<Case> {
+    let any = 65_535;
+    let mut out = Vec::new();
+    // The symbol passed on, one written for it, nothing written.
+    for output in [any, 7, 0] {
+        out.push(given("any on the right", loops(1, 1, 6, 1), loops(1, any, output, 2), &[1, 1], Some(0)));
+        // An empty output is never read by it.
+        out.push(given("any and an empty output", loops(1, 1, 0, 1), loops(1, any, output, 2), &[1], Some(0)));
+        // The left table is also applied, counted and walked by itself.
+        out.push(given("any on the left", loops(1, any, output, 2), loops(1, 1, 2, 0), &[1, 65_534], Some(18)));
+        out.push(given("any on a line", line(3, any, output, 2), loops(1, 1, 2, 0), &[3, 9], Some(18)));
+    }
+    // Named and any arcs of one state, in arc order, and silent ones between.
+    let arcs = [(0, any, any, 1, 1), (0, 6, 6, 1, 4), (0, 0, 3, 1, 5), (0, any, 8, 0, 2), (0, 6, 0, 0, 3), (0, 7, any - 1, 1, 9)];
+    let mixed = Draft::new(2, 0, &[(1, 0)], &arcs);
+    for (symbol, code) in [(6, 1), (7, 1), (8, 1)] {
+        out.push(given("named and any", loops(2, 1, symbol, 0), mixed.clone(), &[code, code], None));
+    }
+    out.push(given("named and any, applied", mixed.clone(), loops(1, 6, 6, 0), &[6, 7, 6], Some(18)));
+    let named = Draft::new(2, 0, &[(1, 0)], &[(0, 6, 6, 1, 4), (0, any, any, 1, 1)]);
+    out.push(given("paper 02's example of Point 6", loops(1, 6, 6, 0), named.clone(), &[6], Some(0)));
+    out.push(given("the same, applied", named, loops(1, 6, 6, 0), &[7], Some(18)));
+    // 18 before the right table's 1, and behind the left table's 8.
+    let broken = |bytes: Vec<u8>, left: u32, join: u32| Case {
+        name: "18 among the others".to_string(),
+        left: bytes,
+        right: vec![8, 0, 1],
+        code: vec![1],
+        left_refusal: Some(left),
+        join_refusal: Some(join),
+    };
+    out.push(broken(one_arc(any, any, 0, 0).bytes(), 0, 18));
+    out.push(broken(one_arc(any, any, 1_000_001, 0).bytes(), 8, 8));
+    out.push(broken(one_arc(1, 2, 0, 0).bytes(), 0, 1));
+    // An arc that is not reached counts as well.
+    let unreached = Draft::new(3, 0, &[(1, 0)], &[(0, 1, 2, 1, 0), (2, any, 4, 1, 0)]);
+    out.push(given("any arc not reached", unreached, loops(1, 2, 2, 0), &[1], Some(18)));
+    // One any arc in place of many, and beside many.
+    let mut many: Vec<Given> = (1..=3_000).map(|x| (0, x, x, 0, 0)).collect();
+    many.push((0, any, any, 0, 1));
+    out.push(given("any beside 3,000", loops(2, 1, 3_001, 0), Draft::new(1, 0, &[(0, 0)], &many), &[1], Some(0)));
     out
 }
 
@@ -889,22 +959,28 @@ pub fn make(rng: &mut Rng, k: usize, fixed: &mut Vec<Option<Case>>) -> Case {
             }
         }
         5..=6 => {
-            let (l, r) = (ring(rng), if rng.chance(1, 2) { ring(rng) } else { small(rng, 3, 5) });
+            let (mut l, mut r) = (ring(rng), if rng.chance(1, 2) { ring(rng) } else { small(rng, 3, 5) });
+            with_any(rng, &mut l, 15);
+            with_any(rng, &mut r, 3);
             let code = string(rng, &l);
             given("ring", l, r, &code, None)
         }
         7 => {
-            let (l, r, code) = corrections(rng);
+            let (l, mut r, code) = corrections(rng);
+            with_any(rng, &mut r, 3);
             given("corrections", l, r, &code, None)
         }
         8..=12 => {
-            let (l, r, code) = matched(rng);
+            let (l, mut r, code) = matched(rng);
+            with_any(rng, &mut r, 3);
             given("matched", l, r, &code, None)
         }
         x => {
             let (most, arcs) = if x < 16 { (3, 5) } else { (6, 12) };
-            let l = small(rng, most, arcs);
-            let r = small(rng, most, arcs);
+            let mut l = small(rng, most, arcs);
+            let mut r = small(rng, most, arcs);
+            with_any(rng, &mut l, 12);
+            with_any(rng, &mut r, 3);
             let code = string(rng, &l);
             given("small", l, r, &code, None)
         }

@@ -91,6 +91,19 @@ FAULTS = [
      "costs.get(s).copied().flatten().filter(|_| live(&t)[s])"),
     ("cells past the last state left at zero", "pub fn distance", "unwrap_or(NO_COST)", "unwrap_or(if s < t.states { NO_COST } else { 0 })"),
     ("none written as 1,000,000,000,000", "", "pub const NO_COST: i64 = 1_000_000_000_001;", "pub const NO_COST: i64 = 1_000_000_000_000;"),
+    # Arcs for any symbol.
+    ("any read by an empty output", "pub fn join", "if b.input == 0 {", "if b.input == 0 || b.input == ANY {"),
+    ("any left in a lattice arc", "pub fn lattice", "(place + 1, code[place], passed(a.output, code[place]))",
+     "(place + 1, a.input, passed(a.output, code[place]))"),
+    ("any left in a joined arc", "pub fn join", "let output = passed(b.output, a.output);", "let output = b.output;"),
+    ("18 after the right table", "pub fn compose", "if has_any(&a) {", "if parse(right).is_ok() && has_any(&a) {"),
+    ("18 zeroes the buffers", "pub fn compose", "return (18, 0);", "clear(table); return (18, 0);"),
+    ("named arcs before any arcs", "pub fn join", "for &r in &of_right[q] {",
+     "let mut sorted = of_right[q].clone(); sorted.sort_by_key(|&r| right.arcs[r].input == ANY); for &r in &sorted {"),
+    ("a named arc hides the any arc", "pub fn lattice", "fits(a.input, code[place])",
+     "fits(a.input, code[place]) && (a.input != ANY || leaving[state].iter().all(|&y| t.arcs[y].input != code[place]))"),
+    ("output 65,535 passes beside a symbol", "fn test_body", "a.output == ANY && a.input != ANY", "a.output == ANY && a.input == 0"),
+    ("input 65,535 refused", "fn test_body", "a.output == ANY && a.input != ANY", "a.output == ANY || a.input == ANY"),
 ]
 
 # More, run with --all.
@@ -139,9 +152,12 @@ MORE = [
     ("kinds tested before the end", "fn records", "if rest.len() - 4 < length {", "if rest.len() - 4 < length { if two(rest, 2) > 3 { return Err(2); }"),
     ("second head passes", "fn test_kinds", "if (*kind == 1) != (i == 0) {", "if i == 0 && *kind != 1 {"),
     ("order of kinds not tested", "fn test_kinds", "if i > 0 && records[i - 1].0 > *kind {", "if false {"),
-    ("output label 65,535 passes", "fn test_body", "a.input == BARRED || a.output == BARRED", "a.input == BARRED"),
     ("final weight not tested", "fn test_body", "_ => beyond(*weight),", "_ => false,"),
     ("string of 64 refused", "pub fn apply", "code.len() > MAX_CODE", "code.len() >= MAX_CODE"),
+    ("output 65,535 passes beside nothing", "fn test_body", "a.output == ANY && a.input != ANY", "a.output == ANY && a.input != ANY && a.input != 0"),
+    ("18 for reached arcs alone", "pub fn has_any", "t.arcs.iter().any(|a| a.input == ANY)",
+     "{ let l = live(t); t.arcs.iter().any(|a| a.input == ANY && l[a.source]) }"),
+    ("any takes no own output", "fn passed", "if output == ANY { symbol } else { output }", "if output == ANY || output == 65_534 { symbol } else { output }"),
     ("0 in a string passes", "pub fn apply", "x == 0 || x == BARRED", "x == BARRED"),
     ("join origins one short pass", "pub fn compose", "origins.len() < JOIN_ORIGINS", "origins.len() < JOIN_ORIGINS - 1"),
     ("path buffers of 1,024 wanted", "", "pub const PATH_ARCS: usize = 1_023;", "pub const PATH_ARCS: usize = 1_024;"),

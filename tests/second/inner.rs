@@ -195,6 +195,8 @@ fn chain(case: &Case, left: &Table, right: &Table, done: &mut Done) -> Check {
         return Ok(());
     }
     let joined_table = parse(&joined[..n as usize]).map_err(|r| format!("joined table: {r}"))?;
+    let plain = |t: &Table| !t.arcs.iter().any(|a| a.input == ANY || a.output == ANY);
+    expect("no 65,535 in a joined table", plain(&joined_table), true)?;
     table(&joined_table, done)?;
     let (r, n) = apply(&case.code, &joined[..n as usize], &mut lattice, &mut from, &mut work);
     if r != 0 {
@@ -202,6 +204,7 @@ fn chain(case: &Case, left: &Table, right: &Table, done: &mut Done) -> Check {
     }
     let lattice = &lattice[..n as usize];
     let t = parse(lattice).map_err(|r| format!("lattice: {r}"))?;
+    expect("no 65,535 in a lattice", plain(&t), true)?;
     table(&t, done)?;
     let (refused, counted) = count(lattice);
     // Finitely many pairs: none has more than `states` arcs on a side.
@@ -228,7 +231,8 @@ fn chain(case: &Case, left: &Table, right: &Table, done: &mut Done) -> Check {
         expect("reading leads to a pair", all.contains(&p), true)?;
         let cost = path_cost(left, &p.0) + path_cost(right, &p.1);
         expect("cost of the pair", told.0, cost)?;
-        expect("output", &labels[..told.2 as usize], &path_writes(right, &p.1)[..])?;
+        let output = path_passes(right, &p.1, &path_writes(left, &p.0));
+        expect("output", &labels[..told.2 as usize], &output[..])?;
         expect("pair met once", met.insert(p), true)?;
     }
     done.pairs_finite += 1;
@@ -240,7 +244,8 @@ pub fn case(case: &Case, done: &mut Done) -> Check {
         expect("refusal of the left table", refusal(&case.left), r)?;
     }
     let (Ok(left), Ok(right)) = (parse(&case.left), parse(&case.right)) else {
-        let first = [refusal(&case.left), refusal(&case.right)].into_iter().find(|&r| r != 0);
+        let any = parse(&case.left).is_ok_and(|t| t.arcs.iter().any(|a| a.input == ANY));
+        let first = [refusal(&case.left), if any { 18 } else { 0 }, refusal(&case.right)].into_iter().find(|&r| r != 0);
         let (mut a, mut b, mut c) = (vec![], vec![], vec![]);
         let answer = compose(&case.left, &case.right, &mut a, &mut b, &mut c);
         return expect("compose", Some(answer.0), first);

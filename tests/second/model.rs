@@ -15,6 +15,8 @@ pub const MAX_WEIGHT: i64 = 1_000_000;
 pub const MIN_WEIGHT: i64 = -1_000_000;
 pub const MAX_CODE: usize = 64;
 pub const BARRED: u16 = 65_535;
+/// As an input it fits each symbol, as an output it passes on the symbol read (02, Point 5).
+pub const ANY: u16 = 65_535;
 pub const STILL: u16 = 65_535;
 pub const MANY: usize = 99;
 
@@ -155,7 +157,7 @@ fn test_body(t: &Table) -> Result<(), u32> {
             let bad = match refusal {
                 5 => a.source >= t.states || a.target >= t.states,
                 6 => i > 0 && t.arcs[i - 1].source > a.source,
-                7 => a.input == BARRED || a.output == BARRED,
+                7 => a.output == ANY && a.input != ANY,
                 _ => beyond(a.weight),
             };
             if bad {
@@ -329,6 +331,23 @@ pub fn write(
     (0, bytes.len() as u32)
 }
 
+// ---------------------------------------------------------- any symbol
+
+/// Whether an arc of this input reads a symbol. The empty label is none.
+fn fits(input: u16, symbol: u16) -> bool {
+    symbol != 0 && (input == symbol || input == ANY)
+}
+
+/// What an arc writes that reads a symbol.
+fn passed(output: u16, symbol: u16) -> u16 {
+    if output == ANY { symbol } else { output }
+}
+
+/// 18: an arc of input 65,535, reached or not.
+pub fn has_any(t: &Table) -> bool {
+    t.arcs.iter().any(|a| a.input == ANY)
+}
+
 // -------------------------------------------------------------- compose
 
 pub struct Joined {
@@ -339,6 +358,9 @@ pub struct Joined {
 /// Breadth-first composition. All triples are looked for before arcs are
 /// counted, and arcs are counted before weights are looked at: 11, 12, 13.
 pub fn join(left: &Table, right: &Table) -> Result<Joined, u32> {
+    if has_any(left) {
+        return Err(18);
+    }
     let of_left = left.leaving();
     let of_right = right.leaving();
     let first = (left.start, right.start, 0);
@@ -360,10 +382,11 @@ pub fn join(left: &Table, right: &Table) -> Result<Joined, u32> {
             }
             for &r in &of_right[q] {
                 let b = &right.arcs[r];
-                if b.input == a.output {
+                if fits(b.input, a.output) {
                     let to = (a.target, b.target, 0);
                     let weight = a.weight + b.weight;
-                    steps.push((to, a.input, b.output, weight, (l as u16, r as u16)));
+                    let output = passed(b.output, a.output);
+                    steps.push((to, a.input, output, weight, (l as u16, r as u16)));
                 }
             }
         }
@@ -420,6 +443,10 @@ pub fn compose(
         Ok(t) => t,
         Err(r) => return (r, 0),
     };
+    // 18 comes directly behind 8 of the left table, before the right one's 1.
+    if has_any(&a) {
+        return (18, 0);
+    }
     let b = match parse(right) {
         Ok(t) => t,
         Err(r) => return (r, 0),
@@ -535,10 +562,10 @@ pub fn lattice(code: &[u16], t: &Table) -> Result<(Table, Vec<usize>), u32> {
         let (place, state) = reached[i];
         for &x in &leaving[state] {
             let a = &t.arcs[x];
-            let next = if a.input == 0 {
-                place
-            } else if place < code.len() && code[place] == a.input {
-                place + 1
+            let (next, input, output) = if a.input == 0 {
+                (place, 0, a.output)
+            } else if place < code.len() && fits(a.input, code[place]) {
+                (place + 1, code[place], passed(a.output, code[place]))
             } else {
                 continue;
             };
@@ -551,7 +578,7 @@ pub fn lattice(code: &[u16], t: &Table) -> Result<(Table, Vec<usize>), u32> {
                     reached.len() - 1
                 }
             };
-            arcs.push(Arc { source: i, target, ..a.clone() });
+            arcs.push(Arc { source: i, input, output, target, weight: a.weight });
             origins.push(x);
         }
         if reached.len() > MAX_STATES {
@@ -691,6 +718,18 @@ pub fn path_writes(t: &Table, path: &[u16]) -> Vec<u16> {
 pub fn path_reads(t: &Table, path: &[u16]) -> Vec<u16> {
     let read = path.iter().map(|&i| t.arcs[i as usize].input);
     read.filter(|&x| x != 0).collect()
+}
+
+/// What a path writes that fits a string, with the symbols it passes on.
+pub fn path_passes(t: &Table, path: &[u16], string: &[u16]) -> Vec<u16> {
+    let mut rest = string.iter();
+    let mut written = Vec::new();
+    for &i in path {
+        let a = &t.arcs[i as usize];
+        let symbol = if a.input == 0 { 0 } else { *rest.next().unwrap() };
+        written.push(passed(a.output, symbol));
+    }
+    written.into_iter().filter(|&x| x != 0).collect()
 }
 
 /// Cost, number of arcs, number of labels.
@@ -943,7 +982,7 @@ pub fn list(left: &[u8], right: &[u8], code: &[u8], out: &mut [u8]) -> (u32, u32
 // ------------------------------------------------- brute-force enumeration
 
 /// All accepting paths of at most `most` arcs, by plain search from the
-/// start, optionally only those that read a given string. In path order.
+/// start, optionally only those that fit a given string. In path order.
 /// None when more than `budget` steps are needed.
 pub fn all_paths(
     t: &Table,
@@ -976,7 +1015,7 @@ pub fn all_paths(
             }
             let rest = match reads {
                 Some(x) if a.input != 0 => match x.split_first() {
-                    Some((first, rest)) if *first == a.input => Some(rest),
+                    Some((first, rest)) if fits(a.input, *first) => Some(rest),
                     _ => continue,
                 },
                 same => same,
@@ -993,7 +1032,7 @@ pub fn all_paths(
 }
 
 /// All pairs of accepting paths of at most `most` arcs each: the left one
-/// reads the code, the right one reads what the left one writes. Neither
+/// reads the code, the right one fits what the left one writes. Neither
 /// composition nor a lattice is used.
 pub fn all_pairs(
     left: &Table,

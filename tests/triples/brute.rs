@@ -32,7 +32,7 @@ struct Way {
     cost: i64,
 }
 
-/// The accepting paths of a table of at most so many arcs that read the word,
+/// The accepting paths of a table of at most so many arcs that fit the word,
 /// where one is given; none where there are too many.
 fn ways(t: &Table, word: Option<&[u16]>, longest: usize) -> Option<Vec<Way>> {
     let leaving = t.leaving();
@@ -45,14 +45,23 @@ fn ways(t: &Table, word: Option<&[u16]>, longest: usize) -> Option<Vec<Way>> {
         }
         for &i in leaving[state].iter().filter(|_| way.arcs.len() < longest) {
             let a = &t.arcs[i];
+            // An arc for any symbol reads the next one of the word, and may pass it on.
+            let read = match word {
+                Some(w) if a.input == 65_535 => match w.get(way.input.len()) {
+                    Some(&symbol) => symbol,
+                    None => continue,
+                },
+                _ => a.input,
+            };
+            let wrote = if a.output == 65_535 { read } else { a.output };
             let mut next = Way {
                 arcs: [&way.arcs[..], &[i]].concat(),
                 input: way.input.clone(),
                 output: way.output.clone(),
                 cost: way.cost + a.weight,
             };
-            next.input.extend(Some(a.input).filter(|&x| x != 0));
-            next.output.extend(Some(a.output).filter(|&x| x != 0));
+            next.input.extend(Some(read).filter(|&x| x != 0));
+            next.output.extend(Some(wrote).filter(|&x| x != 0));
             if word.is_none_or(|w| w.starts_with(&next.input)) {
                 open.push((a.target, next));
             }
@@ -82,7 +91,7 @@ pub fn triples(tables: &[Table; 3], string: Option<&[u16]>) -> Found {
 }
 
 /// Each left path, with each middle path that reads what it writes, with each
-/// right path that reads what that one writes.
+/// right path that fits what that one writes.
 fn listed(tables: &[Table; 3], string: Option<&[u16]>, budget: usize) -> Option<Vec<Triple>> {
     let [a, b, c] = tables;
     let mut known: [HashMap<Vec<u16>, Vec<Way>>; 2] = Default::default();

@@ -31,6 +31,8 @@ FAULTS = [
     ("origins swapped", "second/model.rs", "pub fn compose", "|o| [o.0, o.1]", "|o| [o.1, o.0]"),
     ("the right side's final weight left out", "second/model.rs", "pub fn join", "finals.push((i, x + y));", "finals.push((i, x + 0 * y));"),
     ("origins of a lattice before trimming", "second/model.rs", "pub fn apply", "kept.iter().map(|&i| from[i]).collect()", "kept.clone()"),
+    ("any left in a composed arc", "second/model.rs", "pub fn join", "let output = passed(b.output, a.output);", "let output = b.output;"),
+    ("any arcs do not fit", "second/model.rs", "fn fits", "(input == symbol || input == ANY)", "input == symbol"),
     ("count capped at 98", "second/model.rs", "pub fn count", "MANY", "(MANY - 1)"),
 ]
 

@@ -74,7 +74,7 @@ fn silent(states: usize, input: u16, output: u16) -> Table {
 
 /// Three tables and two strings, one of them along a path of the first.
 pub fn case(rng: &mut Rng) -> ([Table; 3], Vec<Vec<u16>>) {
-    let tables = match rng.below(200) {
+    let mut tables = match rng.below(200) {
         // 11: silent lines that run beside each other.
         0 => {
             let n = rng.range(28, 40);
@@ -108,6 +108,15 @@ pub fn case(rng: &mut Rng) -> ([Table; 3], Vec<Vec<u16>>) {
             })
         }
     };
+    // Only the third table may have arcs for any symbol: 18.
+    if rng.chance(1, 3) {
+        for a in &mut tables[2].arcs {
+            if rng.chance(1, 2) {
+                a.input = 65_535;
+                a.output = rng.pick(&[65_535, 65_535, a.output, 0]);
+            }
+        }
+    }
     let strings = vec![along(rng, &tables[0]), (0..rng.below(4)).map(|_| rng.range(1, 2) as u16).collect()];
     (tables, strings)
 }

@@ -143,7 +143,8 @@ pub fn write(
 }
 
 /// Composes two tables and tells the composition's length in bytes; its origins are the left arc and the right arc of each arc in turn,
-/// 65,535 for a side that stood still. Lent: [`TABLE`], [`ORIGINS`], [`STATES`] to work in. Refusals 1 to 8, 10 to 13.
+/// 65,535 for a side that stood still. Lent: [`TABLE`], [`ORIGINS`], [`STATES`] to work in. Refusals 1 to 8 and
+/// 18 of the left, 1 to 8 of the right, 10 to 13.
 pub fn compose(left: &[u8], right: &[u8], table: &mut [u8], origins: &mut [u16], states: &mut [u32]) -> Result<usize, Refusal> {
     let mut len = 0;
     // SAFETY: each pointer and length are those of one slice, and mutable ones overlap nothing.

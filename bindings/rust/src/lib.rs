@@ -58,6 +58,9 @@ pub type Cost = i64;
 /// The count that stands for 99 or more.
 pub const MANY: u32 = 99;
 
+/// The label for any symbol, as an input and, beside that input alone, as an output.
+pub const ANY: u16 = 65_535;
+
 /// The number of readings: composes two tables, applies a string of 0 to 64 symbols and counts accepting paths, [`MANY`] standing for
 /// 99 or more. Tables are given as bytes or as [`Table`]s.
 ///

@@ -52,7 +52,7 @@ refusals! {
     4 BAD_NUMBER "final or arc records are not as many as the head says"
     5 BAD_STATE "a state number is not below the number of states"
     6 BAD_ORDER "final states do not rise, or sources of arcs fall"
-    7 BAD_LABEL "a label of 65535"
+    7 BAD_LABEL "output 65535 beside another input"
     8 BAD_WEIGHT "a weight below -1000000 or above 1000000"
     9 BAD_CODE "the code has more than 64 labels, half a label, or a label 0 or 65535"
     10 SHORT_BUFFER "a lent buffer is too short"
@@ -62,6 +62,7 @@ refusals! {
     14 ENDLESS "infinitely many accepting paths"
     15 NO_SUCH_PATH "no path of that number"
     16 NO_PATH "no accepting path"
+    18 ANY_INPUT "an arc for any symbol (input 65535) where none may be"
     19 NEGATIVE_CYCLE "a cycle below 0 on a path to a final state"
 }
 

@@ -15,7 +15,8 @@ pub struct Final {
     pub weight: Weight,
 }
 
-/// An arc. Label 0 reads or writes nothing, 1 to 65,534 are symbols, 65,535 is refused.
+/// An arc. Label 0 reads or writes nothing, 1 to 65,534 are symbols. Input 65,535 reads any symbol, and output 65,535 beside it writes the symbol
+/// that was read.
 #[derive(Clone, Copy, Debug, PartialEq, Eq, Hash)]
 pub struct Arc {
     /// The state it leaves.
@@ -163,7 +164,7 @@ impl Table {
         self.bytes.clone()
     }
 
-    /// Composes this table, as the left one, with a right one. Refusals 11 to 13.
+    /// Composes this table, as the left one, with a right one. Refusals 11 to 13, and 18 where this one has an arc of input 65,535.
     pub fn compose(&self, right: &Table) -> Result<Composed, Refusal> {
         let (mut table, mut origins, mut states) = (vec![0; lent::TABLE], vec![0; lent::ORIGINS], vec![0; lent::STATES]);
         let len = lent::compose(&self.bytes, &right.bytes, &mut table, &mut origins, &mut states)?;

@@ -1,5 +1,5 @@
 //! Round trips, refusals, lent buffers one cell too short, and origins.
-use forthwn::{Arc, Cost, Final, Head, Path, Refusal, Table, Weight, lent, list, readings};
+use forthwn::{ANY, Arc, Cost, Final, Head, Path, Refusal, Table, Weight, lent, list, readings};
 
 const LEFT: &[u8] = include_bytes!("../../../examples/keys/left.tab");
 const RIGHT: &[u8] = include_bytes!("../../../examples/keys/right.tab");
@@ -69,6 +69,7 @@ fn lengths_are_those_of_the_header() {
         ("TEXT_LEN", lent::TEXT),
         ("STACK", lent::STACK),
         ("MANY", forthwn::MANY as usize),
+        ("ANY", ANY as usize),
     ] {
         let line = format!(" FORTHWN_{name} = {number}");
         let behind = header.split(&line).nth(1).and_then(|x| x.chars().next());
@@ -113,7 +114,8 @@ fn bad_numbers_are_refused() {
     assert_eq!(table(1, 1, &[], &[]), Err(Refusal::BAD_HEAD));
     assert_eq!(table(1, 0, &[end(1, 0)], &[]), Err(Refusal::BAD_STATE));
     assert_eq!(table(2, 0, &[end(1, 0), end(0, 0)], &[]), Err(Refusal::BAD_ORDER));
-    assert_eq!(table(1, 0, &[], &[arc(0, 65_535, 1, 0, 0)]), Err(Refusal::BAD_LABEL));
+    assert_eq!(table(1, 0, &[], &[arc(0, 1, 65_535, 0, 0)]), Err(Refusal::BAD_LABEL));
+    assert_eq!(table(1, 0, &[], &[arc(0, 0, 65_535, 0, 0)]), Err(Refusal::BAD_LABEL));
     for weight in [1_000_001, -1_000_001, Weight::MAX, Weight::MIN] {
         assert_eq!(table(1, 0, &[], &[arc(0, 1, 1, 0, weight)]), Err(Refusal::BAD_WEIGHT));
         assert_eq!(table(1, 0, &[end(0, weight)], &[]), Err(Refusal::BAD_WEIGHT));
@@ -121,6 +123,18 @@ fn bad_numbers_are_refused() {
     for weight in [1_000_000, 0, -1, -1_000_000] {
         assert!(table(1, 0, &[end(0, weight)], &[arc(0, 1, 1, 0, weight)]).is_ok());
     }
+}
+
+#[test]
+fn any_symbol() -> Result<(), Refusal> {
+    let copy = Table::new(1, 0, &[end(0, 0)], &[arc(0, ANY, ANY, 0, 1)])?;
+    let lattice = copy.apply(&[7, 3])?.table;
+    assert_eq!(lattice.shortest()?.labels, [7, 3]);
+    assert_eq!(lattice.arcs().iter().map(|a| (a.input, a.output)).collect::<Vec<_>>(), [(7, 7), (3, 3)]);
+    let turn = Table::new(1, 0, &[end(0, 0)], &[arc(0, 7, 3, 0, 0)])?;
+    assert_eq!(turn.compose(&copy)?.table.apply(&[7])?.table.shortest()?.labels, [3]);
+    assert_eq!(copy.compose(&turn).map(|x| x.table), Err(Refusal::ANY_INPUT));
+    Ok(())
 }
 
 #[test]
