@@ -23,7 +23,6 @@ use Rattle.explore.proofs.Member.{
   mem-later,
   mem-append,
   mem-nil,
-  there-append,
   there-mem,
   place-left,
 }
@@ -67,9 +66,6 @@ module _ {A : Type 0} where
   grows-mem {x} {xs} {zs} g m = rw (g .whole) (mem-left (g .added) m)
 
   module _ (same : A → A → Bool) where
-    pub grows-there : {xs zs : List A} (x : A) → Grows xs zs → there same x xs ≡ true → there same x zs ≡ true
-    grows-there {xs} {zs} x g h = rw (g .whole, there-append same x xs (g .added), h)
-
     -- A state met before keeps its number.
     pub grows-place : {xs zs : List A} (x : A) → Grows xs zs → there same x xs ≡ true → place same x zs ≡ place same x xs
     grows-place {xs} {zs} x g h = rw (g .whole) (place-left same x xs (g .added) h)
@@ -77,28 +73,10 @@ module _ {A : Type 0} where
 -- met
 
 module _ {A : Type 0} (same : A → A → Bool) where
-  pub met-there : (y : A) (ys xs : List A) → there same y xs ≡ true → met same (y ∷ ys) xs ≡ met same ys xs
-  unfolding met
-  met-there y ys xs h = rw h
-
-  pub met-new : (y : A) (ys xs : List A) → there same y xs ≡ false → met same (y ∷ ys) xs ≡ met same ys (xs ++ (y ∷ []))
-  unfolding met
-  met-new y ys xs h = rw h
-
   pub met-append : (ys zs xs : List A) → met same (ys ++ zs) xs ≡ met same zs (met same ys xs)
   unfolding met
   met-append [] zs xs = refl
   met-append (y ∷ ys) zs xs = met-append ys zs (cond (there same y xs) xs (xs ++ (y ∷ [])))
-
-  -- One more state is met: it was there, or it comes last.
-  pub met-snoc-there : (ys : List A) (y : A) (xs : List A) → there same y (met same ys xs) ≡ true → met same (ys ++ (y ∷ [])) xs ≡ met same ys xs
-  unfolding met
-  met-snoc-there ys y xs h = met-append ys (y ∷ []) xs ∙ (rw h)
-
-  pub met-snoc-new : (ys : List A) (y : A) (xs : List A) → there same y (met same ys xs) ≡ false
-      → met same (ys ++ (y ∷ [])) xs ≡ met same ys xs ++ (y ∷ [])
-  unfolding met
-  met-snoc-new ys y xs h = met-append ys (y ∷ []) xs ∙ (rw h)
 
   pub met-grows : (ys xs : List A) → Grows xs (met same ys xs)
   unfolding met
@@ -111,9 +89,6 @@ module _ {A : Type 0} (same : A → A → Bool) where
 
   pub met-length : (ys xs : List A) → length xs ≤ length (met same ys xs)
   met-length ys xs = grows-length (met-grows ys xs)
-
-  pub met-take : (ys xs : List A) → take (length xs) (met same ys xs) ≡ xs
-  met-take ys xs = grows-take (met-grows ys xs)
 
   -- A front part of the targets meets a front part of the states.
   pub met-append-length : (ys zs xs : List A) → length (met same ys xs) ≤ length (met same (ys ++ zs) xs)

@@ -61,13 +61,11 @@ fn symbol_at(string: &[u16], position: usize) -> u16
     0
 }
 
-// Whether an arc of this input fits a symbol, 0 standing for none.
-fn fits(input: u16, symbol: u16) -> bool
+// Whether an arc of this input, which is not the symbol itself, fits a symbol, 0 standing for none.
+fn fits_unnamed(input: u16, symbol: u16) -> bool
+    requires { ⌜ (input ≡ symbol → ⊥) ⌝ }
     ensures { λ r. ⌜ ((t : Transducer) (a : Arc) → a .input ≡ input → r ≡ fits t symbol a) ⌝ }
 {
-    if input == symbol {
-        return true;
-    }
     if symbol == 0 {
         return false;
     }
@@ -162,7 +160,7 @@ fn serve(
         let mut output = a.output;
         if input != symbol {
             if input != 0 {
-                if !fits(input, symbol) {
+                if !fits_unnamed(input, symbol) {
                     continue;
                 }
                 read = symbol;

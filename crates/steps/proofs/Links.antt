@@ -372,11 +372,6 @@ module _ {u : Transducer} {again : List ℕ} (a : Again u 0 again) (j to : ℕ) 
       let e : suc (getD again j 0 - 1) ≡ getD again j 0 = omega arith in
       link-some (arc u j .input) (rest-from (suc j) r (omega arith) l) (getD again j 0 - 1) (e ∙ repeats)
 
-  pub repeat-most : getD again j 0 ≤ length (u .arcs)
-  repeat-most =
-      let most = first-most (reads u (arc u j .source) (arc u j .input)) (length (u .arcs) - suc j) (suc j) in
-      omega (arith, repeats, most, r .within)
-
 -- What fits, by what reads
 
 module _ (u : Transducer) (label n i k : ℕ) where

@@ -82,13 +82,6 @@ module _ (u : Transducer) (r : Run) (together : r .alone ≡ false) where
       let e : to - to ≡ 0 = omega arith in
       run-skip j to to l (omega arith) unread ∙ (rw e (run-none u r to))
 
-  -- A right arc that fits the label makes a step.
-  pub run-next : (j to : ℕ) → j < to → fits u (r .label) (arc u j) ≡ true → run-steps u r (to - j) j ≡ run-step u r j ∷ run-steps u r (to - suc j) (suc j)
-  unfolding run-steps
-  run-next j to l fitted =
-      let e : to - j ≡ suc (to - suc j) = omega arith in
-      rw (e, tested j true fitted)
-
 -- The three kinds of run, from a state x: of left arc i alone, of left arc i with right arcs, of right arcs alone.
 
 abbrev pub alone-run : State → (i : ℕ) → Arc → Run
@@ -216,12 +209,6 @@ module _ (t u : Transducer) (x : State) where
   pub runs-next : (i last : ℕ) → i < last → runs-from t u x (last - i) i ≡ arc-steps t u x i ++ runs-from t u x (last - suc i) (suc i)
   unfolding runs-from
   runs-next i last l = let e : last - i ≡ suc (last - suc i) = omega arith in rw e
-
-  -- Left arcs without steps may be passed over.
-  pub runs-skip : (i k last : ℕ) → i ≤ k → k ≤ last → ((m : ℕ) → i ≤ m → m < k → arc-steps t u x m ≡ [])
-      → runs-from t u x (last - i) i ≡ runs-from t u x (last - k) k
-  runs-skip i k last l m none =
-      rw (runs-range (last - i) i, runs-range (last - k) k, from-to-skip i k last (arc-steps t u x) l m none)
 
   module _ (stay : sources-stay 0 (u .arcs) ≡ true) where
     pub arc-steps-are : (i : ℕ) → i < 65535 → map coded (left-steps u x i (arc t i)) ≡ arc-steps t u x i

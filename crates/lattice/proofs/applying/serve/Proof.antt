@@ -185,8 +185,8 @@ arc-of-requires c κs = (start (opened (c .before)) .pre .0 .0 .opened, below c)
 add-i : tie.Need-add-i Inv-loop μ-loop
 add-i c = omega (arith, number-lt (c .before))
 
-fits-requires : tie.Need-fits-requires Inv-loop μ-loop
-fits-requires c κs = search needs
+fits-unnamed-requires : tie.Need-fits-unnamed-requires Inv-loop μ-loop
+fits-unnamed-requires c κs = c .before .if1 .taken
 
 loop-less : tie.Need-loop-less Inv-loop μ-loop
 loop-less c = omega (arith, c .before .before .before .before .before .loop-test .taken)
@@ -197,7 +197,7 @@ loop-again c =
     let turn = at-turn at in
     let s = start (opened turn) in
     let a = at .arc-of .result in
-    let unfit = sym (c .before .fits2 .ensures (table-of s) a refl) ∙ not-true (c .before .fits2 .result) (c .if3 .taken) in
+    let unfit = sym (c .before .fits-unnamed .ensures (table-of s) a refl) ∙ not-true (c .before .fits-unnamed .result) (c .if3 .taken) in
     let none = none-taken (s .args .string .now) (table-of s) (unpacked (key-of s)) (turn .loop .i) (s .args .source) a
     (at .arc-of .ensures) (c .before .before .if2 .taken)
     (subst (λ (symbol : ℕ). fits (table-of s) symbol a ≡ false) (symbol-is (at-symbol turn)) unfit) in (
@@ -394,7 +394,7 @@ serve-spec =
     loop-holds
     arc-of-requires
     add-i
-    fits-requires
+    fits-unnamed-requires
     loop-less
     loop-again
     passed-requires
