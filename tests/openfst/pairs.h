@@ -176,7 +176,7 @@ static Case make_case(uint64_t seed, uint64_t number) {
   if (string.size() > 64) string.resize(64);
   if (r.chance(1, 12)) string.push_back(r.range(1, 3));
   if (r.chance(1, 12)) string.clear();
-  // Of three cases one has arcs for any symbol on the right; they pass it on, or write what they did.
+  // Of three cases one may have arcs for any symbol on the right; they pass it on, or write what they did.
   if (r.chance(1, 3))
     for (auto &a : right.arcs)
       if (a.input && r.chance(1, 3)) a.input = ANY, a.output = r.chance(1, 2) ? ANY : a.output;
