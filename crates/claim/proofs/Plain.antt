@@ -2,6 +2,7 @@
 -- pair's output is what its right path writes. Assumes nothing.
 use mathlib.Core.Path.{_≡_, sym, _∙_}
 use mathlib.Core.Bool.{true}
+use mathlib.Core.Logic.{_↔_}
 use mathlib.Core.List.{List}
 use Prim.Native.Nat.{ℕ, _<_}
 use Rattle.transducer.specs.Format.{max-count, Transducer, decode}
@@ -9,6 +10,7 @@ use Rattle.transducer.specs.Path.{accepts, read-by, written-by}
 use Rattle.transducer.specs.Each.{plain}
 use Rattle.transducer.proofs.FitPaths.{read-path-fits, path-fits-plain, path-passed-plain}
 use Rattle.paths.specs.declared.Counted.{Counted}
+use Rattle.paths.specs.Count.{before}
 use Rattle.compose.specs.Claim.{Two-paths}
 use Rattle.claim.specs.Kind.{Kind, Paths-are, Infinitely-many, Each-once, Counts}
 use Rattle.claim.specs.Claim.{Calls, Pair, Pairs, pair-output, pair-cost, lattice-of, leads-to, told-arcs, told-labels, Claim}
@@ -30,17 +32,61 @@ Read-pairs left right string =
       cost = pair-cost left right;
     }
 
--- What the claim says of pairs, of these.
+-- The k-th call tells such a pair; and the claim, as it was made of them.
+pub record Read-tells (c : Calls) (k : ℕ) (x : Two-paths) : Type 0 where
+  pub well : c .telling k .refusal ≡ 0
+  pub accepting : accepts (lattice-of c) (told-arcs c k) ≡ true
+  pub pair : Read-pair (c .left) (c .right) (c .string) x
+  pub output : told-labels c k ≡ written-by (decode (c .right)) (x .right)
+  pub cost : c .telling k .cost ≡ pair-cost (c .left) (c .right) x
+
 pub record Read-claim (c : Calls) : Type 0 where
   pub paths : Paths-are (Read-pairs (c .left) (c .right) (c .string)) (lattice-of c) (leads-to c)
   pub counts : Counts (Read-pairs (c .left) (c .right) (c .string)) (c .counting)
-  pub tells : (k : ℕ) → k < c .counting .count → Read-pair (c .left) (c .right) (c .string) (leads-to c (told-arcs c k))
-  pub told : (k : ℕ) → k < c .counting .count → told-labels c k ≡ written-by (decode (c .right)) (leads-to c (told-arcs c k) .right)
+  pub tells : (k : ℕ) → k < c .counting .count → Read-tells c k (leads-to c (told-arcs c k))
+  pub told-once : (j k : ℕ) → j < c .counting .count → k < c .counting .count → leads-to c (told-arcs c j) ≡ leads-to c (told-arcs c k) → j ≡ k
+  pub in-order : (j k : ℕ) → j < k → k < c .counting .count → before (told-arcs c j) (told-arcs c k) ≡ true
   pub all-told : c .counting .refusal ≡ 0 → c .counting .count < max-count → (x : Two-paths) → Read-pair (c .left) (c .right) (c .string) x
       → (k : ℕ) × (k < c .counting .count) × (leads-to c (told-arcs c k) ≡ x)
 
+-- A kind that has the same things, with the same outputs.
+module _ (K : Kind) (Is : K .Thing → Type 0) (output : K .Thing → List ℕ) (there : (x : K .Thing) → K .Is x → Is x)
+    (back : (x : K .Thing) → Is x → K .Is x) (same : (x : K .Thing) → K .output x ≡ output x) where
+  abbrev Like : Kind
+  Like = record { Thing = K .Thing; Is = Is; input = K .input; output = output; cost = K .cost }
+
+  paths-like : (w : Transducer) (to : List ℕ → K .Thing) → Paths-are K w to → Paths-are Like w to
+  paths-like w to a =
+      record {
+        leads = λ p h.
+            let s = a .leads p h in
+            record { is = there (to p) (s .is); reads = s .reads; writes = s .writes ∙ same (to p); costs = s .costs };
+        never-two = a .never-two;
+        every = λ x h. a .every x (back x h);
+      }
+
+  many-like : Infinitely-many K → Infinitely-many Like
+  many-like many l all = many l (λ x p. all x (there x p))
+
+  like-many : Infinitely-many Like → Infinitely-many K
+  like-many many l all = many l (λ x p. all x (back x p))
+
+  once-like : (l : List (K .Thing)) → Each-once K l → Each-once Like l
+  once-like l o = record { only = λ x m. there x (o .only x m); all = λ x p. o .all x (back x p); once = o .once }
+
+  like-once : (l : List (K .Thing)) → Each-once Like l → Each-once K l
+  like-once l o = record { only = λ x m. back x (o .only x m); all = λ x p. o .all x (there x p); once = o .once }
+
+  counts-like : (r : Counted) → Counts K r → Counts Like r
+  counts-like r a =
+      record {
+        endless = (λ e. many-like (a .endless .0 e), λ many. a .endless .1 (like-many many));
+        finite = λ few. let f = a .finite (λ many. few (many-like many)) in (f .0, once-like (f .0) (f .1));
+        number = λ l o. a .number l (like-once l o);
+      }
+
 module _ (left right string : List ℕ) (none : plain (decode right) ≡ true) where
-  pub pair-read : (x : Two-paths) → Pair left right string x → Read-pair left right string x
+  pair-read : (x : Two-paths) → Pair left right string x → Read-pair left right string x
   pair-read x p =
       record {
         left-accepts = p .left-accepts;
@@ -49,7 +95,7 @@ module _ (left right string : List ℕ) (none : plain (decode right) ≡ true) w
         meets = sym (path-fits-plain (decode right) none (written-by (decode left) (x .left)) (x .right) (p .meets));
       }
 
-  pub read-pair : (x : Two-paths) → Read-pair left right string x → Pair left right string x
+  read-pair : (x : Two-paths) → Read-pair left right string x → Pair left right string x
   read-pair x p =
       record {
         left-accepts = p .left-accepts;
@@ -58,46 +104,54 @@ module _ (left right string : List ℕ) (none : plain (decode right) ≡ true) w
         meets = rw (p .meets) (read-path-fits (decode right) (x .right));
       }
 
-  pub pair-written : (x : Two-paths) → pair-output left right x ≡ written-by (decode right) (x .right)
+  pair-written : (x : Two-paths) → pair-output left right x ≡ written-by (decode right) (x .right)
   pair-written x = path-passed-plain (decode right) none (written-by (decode left) (x .left)) (x .right)
 
-  paths-read : (w : Transducer) (to : List ℕ → Two-paths) → Paths-are (Pairs left right string) w to → Paths-are (Read-pairs left right string) w to
-  paths-read w to a =
-      record {
-        leads = λ p h.
-            let s = a .leads p h in
-            record { is = pair-read (to p) (s .is); reads = s .reads; writes = s .writes ∙ pair-written (to p); costs = s .costs };
-        never-two = a .never-two;
-        every = λ x h. a .every x (read-pair x h);
-      }
+module _ (c : Calls) (none : plain (decode (c .right)) ≡ true) where
+  there : (x : Two-paths) → Pair (c .left) (c .right) (c .string) x → Read-pair (c .left) (c .right) (c .string) x
+  there = pair-read (c .left) (c .right) (c .string) none
 
-  -- The same things are infinitely many, or listed once each.
-  many-read : Infinitely-many (Pairs left right string) → Infinitely-many (Read-pairs left right string)
-  many-read many l all = many l (λ x p. all x (pair-read x p))
+  back : (x : Two-paths) → Read-pair (c .left) (c .right) (c .string) x → Pair (c .left) (c .right) (c .string) x
+  back = read-pair (c .left) (c .right) (c .string) none
 
-  read-many : Infinitely-many (Read-pairs left right string) → Infinitely-many (Pairs left right string)
-  read-many many l all = many l (λ x p. all x (read-pair x p))
+  written : (x : Two-paths) → pair-output (c .left) (c .right) x ≡ written-by (decode (c .right)) (x .right)
+  written = pair-written (c .left) (c .right) (c .string) none
 
-  once-read : (l : List Two-paths) → Each-once (Pairs left right string) l → Each-once (Read-pairs left right string) l
-  once-read l o = record { only = λ x m. pair-read x (o .only x m); all = λ x p. o .all x (read-pair x p); once = o .once }
+  -- The one is the other.
+  pub claim-read : Claim c ↔ Read-claim c
+  claim-read = (forth, and-back)
+    where
+      forth : Claim c → Read-claim c
+      forth h =
+          let K = Pairs (c .left) (c .right) (c .string) in
+          let Is = Read-pair (c .left) (c .right) (c .string) in
+          let output : Two-paths → List ℕ = λ x. written-by (decode (c .right)) (x .right) in
+          record {
+            paths = paths-like K Is output there back written (lattice-of c) (leads-to c) (h .paths);
+            counts = counts-like K Is output there back written (c .counting) (h .counts);
+            tells = λ k l.
+                let t = h .tells k l in
+                let x = leads-to c (told-arcs c k) in
+                record { well = t .well; accepting = t .accepting; pair = there x (t .pair); output = t .output ∙ written x; cost = t .cost };
+            told-once = h .told-once;
+            in-order = h .in-order;
+            all-told = λ fine few x p. h .all-told fine few x (back x p);
+          }
 
-  read-once : (l : List Two-paths) → Each-once (Read-pairs left right string) l → Each-once (Pairs left right string) l
-  read-once l o = record { only = λ x m. read-pair x (o .only x m); all = λ x p. o .all x (pair-read x p); once = o .once }
-
-  counts-read : (r : Counted) → Counts (Pairs left right string) r → Counts (Read-pairs left right string) r
-  counts-read r a =
-      record {
-        endless = (λ e. many-read (a .endless .0 e), λ many. a .endless .1 (read-many many));
-        finite = λ few. let f = a .finite (λ many. few (many-read many)) in (f .0, once-read (f .0) (f .1));
-        number = λ l o. a .number l (read-once l o);
-      }
-
-pub claim-read : (c : Calls) → plain (decode (c .right)) ≡ true → Claim c → Read-claim c
-claim-read c none h =
-    record {
-      paths = paths-read (c .left) (c .right) (c .string) none (lattice-of c) (leads-to c) (h .paths);
-      counts = counts-read (c .left) (c .right) (c .string) none (c .counting) (h .counts);
-      tells = λ k l. pair-read (c .left) (c .right) (c .string) none (leads-to c (told-arcs c k)) (h .tells k l .pair);
-      told = λ k l. h .tells k l .output ∙ pair-written (c .left) (c .right) (c .string) none (leads-to c (told-arcs c k));
-      all-told = λ fine few x p. h .all-told fine few x (read-pair (c .left) (c .right) (c .string) none x p);
-    }
+      and-back : Read-claim c → Claim c
+      and-back h =
+          let K = Read-pairs (c .left) (c .right) (c .string) in
+          let Is = Pair (c .left) (c .right) (c .string) in
+          let output = pair-output (c .left) (c .right) in
+          let same : (x : Two-paths) → written-by (decode (c .right)) (x .right) ≡ output x = λ x. sym (written x) in
+          record {
+            paths = paths-like K Is output back there same (lattice-of c) (leads-to c) (h .paths);
+            counts = counts-like K Is output back there same (c .counting) (h .counts);
+            tells = λ k l.
+                let t = h .tells k l in
+                let x = leads-to c (told-arcs c k) in
+                record { well = t .well; accepting = t .accepting; pair = back x (t .pair); output = t .output ∙ same x; cost = t .cost };
+            told-once = h .told-once;
+            in-order = h .in-order;
+            all-told = λ fine few x p. h .all-told fine few x (there x p);
+          }
