@@ -61,7 +61,7 @@ max-bytes = arcs-at max-states + arc-bytes * max-arcs
 abbrev pub barred : ℕ
 barred = 65535
 
--- As an input it fits any symbol, as an output it passes on the symbol read (paper 02, Point 5).
+-- As an input it fits any symbol that no arc of its state names, as an output it passes on the symbol read (paper 02, Points 5 and 6).
 abbrev pub any : ℕ
 any = barred
 

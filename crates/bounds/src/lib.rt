@@ -17,7 +17,7 @@ pub const MIN_WEIGHT: i32 = -1000000;
 // No symbol: strings may not hold it.
 pub const BARRED: u16 = 65535;
 
-// As an input it fits any symbol, as an output it passes on the symbol read.
+// As an input it fits any symbol that no arc of its state names, as an output it passes on the symbol read.
 pub const ANY: u16 = BARRED;
 
 // The longest string.

@@ -1,7 +1,7 @@
 -- What the walk's code keeps, over plain lists: the steps of a run that are left from right arc j on, and those of a state that are left from
 -- left arc i on. Each has a law for its first place, its next one and its end. Assumes nothing.
 use mathlib.Core.Path.{_≡_, sym, ap, subst, _∙_}
-use mathlib.Core.Bool.{Bool, true, false, cond}
+use mathlib.Core.Bool.{true, false, cond}
 use mathlib.Core.List.{List, [], _∷_, _++_, map, map-append, append-nil}
 use Prim.Native.Nat.{ℕ, suc, _+_, _*_, _-_, _≤_, _<_}
 use native.Mathlib.Numerals.{add-one}
@@ -10,14 +10,13 @@ use lib.Dec.{ltb, leb, eqb}
 use lib.ListN.{length, getD, set}
 use borrow.Author.Tests.{ltb-true, ltb-false, lt-ltb, le-ltb, le-leb, lt-leb}
 use Rattle.transducer.specs.Format.{Transducer, Good}
-use Rattle.transducer.specs.Each.{fits}
-use Rattle.transducer.specs.Leaf.{arcs-below, Indexed}
+use Rattle.transducer.specs.Leaf.{arcs-below, Indexed, Leaving}
 use Rattle.transducer.proofs.Ranges.{arcs-below-length, arcs-below-rises}
 use Rattle.explore.specs.declared.Walk.{Walk}
 use Rattle.explore.specs.Explore.{place}
 use Rattle.explore.specs.Chain.{Chained}
 use Rattle.explore.specs.Walk.{Keyed, Sofar, with-key, taken, all-taken, state-served, traced-by, Records, Walked, Went}
-use Rattle.wire.proofs.Bool.{by-test, never}
+use Rattle.wire.proofs.Bool.{by-test}
 use Rattle.explore.proofs.Recording.{Key-kept}
 use Rattle.explore.proofs.Walking.{walked-next, Taking, taking-state, taking-part, taking-full, taking-stop}
 use Rattle.steps.specs.declared.Begin.{Begin}
@@ -26,15 +25,14 @@ use Rattle.steps.specs.declared.Run.{Run}
 use Rattle.steps.specs.declared.State.{State}
 use Rattle.steps.specs.declared.Step.{Step}
 use Rattle.steps.specs.Steps.{left-origin, right-origin, origin-pair, steps}
-use Rattle.steps.specs.Lookup.{Leaving}
 use Rattle.steps.specs.Packing.{unpacked}
-use Rattle.steps.specs.Runs.{coded, run-step, run-steps, fitting-from, Takeable, In-both}
+use Rattle.steps.specs.Runs.{coded, run-step, run-steps, Takeable, In-both}
 use Rattle.compose.specs.Walk.{keyed-step, key-steps}
 use Rattle.compose.specs.Taking.{run-left}
 use Rattle.compose.proofs.Explored.{two-origins}
-use Rattle.steps.proofs.Leaving.{state-leaving}
-use Rattle.steps.proofs.RunSteps.{runs-from, good-runs, run-append, run-skip}
-use Rattle.steps.proofs.Reading.{First, first-is, first-step, Next-step, right-from, right-to, Run-here}
+use Rattle.transducer.proofs.Leaving.{state-leaving}
+use Rattle.steps.proofs.RunSteps.{runs-from, good-runs}
+use Rattle.steps.proofs.Reading.{first-step, Next-step, right-from, right-to, Run-here}
 
 -- The two origins of an arc stored, or left out where there is no room for the arc.
 module _ (arcs : ℕ) (o : Origin) (origins : List ℕ) where
@@ -90,54 +88,6 @@ module _ (u : Transducer) (r : Run) (to j : ℕ) where
   pub run-left-none : to ≤ j → run-left u r to j ≡ []
   unfolding run-steps
   run-left-none end = let none : to - j ≡ 0 = omega arith in rw none
-
--- A part ends behind right arc j or at the end.
-pub part-bounds : (one : Bool) (j to stop : ℕ) → j < to → stop ≡ cond one (j + 1) to → (j < stop) × (stop ≤ to)
-part-bounds true j to stop l is = (omega arith, omega arith)
-part-bounds false j to stop l is = (omega arith, omega arith)
-
--- A run in parts: the steps up to below `stop`, and those from the next right arc on that fits.
-module _ (u : Transducer) (r : Run) (together : r .alone ≡ false) (to j stop : ℕ) (begun : j ≤ stop) (within : stop ≤ to) where
-  pub run-left-split : run-left u r to j ≡ run-left u r stop j ++ run-left u r to stop
-  run-left-split =
-      let all : to - j ≡ stop - j + (to - stop) = omega arith in
-      let there : j + (stop - j) ≡ stop = omega arith in
-      ap (λ (ss : List Step). map keyed-step ss) (rw (← all, there) at (run-append u r (stop - j) (to - stop) j))
-      ∙ map-append keyed-step (run-steps u r (stop - j) j) (run-steps u r (to - stop) stop)
-
-  pub run-left-part : (k : ℕ) → k ≡ fitting-from u (r .label) (to - stop) stop → run-left u r to j ≡ run-left u r stop j ++ run-left u r to k
-  run-left-part k is =
-      let first : First u (fits u (r .label)) stop to k = rw is (first-is u (fits u (r .label)) stop to within) in
-      run-left-split
-      ∙ ap (λ (ss : List Step). run-left u r stop j ++ map keyed-step ss)
-      (run-skip u r together stop k to (first .least) (first .most) (first .before))
-
-  -- The part can be taken, and so can the rest.
-  pub part-ready : Takeable u r j to → j < stop → Takeable u r j stop
-  part-ready ready l =
-      record {
-        target-fits = ready .target-fits;
-        weight-fits = ready .weight-fits;
-        inside = λ e. omega (arith, ready .inside e);
-        single = λ e. never (rw together at e);
-        fits-here = λ h. ready .fits-here (omega arith);
-      }
-
-  pub rest-ready : Takeable u r j to → (k : ℕ) → k ≡ fitting-from u (r .label) (to - stop) stop → Takeable u r k to
-  rest-ready ready k is =
-      let first : First u (fits u (r .label)) stop to k = rw is (first-is u (fits u (r .label)) stop to within) in
-      record {
-        target-fits = ready .target-fits;
-        weight-fits = ready .weight-fits;
-        inside = ready .inside;
-        single = λ e. never (rw together at e);
-        fits-here = λ h. rw together (first .passes h);
-      }
-
-  pub rest-past : (k : ℕ) → k ≡ fitting-from u (r .label) (to - stop) stop → stop ≤ k
-  rest-past k is =
-      let first : First u (fits u (r .label)) stop to k = rw is (first-is u (fits u (r .label)) stop to within) in
-      first .least
 
 -- Where the arcs of a composed state's parts stand: the left ones from `first` to below `last`, the right ones up to below `to`.
 pub record Placed (t u : Transducer) (x : State) (first last to : ℕ) : Type 0 where

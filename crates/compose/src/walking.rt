@@ -4,14 +4,12 @@ ghost use mathlib.Core.Bool.{true, false, cond};
 ghost use Prim.Native.Nat.{_≤_, _<_};
 ghost use lib.ListN.{length, getD};
 ghost use Rattle.transducer.specs.Format.{max-states, max-bytes, max-origins, decode};
-ghost use Rattle.transducer.specs.Path.{arc};
-ghost use Rattle.transducer.specs.Each.{named};
 ghost use Rattle.transducer.specs.Leaf.{Opened};
 ghost use Rattle.explore.specs.Walk.{all-taken, state-served, traced-by, Records, Walk-says};
 ghost use Rattle.steps.specs.Steps.{first-state, origin-pair};
-ghost use Rattle.steps.specs.Lookup.{Again, Rest};
+ghost use Rattle.steps.specs.Lookup.{Again};
 ghost use Rattle.steps.specs.Packing.{pack, unpacked};
-ghost use Rattle.steps.specs.Runs.{Takeable, Linked, In-both};
+ghost use Rattle.steps.specs.Runs.{Takeable, In-both};
 ghost use Rattle.compose.specs.Walk.{key-steps, key-walk, Walkable};
 ghost use Rattle.compose.specs.Taking.{run-left, Holds, Takes};
 use explore::BUCKETS;
@@ -111,7 +109,7 @@ fn take_one(
     record_step(table, origins, next, source, s, number)
 }
 
-// Takes the steps of a run along the links of right arcs, from a state of number `source`; the first of them with right arc `from`.
+// Takes the steps of a run with right arcs, from a state of number `source`; the first of them with right arc `from`.
 fn take_each(
     right: &[u8],
     rfirst: usize,
@@ -127,8 +125,7 @@ fn take_each(
     heads: &mut [u16; BUCKETS],
     links: &mut [u16; MAX_STATES],
 ) -> Walk
-    requires { ⌜ Opened (now right) rfirst × Linked (decode (now right)) (r .label) (now again) from to × Takeable (decode (now right)) r from to
-        × (r .alone ≡ false) ⌝ }
+    requires { ⌜ Opened (now right) rfirst × Again (decode (now right)) 0 (now again) × Takeable (decode (now right)) r from to × (r .alone ≡ false) ⌝ }
     requires { ⌜ Holds w (now table) (now origins) (now states) (now heads) (now links) ⌝ }
     ensures { λ z. ⌜ Takes (all-taken source (run-left (decode (now (right .entry))) r to from)) w z (now (table .entry)) (now (table .exit))
         (now (origins .entry)) (now (origins .exit)) (now (states .entry)) (now (states .exit))
@@ -159,6 +156,7 @@ fn take_each(
             next = links[next] as usize;
         };
         walk = record_step(table, origins, walk, source, s, number);
+        // The arcs of a state that fit a label all read the same.
         let link = again[j] as usize;
         if link == 0 {
             return walk;
@@ -168,13 +166,11 @@ fn take_each(
     walk
 }
 
-// Takes the steps of a run. One alone is told from the others once, not at each step. Where right arcs for any symbol may fit too, each step is a part by
-// itself, since links lead past arcs of the other kind. So the steps' own loop has no test of it.
+// Takes the steps of a run. One alone is told from the others once, not at each step.
 fn take_run(
     right: &[u8],
     rfirst: usize,
     again: &[u16; MAX_ARCS],
-    exact: bool,
     r: Run,
     source: u16,
     from: usize,
@@ -186,9 +182,7 @@ fn take_run(
     heads: &mut [u16; BUCKETS],
     links: &mut [u16; MAX_STATES],
 ) -> Walk
-    requires { ⌜ Opened (now right) rfirst × Again (decode (now right)) 0 (now again) × Takeable (decode (now right)) r from to
-        × (exact ≡ true → named (decode (now right)) ≡ true)
-        × (r .alone ≡ false → from < to → Rest (decode (now right)) (arc (decode (now right)) from .source) from to) ⌝ }
+    requires { ⌜ Opened (now right) rfirst × Again (decode (now right)) 0 (now again) × Takeable (decode (now right)) r from to ⌝ }
     requires { ⌜ Holds w (now table) (now origins) (now states) (now heads) (now links) ⌝ }
     ensures { λ z. ⌜ Takes (all-taken source (run-left (decode (now (right .entry))) r to from)) w z (now (table .entry)) (now (table .exit))
         (now (origins .entry)) (now (origins .exit)) (now (states .entry)) (now (states .exit))
@@ -210,33 +204,21 @@ fn take_run(
             links,
         );
     }
-    let label = r.label;
-    let mixed = !exact & (label != 0);
-    let mut walk = w;
-    let mut j = from;
-    while j < to {
-        let stop = steps::links_end(mixed, j, to);
-        walk = take_each(
-            right,
-            rfirst,
-            again,
-            r,
-            source,
-            j,
-            stop,
-            walk,
-            table,
-            origins,
-            states,
-            heads,
-            links,
-        );
-        if walk.full != 0 {
-            return walk;
-        }
-        j = steps::next_fit(right, rfirst, mixed, label, stop, to);
-    }
-    walk
+    take_each(
+        right,
+        rfirst,
+        again,
+        r,
+        source,
+        from,
+        to,
+        w,
+        table,
+        origins,
+        states,
+        heads,
+        links,
+    )
 }
 
 // The right arc behind those of a run that begins there: a left arc alone takes none, and counts as one.
@@ -282,6 +264,7 @@ fn serve(
     let q = x.right as usize;
     let to = rindex[q + 1] as usize;
     let last = lindex[p + 1] as usize;
+    let wild = steps::first_any(right, rfirst, rheads, chain, exact, q as u16, to);
     let mut walk = w;
     let mut i = lindex[p] as usize;
     while i <= last {
@@ -295,8 +278,8 @@ fn serve(
             rfirst,
             rheads,
             chain,
-            exact,
             q as u16,
+            wild,
             to,
         );
         let r = steps::run_of(left, lfirst, at, last, x);
@@ -305,7 +288,6 @@ fn serve(
             right,
             rfirst,
             again,
-            exact,
             r,
             source as u16,
             at.j,

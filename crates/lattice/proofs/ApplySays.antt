@@ -1,7 +1,7 @@
 -- The answers of applying: which refusal it is, and what is said and left behind; one law for each answer, in the order of the tests.
 -- Assumes nothing.
 use mathlib.Core.Path.{_≡_, refl, sym, ap, _∙_}
-use mathlib.Core.Bool.{true, false}
+use mathlib.Core.Bool.{Bool, true, false}
 use mathlib.Core.List.{List, []}
 use Prim.Native.Nat.{ℕ, _≤_, _<_}
 use native.Mathlib.Omega.{arith}
@@ -12,6 +12,7 @@ use Rattle.wire.specs.Bytes.{filled}
 use Rattle.transducer.specs.declared.Written.{Written}
 use Rattle.transducer.specs.Format.{max-states, max-arcs, max-bytes, refusal, decode}
 use Rattle.transducer.specs.Encode.{encode}
+use Rattle.transducer.specs.Each.{named}
 use Rattle.transducer.specs.Entry.{or-else, unless}
 use Rattle.transducer.proofs.Most.{refusal-most}
 use Rattle.explore.specs.Explore.{built-refusal}
@@ -110,8 +111,16 @@ module _ (cs bs a b c : List ℕ) where
       says-pairs p q h = short (rw (le-ltb (length a) max-bytes p, le-ltb (length b) max-arcs q, lt-ltb (length c) max-states h))
 
       module _ (p : max-bytes ≤ length a) (q : max-arcs ≤ length b) (s : max-states ≤ length c) where
-        pub ready : Apply-asks cs bs (length a) (length b) (length c)
-        ready = record { good = sym string; accepted = accepted; lattice-long = p; origins-long = q; pairs-long = s }
+        pub ready : (exact : Bool) → exact ≡ named (decode bs) → Apply-asks cs bs exact (length a) (length b) (length c)
+        ready exact told =
+            record {
+              good = sym string;
+              all-named = λ e. sym told ∙ e;
+              accepted = accepted;
+              lattice-long = p;
+              origins-long = q;
+              pairs-long = s;
+            }
 
         into : number ≡ built-refusal (applied cs (decode bs) .result)
         unfolding apply-refusal or-else apply-room

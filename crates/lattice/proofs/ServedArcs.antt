@@ -13,15 +13,16 @@ use Rattle.transducer.specs.declared.Arc.{Arc}
 use Rattle.transducer.specs.Format.{max-states, max-arcs, any, Transducer, Good}
 use Rattle.transducer.specs.Path.{arc}
 use Rattle.transducer.specs.Each.{fits, passed}
-use Rattle.transducer.specs.Leaf.{arcs-below, Indexed}
-use Rattle.transducer.proofs.Fits.{fits-empty, fits-either, reads-fits, passed-output}
+use Rattle.transducer.specs.Leaf.{arcs-below, Indexed, Leaving}
+use Rattle.transducer.proofs.Fits.{fits-empty, reads-fits, passed-output}
 use Rattle.transducer.proofs.GoodParts.{good-parts}
 use Rattle.transducer.proofs.Labels.{arc-unbarred}
+use Rattle.transducer.proofs.Leaving.{state-leaving}
 use Rattle.transducer.proofs.Ranges.{from-to, map-from-to, each-arc-range, arcs-below-length}
 use Rattle.explore.specs.declared.Walk.{Walk}
 use Rattle.explore.specs.Explore.{place}
 use Rattle.explore.specs.Walk.{Keyed, keyed, Sofar, taken, all-taken, state-served, traced-by, Walked, Went}
-use Rattle.wire.proofs.Bool.{by-test, is-false}
+use Rattle.wire.proofs.Bool.{by-test}
 use Rattle.explore.proofs.Walking.{Taking, taking-state, taking-over, taking-part, taking-full, taking-stop}
 use Rattle.lattice.specs.declared.State.{State}
 use Rattle.lattice.specs.Apply.{string-good, step, arc-steps, steps}
@@ -52,14 +53,6 @@ taken-over source number s {b} {w} {table} {origins} {states} {heads} {links} k 
     let g : Taking 1 source (s ∷ []) (taken source s b) w table origins states heads links = record { sofar = b; walked = k; leads = refl } in
     taking-over g s [] refl number is full
 
--- The test of an input against a symbol.
-module _ (t : Transducer) (a : Arc) (input symbol : ℕ) (is : a .input ≡ input) (other : input ≡ symbol → ⊥) where
-  pub fits-no-symbol : symbol ≡ 0 → false ≡ fits t symbol a
-  fits-no-symbol z = sym (is-false (fits t symbol a) (λ h. other (sym is ∙ fits-empty t a (rw z at h) ∙ sym z)))
-
-  pub fits-any : (symbol ≡ 0 → ⊥) → eqb input any ≡ fits t symbol a
-  fits-any some = sym (fits-either t symbol a some ∙ (rw (is, ne-eqb input symbol other)))
-
 -- The arcs of a state
 
 module _ (t : Transducer) (index : List ℕ) (indexed : Indexed t index) (q : ℕ) (l : q < t .states) where
@@ -74,6 +67,9 @@ module _ (t : Transducer) (index : List ℕ) (indexed : Indexed t index) (q : �
     omega (arith, index-first, arcs-below-length q (t .arcs)),
     omega (arith, index-last, arcs-below-length (suc q) (t .arcs)),
   )
+
+  pub index-leaving : Good t → Leaving t q (getD index q 0) (getD index (q + 1) 0)
+  index-leaving good = rw (index-first, index-last) (state-leaving t q good)
 
 -- What comes of the arc of number i, and of the arcs from i to below `end`.
 unfoldable pub arc-next : (cs : List ℕ) → Transducer → State → (i : ℕ) → List Keyed
@@ -118,6 +114,11 @@ module _ (cs : List ℕ) (t : Transducer) (x : State) (good : Good t) (i : ℕ) 
   reads-itself string e =
       by-test (eqb (a .input) 0) (λ h. reads-nothing (eqb-true (a .input) 0 h))
       (λ h. reads-some (eqb-false (a .input) 0 h) (reads-fits t (symbol-of cs x) a e) (from ∙ e) (own-output (omega (arith, e, symbol-below cs x string))))
+
+-- What is said of the arc of a number is said of that arc.
+pub fits-number : (t : Transducer) (s i label : ℕ) (a : Arc) → a ≡ arc t i
+    → fits t s (arc t i) ≡ eqb (arc t i .input) label → fits t s a ≡ eqb (a .input) label
+fits-number t s i label a is h = rw is h
 
 -- An arc as it reads a symbol, 0 for none, with another source.
 abbrev pub reading : (source symbol : ℕ) → Arc → Arc

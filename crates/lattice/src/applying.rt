@@ -6,9 +6,7 @@ ghost use Prim.Native.Nat.{ℕ, _≤_, _<_};
 ghost use lib.Dec.{ltb, eqb};
 ghost use lib.ListN.{length, getD, take};
 ghost use lib.Seq.{sets};
-ghost use Rattle.transducer.specs.declared.Arc.{Arc};
-ghost use Rattle.transducer.specs.Format.{Transducer, max-states, max-arcs, max-bytes, head-bytes, arcs-at, decode};
-ghost use Rattle.transducer.specs.Each.{fits};
+ghost use Rattle.transducer.specs.Format.{max-states, max-arcs, max-bytes, head-bytes, arcs-at, decode};
 ghost use Rattle.transducer.specs.Encode.{final-records};
 ghost use Rattle.explore.specs.Explore.{built-refusal};
 ghost use Rattle.explore.specs.Walk.{Sofar, taken, state-served, Walked, Went, Walk-says, Told};
@@ -19,7 +17,6 @@ ghost use Rattle.lattice.specs.Applying.{next, arc-keyed, found, Applica
 ghost use Rattle.lattice.specs.Applying.{Apply-asks, Refused-with};
 use crate::packing;
 use explore::Walk;
-use transducer::ANY;
 use transducer::ARC_BYTES;
 use transducer::Arc;
 use transducer::BARRED;
@@ -59,17 +56,6 @@ fn symbol_at(string: &[u16], position: usize) -> u16
         return string[position];
     }
     0
-}
-
-// Whether an arc of this input, which is not the symbol itself, fits a symbol, 0 standing for none.
-fn fits_unnamed(input: u16, symbol: u16) -> bool
-    requires { ⌜ (input ≡ symbol → ⊥) ⌝ }
-    ensures { λ r. ⌜ ((t : Transducer) (a : Arc) → a .input ≡ input → r ≡ fits t symbol a) ⌝ }
-{
-    if symbol == 0 {
-        return false;
-    }
-    input == ANY
 }
 
 // How far a step moves that reads a symbol, 0 standing for none.
@@ -122,10 +108,12 @@ fn take_step(
     explore::record_arc(table, walk, made)
 }
 
-// Serves the state of number `source`: takes the step of each of its arcs that reads nothing or fits the symbol at its position.
+// Serves the state of number `source`: takes the step of each of its arcs that reads nothing or fits the symbol at its position. What the arcs that fit it
+// read is told before, so that the loop tests one label and calls nothing for it.
 fn serve(
     string: &[u16],
     bytes: &[u8],
+    exact: bool,
     first: usize,
     index: &[u16; MAX_STATES + 1],
     source: usize,
@@ -136,7 +124,7 @@ fn serve(
     heads: &mut [u16; MAX_STATES],
     links: &mut [u16; MAX_STATES],
 ) -> Walk
-    requires { ⌜ Applicable (now string) (now bytes) first (now index) × (source < w .states)
+    requires { ⌜ Applicable (now string) (now bytes) exact first (now index) × (source < w .states)
         × State-in (now string) (decode (now bytes)) (unpacked (getD (now states) source 0)) ⌝ }
     requires { ⌜ ((b : Sofar) × Walked 1 b w (now table) (now origins) (now states) (now heads) (now links)) ⌝ }
     ensures { λ z. ⌜ ((b : Sofar) → Walked 1 b w (now (table .entry)) (now (origins .entry)) (now (states .entry)) (now (heads .entry)) (now (links .entry)) →
@@ -150,6 +138,7 @@ fn serve(
     let symbol = symbol_at(string, position as usize);
     let end = index[q + 1] as usize;
     let mut i = index[q] as usize;
+    let label = transducer::label_at(bytes, first, exact, i, end, symbol);
     let mut walk = w;
     while i < end {
         let a = transducer::arc_of(bytes, first, i);
@@ -158,11 +147,12 @@ fn serve(
         let input = a.input;
         let mut read = input;
         let mut output = a.output;
-        if input != symbol {
+        if input != label {
             if input != 0 {
-                if !fits_unnamed(input, symbol) {
-                    continue;
-                }
+                continue;
+            }
+        } else {
+            if input != symbol {
                 read = symbol;
                 output = transducer::passed(symbol, a);
             }
@@ -187,6 +177,7 @@ fn serve(
 fn walk_all(
     string: &[u16],
     bytes: &[u8],
+    exact: bool,
     first: usize,
     index: &[u16; MAX_STATES + 1],
     start: u32,
@@ -194,7 +185,7 @@ fn walk_all(
     origins: &mut [u16],
     states: &mut [u32],
 ) -> Walk
-    requires { ⌜ Applicable (now string) (now bytes) first (now index) × (start ≡ decode (now bytes) .start) ⌝ }
+    requires { ⌜ Applicable (now string) (now bytes) exact first (now index) × (start ≡ decode (now bytes) .start) ⌝ }
     requires { ⌜ (max-bytes ≤ length (now table)) × (max-arcs ≤ length (now origins)) × (max-states ≤ length (now states)) ⌝ }
     ensures { λ r. ⌜ Walk-says 1 (found (now (string .entry)) (decode (now (bytes .entry)))) r (now (table .entry)) (now (table .exit))
         (now (origins .entry)) (now (origins .exit)) (now (states .entry)) (now (states .exit)) ⌝ }
@@ -214,6 +205,7 @@ fn walk_all(
         walk = serve(
             string,
             bytes,
+            exact,
             first,
             index,
             s,
@@ -325,15 +317,16 @@ fn refuse(lattice: &mut [u8], origins: &mut [u16], pairs: &mut [u32], number: u3
     transducer::refused(number)
 }
 
-// Applies a good string to an accepted transducer, into buffers that are long enough.
+// Applies a good string to an accepted transducer, into buffers that are long enough; `exact` only where no arc is for any symbol.
 fn apply_into(
     string: &[u16],
     bytes: &[u8],
+    exact: bool,
     lattice: &mut [u8],
     origins: &mut [u16],
     pairs: &mut [u32],
 ) -> Written
-    requires { ⌜ Apply-asks (now string) (now bytes) (length (now lattice)) (length (now origins)) (length (now pairs)) ⌝ }
+    requires { ⌜ Apply-asks (now string) (now bytes) exact (length (now lattice)) (length (now origins)) (length (now pairs)) ⌝ }
     ensures { λ r. ⌜ Apply-says (now (string .entry)) (now (bytes .entry)) (built-refusal (applied (now (string .entry)) (decode (now (bytes .entry))) .result))
         r (now (lattice .entry)) (now (lattice .exit)) (now (origins .entry)) (now (origins .exit)) (now (pairs .entry)) (now (pairs .exit)) ⌝ }
 {
@@ -351,6 +344,7 @@ fn apply_into(
     let w = walk_all(
         string,
         bytes,
+        exact,
         first,
         &index,
         head.start,
@@ -391,7 +385,8 @@ pub fn apply(
         (apply-refusal (now (string .entry)) (now (table .entry)) (length (now (lattice .entry))) (length (now (origins .entry))) (length (now (pairs .entry))))
         r (now (lattice .entry)) (now (lattice .exit)) (now (origins .entry)) (now (origins .exit)) (now (pairs .entry)) (now (pairs .exit)) ⌝ }
 {
-    let number = transducer::refusal(table);
+    let looked = transducer::look(table, false);
+    let number = looked.refusal;
     if number != 0 {
         return transducer::refused(number);
     }
@@ -407,5 +402,6 @@ pub fn apply(
     if pairs.len() < MAX_STATES {
         return transducer::refused(10);
     }
-    apply_into(string, table, lattice, origins, pairs)
+    let exact = transducer::all_named(table, looked.named);
+    apply_into(string, table, exact, lattice, origins, pairs)
 }

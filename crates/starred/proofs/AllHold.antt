@@ -15,7 +15,7 @@ use Rattle.transducer.specs.Format.{head-states, head-arcs, head-finals, head-s
 use Rattle.transducer.specs.Format.{all-labels-good, weights-good, first-of, content-refusal, refusal}
 use Rattle.transducer.specs.Encode.{weight-bytes, head-record, final-record, arc-record, final-records, arc-records, encode}
 use Rattle.transducer.specs.Path.{is-final, final-weight, arc, ends, non-empty, written-by, arcs-cost, path-cost}
-use Rattle.transducer.specs.Each.{by-number, each-arc, fits, passed, named, any-refusal}
+use Rattle.transducer.specs.Each.{by-number, each-arc, unnamed, fits, passed, named, any-refusal}
 use Rattle.transducer.specs.Entry.{or-else}
 use Rattle.transducer.proofs.RoundTrip.{refusal-encode, decode-encode}
 use Rattle.codec.specs.Entry.{arc-fields, read-room, read-refusal}
@@ -82,10 +82,10 @@ unfolding two four low signed-four signed-low places every framed-from framed re
     weight-good labels-good finals-in
     arcs-in head-states head-arcs head-finals head-start decode head-good states-good finals-rise sources-stay order-good all-labels-good weights-good
     first-of content-refusal refusal weight-bytes head-record final-record arc-record final-records arc-records encode is-final final-weight arc ends
-    non-empty written-by arcs-cost path-cost by-number each-arc fits passed named any-refusal or-else arc-fields read-room read-refusal there place met served
-    numbered targets arcs-here arcs-from finals-from steps-from built built-refusal all-origins same-state left-alone right-alone both-step left-steps
-    right-steps steps first-state final-state state-weight composed left-origin right-origin origin-pair origin-pairs compose-room compose-refusal
-    string-good step arc-steps applied same-position applied-steps final-position entered some-arc accessible coaccessible useful
+    non-empty written-by arcs-cost path-cost by-number each-arc unnamed fits passed named any-refusal or-else arc-fields read-room read-refusal there
+    place met served numbered targets arcs-here arcs-from finals-from steps-from built built-refusal all-origins same-state left-alone right-alone both-step
+    left-steps right-steps steps first-state final-state state-weight composed left-origin right-origin origin-pair origin-pairs compose-room
+    compose-refusal string-good step arc-steps applied same-position applied-steps final-position entered some-arc accessible coaccessible useful
     arc-useful renumbered kept-arcs kept-finals kept-numbers trimmed origins-kept lattice lattice-origins apply-room apply-refusal before paths-from
     paths
     goes-on endless path-count nth-path count-refusal nth-refusal size-of nearer nearer-path better best-of best shortest some-leaving falls-to

@@ -1,4 +1,5 @@
--- The starred cases of paper 01 ("On either side of each limit"): for each a row with the bytes in, the answer and the bytes out.
+-- The starred cases of paper 01 ("On either side of each limit"), and the example of paper 02's Point 6: for each a row with the bytes in, the answer and
+-- the bytes out.
 -- Assumes nothing: these are definitions.
 use mathlib.Core.List.{List, [], _∷_, _++_}
 use Prim.Native.Nat.{ℕ, zero, suc}
@@ -20,6 +21,12 @@ weight-400000 = 128 ∷ 26 ∷ 6 ∷ 0 ∷ []
 
 abbrev pub weight-400001 : List ℕ
 weight-400001 = 129 ∷ 26 ∷ 6 ∷ 0 ∷ []
+
+abbrev pub weight-4 : List ℕ
+weight-4 = 4 ∷ 0 ∷ 0 ∷ 0 ∷ []
+
+abbrev pub weight-1 : List ℕ
+weight-1 = 1 ∷ 0 ∷ 0 ∷ 0 ∷ []
 
 -- One arc from state 0 to state 1, which is final; an arc has two labels and the four bytes of a weight.
 abbrev pub one-arc : (input output : ℕ) → (weight : List ℕ) → List ℕ
@@ -90,6 +97,14 @@ last-text =
     114 ∷ 101 ∷ 97 ∷ 100 ∷ 105 ∷ 110 ∷ 103 ∷ 115 ∷ 32 ∷ 49 ∷ 10  -- readings 1
     ∷ 48 ∷ 32 ∷ 49 ∷ 49 ∷ 32 ∷ 52 ∷ 32 ∷ 53 ∷ 10 ∷ []  -- 0 11 4 5
 
+-- Paper 02's example of Point 6: a named arc, and one for any symbol that passes it on.
+abbrev pub named-and-any : List ℕ
+named-and-any =
+    8 ∷ 0 ∷ 1 ∷ 0 ∷ 2 ∷ 0 ∷ 2 ∷ 0 ∷ 1 ∷ 0 ∷ 0 ∷ 0  -- 2 states, 2 arcs, 1 final, start 0
+    ∷ 6 ∷ 0 ∷ 2 ∷ 0 ∷ 1 ∷ 0 ∷ 0 ∷ 0 ∷ 0 ∷ 0  -- state 1 final, 0
+    ∷ 12 ∷ 0 ∷ 3 ∷ 0 ∷ 0 ∷ 0 ∷ 6 ∷ 0 ∷ 6 ∷ 0 ∷ 1 ∷ 0 ∷ 4 ∷ 0 ∷ 0 ∷ 0  -- 0 to 1, 6:6, weight 4
+    ∷ 12 ∷ 0 ∷ 3 ∷ 0 ∷ 0 ∷ 0 ∷ 255 ∷ 255 ∷ 255 ∷ 255 ∷ 1 ∷ 0 ∷ 1 ∷ 0 ∷ 0 ∷ 0 ∷ []  -- 0 to 1, 65535:65535, weight 1
+
 -- The table. Rows that read bytes tell what stands in them, in the words of paper 01. Any three bytes serve for the second row.
 abbrev pub cases : (x y z : ℕ) → List Case
 cases x y z =
@@ -137,4 +152,12 @@ cases x y z =
     ∷ (counting last-lattice gives counts 1)
     ∷ (kth-path last-lattice 0 gives tells 11 (0 ∷ 1 ∷ 2 ∷ []) (4 ∷ 5 ∷ []))
     ∷ (listing last-left last-right (1 ∷ 0 ∷ 3 ∷ 0 ∷ []) gives lists 0 last-text)
+    -- Paper 02, Point 6: 6:6 of weight 4 and any:any of weight 1 into a final state of weight 0. Code 6 has one reading, of 4; code 7 one, of 1.
+    ∷ (reading named-and-any gives reads 2 2 1 0 (1 ∷ []) (0 ∷ []) (0 ∷ 6 ∷ 6 ∷ 1 ∷ 0 ∷ 65535 ∷ 65535 ∷ 1 ∷ []) (4 ∷ 1 ∷ []))
+    ∷ (applying (6 ∷ []) named-and-any gives writes 38 (one-arc 6 6 weight-4) (0 ∷ []))
+    ∷ (counting (one-arc 6 6 weight-4) gives counts 1)
+    ∷ (shortest-path (one-arc 6 6 weight-4) gives tells 4 (0 ∷ []) (6 ∷ []))
+    ∷ (applying (7 ∷ []) named-and-any gives writes 38 (one-arc 7 7 weight-1) (1 ∷ []))
+    ∷ (counting (one-arc 7 7 weight-1) gives counts 1)
+    ∷ (shortest-path (one-arc 7 7 weight-1) gives tells 1 (0 ∷ []) (7 ∷ []))
     ∷ []

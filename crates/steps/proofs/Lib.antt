@@ -7,8 +7,7 @@ pub mod SameState
 pub mod Packing
 -- The same steps as runs, and the next run from a left arc on.
 pub mod RunSteps
-pub mod Leaving
 pub mod Reading
--- What the code relies on: arcs read in place, and the look-up of right arcs.
+-- What the code relies on: the search for a run, and the look-up of right arcs.
 pub mod RunCode
 pub mod Links

@@ -1,31 +1,29 @@
 -- Laws of the look-up: the first place that passes a test, the search along a chain, the chains as they are filled from the last arc to the
 -- first, what links say of `reading-from`, and that of `fitting-from`. Assumes nothing.
 use mathlib.Core.Path.{_≡_, refl, sym, ap, _∙_}
-use mathlib.Core.Bool.{Bool, true, false, _&&_, not, cond}
-use mathlib.Core.Logic.{_⊎_, inl, inr}
+use mathlib.Core.Bool.{Bool, true, false}
 use mathlib.Core.List.{List}
-use Prim.Native.Nat.{ℕ, zero, suc, _+_, _*_, _-_, _≤_, _<_, min}
+use Prim.Native.Nat.{ℕ, zero, suc, _+_, _*_, _-_, _≤_, _<_}
 use native.Mathlib.Decide.{ℕ-discrete, decLe}
-use native.Mathlib.Numerals.{add-one}
 use native.Mathlib.Omega.{arith}
-use lib.Dec.{eqb, ltb}
+use lib.Dec.{eqb}
 use lib.ListN.{length, getD, set, replicate, length-set, length-replicate, getD-replicate}
 use lib.Seq.{getD-set-same, getD-set-other}
-use borrow.Author.Tests.{eqb-true, eqb-false, eq-eqb, ne-eqb, ltb-true, ltb-false, not-true}
+use borrow.Author.Tests.{eqb-true, eq-eqb, ne-eqb}
 use Rattle.wire.proofs.Low.{two-below}
-use Rattle.wire.proofs.Bool.{by-test, clash, is-false, and-true, or-true}
+use Rattle.wire.proofs.Bool.{by-test, clash, is-false, and-true}
 use Rattle.wire.specs.Bytes.{Bytes, four}
 use Rattle.transducer.specs.Format.{Transducer, any, decode}
-use Rattle.transducer.specs.Leaf.{Opened}
+use Rattle.transducer.specs.Leaf.{Opened, Rest, Leaving}
 use Rattle.transducer.specs.Path.{arc}
-use Rattle.transducer.specs.Each.{fits, named}
-use Rattle.transducer.proofs.Fits.{fits-none, fits-named, fits-either, fits-reads, fits-empty, reads-fits, any-fits, named-input}
-use Rattle.steps.specs.Lookup.{label-bucket, reads, in-bucket, first-of, first-from, Heads, Chain, Again, Lookup, Leads, Rest, Leaving}
+use Rattle.transducer.specs.Each.{unnamed, fits, label-at, named}
+use Rattle.transducer.proofs.Fits.{named-input, label-none, label-named, label-any, fits-label}
+use Rattle.steps.specs.Lookup.{label-bucket, reads, in-bucket, first-of, first-from, Heads, Chain, Again, Lookup, Leads}
 use Rattle.steps.specs.declared.Run.{Run}
-use Rattle.steps.specs.Runs.{first-at, fitting-from, reading-from, Takeable, Linked}
-use Rattle.steps.proofs.Leaving.{rest-from, rest-at}
-use Rattle.steps.proofs.RunCode.{source-in-place, input-in-place}
-use Rattle.steps.proofs.Reading.{First, first-is, first-unique, first-at-same, Next-step, next-together, next-past}
+use Rattle.steps.specs.Runs.{fitting-from, reading-from, Takeable}
+use Rattle.transducer.proofs.Leaving.{rest-from, leaving-unnamed}
+use Rattle.transducer.proofs.Opened.{source-in-place, input-in-place}
+use Rattle.steps.proofs.Reading.{First, first-is, first-unique, first-at-within, Next-step, next-together}
 
 -- first-of
 
@@ -372,169 +370,80 @@ module _ {u : Transducer} {again : List ℕ} (a : Again u 0 again) (j to : ℕ) 
       let e : suc (getD again j 0 - 1) ≡ getD again j 0 = omega arith in
       link-some (arc u j .input) (rest-from (suc j) r (omega arith) l) (getD again j 0 - 1) (e ∙ repeats)
 
+  pub repeat-most : getD again j 0 ≤ length (u .arcs)
+  repeat-most =
+      let most = first-most (reads u (arc u j .source) (arc u j .input)) (length (u .arcs) - suc j) (suc j) in
+      omega (arith, repeats, most, r .within)
+
 -- What fits, by what reads
 
-module _ (u : Transducer) (label n i k : ℕ) where
-  -- Where no arc is for any symbol, and for the empty label, what fits is what reads.
-  pub exact-first : named u ≡ true → k ≡ reading-from u label n i → k ≡ fitting-from u label n i
-  exact-first all e =
-      e ∙ sym (first-at-same u (fits u label) (λ a. eqb (a .input) label) (λ j. fits-named u label (arc u j) (named-input u all j)) n i)
+-- The arcs of a state that fit a label are those that read one label.
+module _ {u : Transducer} {q from to : ℕ} (label : ℕ) (r : Rest u q from to) where
+  pub fitting-label : fitting-from u label (to - from) from ≡ reading-from u (label-at u q label) (to - from) from
+  fitting-label =
+      first-at-within u (fits u label) (λ a. eqb (a .input) (label-at u q label)) (to - from) from
+      (λ j p h. fits-label u q label j (omega (arith, r .order, r .within)) (r .sources j p (omega (arith, r .order))))
 
-  pub empty-first : label ≡ 0 → k ≡ reading-from u label n i → k ≡ fitting-from u label n i
-  empty-first z e = e ∙ sym (first-at-same u (fits u label) (λ a. eqb (a .input) label) (λ j. rw z (fits-none u (arc u j))) n i)
+-- The first that reads a label by name, where there is one.
+module _ {u : Transducer} {q from to : ℕ} (label k : ℕ) (l : Leaving u q from to) (is : k ≡ reading-from u label (to - from) from) where
+  by-label : First u (λ a. eqb (a .input) label) from to k
+  by-label = rw is (first-is u (λ a. eqb (a .input) label) from to (l .rest .order))
 
-  -- The same behind an arc that fits.
-  module _ (j : ℕ) (fitted : fits u label (arc u j) ≡ true) (e : k ≡ reading-from u (arc u j .input) n i) where
-    pub exact-next : named u ≡ true → k ≡ fitting-from u label n i
-    exact-next all =
-        let is : arc u j .input ≡ label = fits-reads u label (arc u j) (named-input u all j) fitted in
-        exact-first all (rw is at e)
+  pub named-first : k < to → k ≡ fitting-from u label (to - from) from
+  named-first h =
+      let reads : arc u k .input ≡ label = eqb-true (arc u k .input) label (by-label .passes h) in
+      let leaves : arc u k .source ≡ q = l .rest .sources k (by-label .least) h in
+      let same : label-at u q label ≡ label = label-named u q label k (omega (arith, l .rest .within)) leaves reads in
+      is ∙ sym (fitting-label label (l .rest) ∙ ap (λ (x : ℕ). reading-from u x (to - from) from) same)
 
-    pub empty-next : label ≡ 0 → k ≡ fitting-from u label n i
-    empty-next z =
-        let is : arc u j .input ≡ label = fits-empty u (arc u j) (rw z at fitted) ∙ sym z in
-        empty-first z (rw is at e)
+  -- Where there is none, the first for any symbol.
+  pub wild-first : to ≤ k → (label ≡ 0 → ⊥) → (w : ℕ) → w ≡ reading-from u any (to - from) from → w ≡ fitting-from u label (to - from) from
+  wild-first h some w w-is =
+      let free : unnamed u q label ≡ true =
+      leaving-unnamed label l (λ i p below reads. by-label .before i p (omega arith) (eq-eqb (arc u i .input) label reads)) in
+      w-is ∙ sym (fitting-label label (l .rest) ∙ ap (λ (x : ℕ). reading-from u x (to - from) from) (label-any u q label some free))
 
--- The links of all arcs of a state, where those that fit the label read the same; and of one arc.
-module _ {u : Transducer} {again : List ℕ} (a : Again u 0 again) (label from to : ℕ) (within : to ≤ length (u .arcs)) where
-  again-is : (j : ℕ) → j < length (u .arcs) → getD again j 0 ≡ first-from u (reads u (arc u j .source) (arc u j .input)) (suc j)
-  again-is j l = a .are j (omega arith) l
+  -- The empty label is read by name or not at all.
+  pub empty-first : label ≡ 0 → k ≡ fitting-from u label (to - from) from
+  empty-first z =
+      is ∙ sym (fitting-label label (l .rest) ∙ ap (λ (x : ℕ). reading-from u x (to - from) from) (label-none u q label z ∙ sym z))
 
-  again-few : (j : ℕ) → j < length (u .arcs) → getD again j 0 ≤ length (u .arcs)
-  again-few j l =
-      let most = first-most (reads u (arc u j .source) (arc u j .input)) (length (u .arcs) - suc j) (suc j) in
-      omega (arith, again-is j l, most)
+-- Where no arc is for any symbol, none is found for it.
+pub exact-any : {u : Transducer} {q from to : ℕ} → named u ≡ true → Leaving u q from to → to ≡ reading-from u any (to - from) from
+exact-any {u} {q} {from} {to} all l =
+    first-unique u (λ a. eqb (a .input) any) from to to (l .rest .order)
+    (record {
+      least = l .rest .order;
+      most = omega arith;
+      passes = λ h. absurd (omega arith);
+      before = λ m p h e.
+          let below : arc u m .input < any = named-input u all m in
+          let is : arc u m .input ≡ any = eqb-true (arc u m .input) any e in
+          omega arith;
+    })
 
-  pub all-linked : (from < to → Rest u (arc u from .source) from to) → (named u ≡ true) ⊎ (label ≡ 0) → Linked u label again from to
-  all-linked rest one =
-      record {
-        last = λ j p l fitted e. next j to fitted (repeat-none a j to l (here j p l) e) one;
-        more = λ j p l fitted more.
-            let k : ℕ = getD again j 0 - 1 in
-            let is : k ≡ fitting-from u label (to - suc j) (suc j) = next j k fitted (repeat-some a j to l (here j p l) more) one in
-            let most : fitting-from u label (to - suc j) (suc j) ≤ to = first-is u (fits u label) (suc j) to l .most in
-            omega (arith, is, most);
-        few = again-few;
-      }
-    where
-      here : (j : ℕ) → from ≤ j → j < to → Rest u (arc u j .source) j to
-      here j p l = rest-at j (rest (omega arith)) p l
+-- The next step of a run by the link of the right arc at hand: the arcs that fit its label all read what this one reads.
+module _ {u : Transducer} {r : Run} {again : List ℕ} (a : Again u 0 again) (j to : ℕ) (ready : Takeable u r j to) (l : j < to) (together : r .alone ≡ false)
+  where
+    rest-here : Rest u (arc u j .source) j to
+    rest-here = ready .rest together l
 
-      next : (j k : ℕ) → fits u label (arc u j) ≡ true → k ≡ reading-from u (arc u j .input) (to - suc j) (suc j) → (named u ≡ true) ⊎ (label ≡ 0)
-          → k ≡ fitting-from u label (to - suc j) (suc j)
-      next j k fitted e (inl all) = exact-next u label (to - suc j) (suc j) k j fitted e all
-      next j k fitted e (inr z) = empty-next u label (to - suc j) (suc j) k j fitted e z
+    reads-here : arc u j .input ≡ label-at u (arc u j .source) (r .label)
+    reads-here =
+        let fitted : fits u (r .label) (arc u j) ≡ true = rw together at (ready .fits-here l) in
+        eqb-true (arc u j .input) (label-at u (arc u j .source) (r .label))
+        (sym (fits-label u (arc u j .source) (r .label) j (omega (arith, rest-here .within)) refl) ∙ fitted)
 
-  pub one-linked : to ≡ from + 1 → Linked u label again from to
-  unfolding first-at
-  one-linked single =
-      record {
-        last = λ j p l fitted e. let none : to - suc j ≡ 0 = omega arith in rw none (omega arith);
-        more = λ j p l fitted more.
-            let none : to - suc j ≡ 0 = omega arith in
-            let t = told (reads u (arc u j .source) (arc u j .input)) (length (u .arcs)) (suc j) (omega arith) in
-            let least : suc j ≤ getD again j 0 - 1 = t .found (getD again j 0 - 1) (sym (again-is j (omega arith)) ∙ omega arith) .least in
-            rw none (omega arith);
-        few = again-few;
-      }
+    next-reads : (k : ℕ) → k ≡ reading-from u (arc u j .input) (to - suc j) (suc j) → k ≡ fitting-from u (r .label) (to - suc j) (suc j)
+    next-reads k e =
+        e ∙ ap (λ (x : ℕ). reading-from u x (to - suc j) (suc j)) reads-here
+        ∙ sym (fitting-label (r .label) (rest-from (suc j) rest-here (omega arith) l))
 
--- Either way, by whether arcs of two kinds may fit: then the part is one arc.
-pub mixed-some : (exact : Bool) (label : ℕ) → not exact && not (eqb label 0) ≡ true → label ≡ 0 → ⊥
-mixed-some exact label h = eqb-false label 0 (not-true (eqb label 0) (and-true (not exact) (not (eqb label 0)) h .1))
+    pub step-last : getD again j 0 ≡ 0 → Next-step u r j to to
+    step-last e = next-together u r j to to ready l together (next-reads to (repeat-none a j to l rest-here e))
 
-pub part-linked : {u : Transducer} {again : List ℕ} → Again u 0 again → (label from to : ℕ) → to ≤ length (u .arcs) → from < to
-    → Rest u (arc u from .source) from to → (exact : Bool) → (exact ≡ true → named u ≡ true) → (stop : ℕ)
-    → stop ≡ cond (not exact && not (eqb label 0)) (from + 1) to → Linked u label again from stop
-part-linked a label from to within l rest true all stop is = rw is (all-linked a label from to within (λ _. rest) (inl (all refl)))
-part-linked a label from to within l rest false all stop is =
-    by-test (eqb label 0)
-    (λ e. let whole : stop ≡ to = rw e at is in rw whole (all-linked a label from to within (λ _. rest) (inr (eqb-true label 0 e))))
-    (λ e. let one : stop ≡ from + 1 = rw e at is in one-linked a label from stop (omega arith) one)
+    pub step-more : (getD again j 0 ≡ 0 → ⊥) → Next-step u r j to (getD again j 0 - 1)
+    step-more e = next-together u r j to (getD again j 0 - 1) ready l together (next-reads (getD again j 0 - 1) (repeat-some a j to l rest-here e))
 
--- The next step of a run along such links.
-module _ {u : Transducer} {r : Run} {again : List ℕ} {from to : ℕ} (a : Linked u (r .label) again from to) (j : ℕ) (p : from ≤ j)
-    (ready : Takeable u r j to) (l : j < to) (together : r .alone ≡ false) where
-  fitted : fits u (r .label) (arc u j) ≡ true
-  fitted = rw together at (ready .fits-here l)
-
-  pub step-last : getD again j 0 ≡ 0 → Next-step u r j to to
-  step-last e = next-together u r j to to ready l together (a .last j p l fitted e)
-
-  pub step-more : (getD again j 0 ≡ 0 → ⊥) → Next-step u r j to (getD again j 0 - 1)
-  step-more more =
-      let k : ℕ = getD again j 0 - 1 in
-      let is : min k to ≡ fitting-from u (r .label) (to - suc j) (suc j) = a .more j p l fitted more in
-      by-test (ltb k to)
-      (λ e. let inside : k < to = ltb-true k to e in next-together u r j to k ready l together (omega (arith, is, inside)))
-      (λ e. let beyond : to ≤ k = ltb-false k to e in
-      next-past u r j to k beyond (next-together u r j to to ready l together (omega (arith, is, beyond))))
-
-  pub step-link : getD again j 0 ≤ length (u .arcs)
-  step-link = a .few j (omega (arith, ready .inside together))
-
--- The sooner of the first that reads a symbol and the first for any symbol.
-module _ (u : Transducer) (label from to k l : ℕ) (some : label ≡ 0 → ⊥) (order : from ≤ to) (k-is : k ≡ reading-from u label (to - from) from)
-    (l-is : l ≡ reading-from u any (to - from) from) where
-  by-name : First u (λ a. eqb (a .input) label) from to k
-  by-name = rw k-is (first-is u (λ a. eqb (a .input) label) from to order)
-
-  for-any : First u (λ a. eqb (a .input) any) from to l
-  for-any = rw l-is (first-is u (λ a. eqb (a .input) any) from to order)
-
-  neither : (m : ℕ) → from ≤ m → m < k → m < l → fits u label (arc u m) ≡ true → ⊥
-  neither m p q r h = on (or-true (eqb (arc u m .input) label) (eqb (arc u m .input) any) (sym (fits-either u label (arc u m) some) ∙ h))
-    where
-      on : (eqb (arc u m .input) label ≡ true) ⊎ (eqb (arc u m .input) any ≡ true) → ⊥
-      on (inl e) = by-name .before m p q e
-      on (inr e) = for-any .before m p r e
-
-  pub sooner-any : l < k → l ≡ fitting-from u label (to - from) from
-  sooner-any less =
-      first-unique u (fits u label) from to l order
-      (record {
-        least = for-any .least;
-        most = for-any .most;
-        passes = λ h. any-fits u label (arc u l) (eqb-true (arc u l .input) any (for-any .passes h)) some;
-        before = λ m p q. neither m p (omega arith) q;
-      })
-
-  pub sooner-named : k ≤ l → k ≡ fitting-from u label (to - from) from
-  sooner-named less =
-      first-unique u (fits u label) from to k order
-      (record {
-        least = by-name .least;
-        most = by-name .most;
-        passes = λ h. reads-fits u label (arc u k) (eqb-true (arc u k .input) label (by-name .passes h));
-        before = λ m p q. neither m p q (omega arith);
-      })
-
--- The search arc by arc has come to arc j: what is left of it gives the whole.
-pub record Scanning (u : Transducer) (label from to j : ℕ) : Type 0 where
-  pub within : j ≤ to
-  pub same : fitting-from u label (to - j) j ≡ fitting-from u label (to - from) from
-
-pub scanning-first : (u : Transducer) (label from to : ℕ) → from ≤ to → Scanning u label from to from
-scanning-first u label from to l = record { within = l; same = refl }
-
-module _ {u : Transducer} {label from to j : ℕ} (s : Scanning u label from to j) where
-  pub scanning-found : j < to → fits u label (arc u j) ≡ true → j ≡ fitting-from u label (to - from) from
-  unfolding first-at
-  scanning-found l h = let more : to - j ≡ suc (to - suc j) = omega arith in rw (more, h) at (s .same)
-
-  pub scanning-next : j < to → fits u label (arc u j) ≡ false → Scanning u label from to (j + 1)
-  unfolding first-at
-  scanning-next l h =
-      let more : to - j ≡ suc (to - suc j) = omega arith in
-      record { within = omega arith; same = rw add-one (rw (more, h) at (s .same)) }
-
-  pub scanning-stop : to ≤ j → to ≡ fitting-from u label (to - from) from
-  unfolding first-at
-  scanning-stop l =
-      let here : j ≡ to = omega (arith, s .within) in
-      let none : to - to ≡ 0 = omega arith in
-      rw (here, none) at (s .same)
-
--- An arc that reads neither the symbol nor any.
-pub reads-neither : (u : Transducer) (label j : ℕ) → (label ≡ 0 → ⊥) → (arc u j .input ≡ label → ⊥) → (arc u j .input ≡ any → ⊥)
-    → fits u label (arc u j) ≡ false
-reads-neither u label j some a b = fits-either u label (arc u j) some ∙ (rw (ne-eqb (arc u j .input) label a, ne-eqb (arc u j .input) any b))
+    pub step-link : getD again j 0 ≤ length (u .arcs)
+    step-link = repeat-most a j to l rest-here

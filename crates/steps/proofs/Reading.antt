@@ -11,21 +11,19 @@ use borrow.Author.Tests.{eqb-true, eqb-false, eq-eqb, ne-eqb, ltb-true, ltb-fals
 use Rattle.transducer.specs.declared.Arc.{Arc}
 use Rattle.transducer.specs.Format.{Transducer, Good}
 use Rattle.transducer.specs.Path.{arc}
-use Rattle.transducer.specs.Leaf.{arcs-below}
+use Rattle.transducer.specs.Leaf.{arcs-below, Rest}
 use Rattle.transducer.specs.Each.{fits}
 use Rattle.wire.proofs.Bool.{by-test, never, clash}
 use Rattle.steps.specs.declared.Begin.{Begin}
 use Rattle.steps.specs.declared.Run.{Run}
 use Rattle.steps.specs.declared.State.{State}
 use Rattle.steps.specs.declared.Step.{Step}
-use Rattle.steps.specs.Lookup.{Rest}
 use Rattle.steps.specs.Packing.{Bounded}
 use Rattle.steps.specs.Runs.{run-step, run-steps, first-at, fitting-from, begin-from, run-at, Takeable, In-both}
 use Rattle.transducer.proofs.RoundTrip.{good-range, good-content}
 use Rattle.transducer.proofs.Weights.{none-good}
-use Rattle.steps.proofs.Leaving.{rest-at, state-leaving}
+use Rattle.transducer.proofs.Leaving.{rest-at, state-leaving}
 use Rattle.steps.proofs.RunSteps.{
-  run-none,
   run-skip,
   alone-run,
   both-run,
@@ -103,12 +101,13 @@ module _ (u : Transducer) (test : Arc → Bool) where
       (λ d. let h : r < k = ltb-true r k d in absurd (f .before r (g .least) h (g .passes (omega (arith, f .most)))))
       (λ d. omega (arith, ltb-false k r e, ltb-false r k d)))
 
--- Two tests with the same answers have the same first arc.
-pub first-at-same : (u : Transducer) (test test' : Arc → Bool) → ((j : ℕ) → test (arc u j) ≡ test' (arc u j)) → (n j : ℕ)
+-- Two tests with the same answers on some arcs have the same first of them.
+pub first-at-within : (u : Transducer) (test test' : Arc → Bool) (n j : ℕ) → ((i : ℕ) → j ≤ i → i < j + n → test (arc u i) ≡ test' (arc u i))
     → first-at u test n j ≡ first-at u test' n j
 unfolding first-at
-first-at-same u test test' same zero j = refl
-first-at-same u test test' same (suc n) j = rw (same j, first-at-same u test test' same n (suc j))
+first-at-within u test test' zero j same = refl
+first-at-within u test test' (suc n) j same =
+    rw (same j (omega arith) (omega arith), first-at-within u test test' n (suc j) (λ i p h. same i (omega arith) (omega arith)))
 
 -- One step of a run
 
@@ -137,6 +136,7 @@ module _ (u : Transducer) (r : Run) where
               weight-fits = ready .weight-fits;
               inside = ready .inside;
               single = λ h. omega arith;
+              rest = λ h k. absurd (omega arith);
               fits-here = λ h. absurd (omega arith);
             };
         are = rw same (first-step j (suc j) (rw same at ready) (omega arith));
@@ -157,27 +157,10 @@ module _ (u : Transducer) (r : Run) where
               weight-fits = ready .weight-fits;
               inside = ready .inside;
               single = λ h. never (rw e at h);
+              rest = λ h m. rest-at k (ready .rest e l) (omega (arith, first .least)) m;
               fits-here = λ h. rw e (first .passes h);
             };
         are = first-step j to ready l ∙ ap (λ (ss : List Step). run-step u r j ∷ ss) skip;
-      }
-
-  -- Wherever beyond the end: there is no further step.
-  pub next-past : (j to k : ℕ) → to ≤ k → Next-step j to to → Next-step j to k
-  next-past j to k beyond next =
-      let none : to - to ≡ 0 = omega arith in
-      let past : to - k ≡ 0 = omega arith in
-      record {
-        past = omega (arith, next .past);
-        ready =
-            record {
-              target-fits = next .ready .target-fits;
-              weight-fits = next .ready .weight-fits;
-              inside = next .ready .inside;
-              single = λ h. omega (arith, next .ready .single h);
-              fits-here = λ h. absurd (omega arith);
-            };
-        are = next .are ∙ ap (λ (ss : List Step). run-step u r j ∷ ss) (rw (none, past, run-none u r to) (sym (run-none u r k)));
       }
 
 -- The next run
@@ -195,7 +178,6 @@ pub record Run-here (t u : Transducer) (x : State) (i last to : ℕ) (b : Begin)
   pub at-most : b .i ≤ last
   pub alone-before : b .alone ≡ true → b .i < last
   pub ready : Takeable u r (b .j) (cond (b .alone) 1 to)
-  pub ends : r .alone ≡ false → b .j < cond (b .alone) 1 to → Rest u (arc u (b .j) .source) (b .j) (cond (b .alone) 1 to)
   pub are-more : b .i < last
       → runs-from t u x (last - i) i
       ≡ run-steps u r (cond (b .alone) 1 to - b .j) (b .j) ++ runs-from t u x (last - suc (b .i)) (suc (b .i))
@@ -212,7 +194,6 @@ here-skip t u x i last to b r l none h =
       at-most = h .at-most;
       alone-before = h .alone-before;
       ready = h .ready;
-      ends = h .ends;
       are-more = λ p. e ∙ h .are-more p;
       are-last = λ p. e ∙ h .are-last p;
     }
@@ -251,9 +232,9 @@ module _ (t u : Transducer) (tg : Good t) (ug : Good u) (x : State) (inside : In
               weight-fits = none-good;
               inside = λ h. right-inside;
               single = λ h. never h;
+              rest = λ h m. rest-at j right-rest (first .least) m;
               fits-here = first .passes;
             };
-        ends = λ h m. rest-at j right-rest (first .least) m;
         are-more = λ h. absurd (omega arith);
         are-last = λ h.
             runs-last t u x last ∙ run-skip u (right-run x) refl (right-from u x) j (right-to u x) (first .least) (first .most) (first .before);
@@ -273,9 +254,9 @@ module _ (t u : Transducer) (tg : Good t) (ug : Good u) (x : State) (inside : In
               weight-fits = good-content t tg .weight i (omega arith);
               inside = λ h. never (sym h);
               single = λ h. omega arith;
+              rest = λ h. never (sym h);
               fits-here = λ h. refl;
             };
-        ends = λ h. never (sym h);
         are-more = λ h.
             runs-next t u x i last l
             ∙ ap (λ (ss : List Step). ss ++ runs-from t u x (last - suc i) (suc i)) (arc-steps-alone t u x i silent free);
@@ -301,9 +282,9 @@ module _ (t u : Transducer) (tg : Good t) (ug : Good u) (x : State) (inside : In
               weight-fits = good-content t tg .weight i (omega arith);
               inside = λ h. right-inside;
               single = λ h. never h;
+              rest = λ h m. rest-at j right-rest (first .least) m;
               fits-here = first .passes;
             };
-        ends = λ h m. rest-at j right-rest (first .least) m;
         are-more = λ h.
             runs-next t u x i last l
             ∙ ap (λ (ss : List Step). ss ++ runs-from t u x (last - suc i) (suc i))

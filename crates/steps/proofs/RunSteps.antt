@@ -3,7 +3,7 @@
 use mathlib.Core.Path.{_≡_, refl, sym, ap, _∙_}
 use mathlib.Core.Bool.{Bool, true, false, _||_, cond}
 use mathlib.Core.List.{List, [], _∷_, _++_, map, map-append, append-assoc}
-use Prim.Native.Nat.{ℕ, zero, suc, _+_, _-_, _≤_, _<_}
+use Prim.Native.Nat.{ℕ, zero, suc, _-_, _≤_, _<_}
 use native.Mathlib.Omega.{arith}
 use lib.Dec.{eqb}
 use lib.ListN.{length}
@@ -32,19 +32,6 @@ use Rattle.transducer.proofs.Weights.{none-plus}
 pub run-none : (u : Transducer) (r : Run) (j : ℕ) → run-steps u r 0 j ≡ []
 unfolding run-steps
 run-none u r j = refl
-
--- A run in two parts.
-pub run-append : (u : Transducer) (r : Run) (n m j : ℕ) → run-steps u r (n + m) j ≡ run-steps u r n j ++ run-steps u r m (j + n)
-unfolding run-steps
-run-append u r zero m j =
-    let all : 0 + m ≡ m = omega arith in
-    let here : j + 0 ≡ j = omega arith in
-    rw (all, here) refl
-run-append u r (suc n) m j =
-    let all : suc n + m ≡ suc (n + m) = omega arith in
-    let further : j + suc n ≡ suc j + n = omega arith in
-    by-test (r .alone || fits u (r .label) (arc u j)) (λ e. rw (all, further, e, run-append u r n m (suc j)) refl)
-    (λ e. rw (all, further, e, run-append u r n m (suc j)) refl)
 
 -- A run of a left arc alone is one step.
 pub run-alone : (u : Transducer) (r : Run) (j : ℕ) → r .alone ≡ true → run-steps u r 1 j ≡ run-step u r j ∷ []

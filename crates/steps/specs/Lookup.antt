@@ -57,15 +57,3 @@ pub record Leads (u : Transducer) (q label from : ℕ) (chain : List ℕ) (head 
   pub within : from ≤ length (u .arcs)
   pub chained : Chain u from chain
   pub head-is : head ≡ first-from u (in-bucket u (label-bucket q label)) from
-
--- The arcs of state q from number `from` on are those below `to`.
-pub record Rest (u : Transducer) (q from to : ℕ) : Type 0 where
-  pub order : from ≤ to
-  pub within : to ≤ length (u .arcs)
-  pub sources : (j : ℕ) → from ≤ j → j < to → arc u j .source ≡ q
-  pub behind : (j : ℕ) → to ≤ j → j < length (u .arcs) → arc u j .source ≡ q → ⊥
-
--- The arcs of state q are those from `from` to below `to`.
-pub record Leaving (u : Transducer) (q from to : ℕ) : Type 0 where
-  pub rest : Rest u q from to
-  pub before : (j : ℕ) → j < from → arc u j .source ≡ q → ⊥

@@ -2,13 +2,14 @@
 use mathlib.Core.Path.{_≡_}
 use mathlib.Core.Bool.{Bool, true, false, _||_, cond}
 use mathlib.Core.List.{List, [], _∷_}
-use Prim.Native.Nat.{ℕ, zero, suc, _+_, _-_, _≤_, _<_, min}
+use Prim.Native.Nat.{ℕ, zero, suc, _+_, _≤_, _<_}
 use lib.Dec.{ltb, eqb}
-use lib.ListN.{length, getD}
+use lib.ListN.{length}
 use Rattle.transducer.specs.declared.Arc.{Arc}
 use Rattle.transducer.specs.Format.{weight-good, barred, Transducer}
 use Rattle.transducer.specs.Path.{arc}
 use Rattle.transducer.specs.Each.{fits, passed}
+use Rattle.transducer.specs.Leaf.{Rest}
 use Rattle.transducer.specs.Weight.{no-weight, plus}
 use Rattle.explore.specs.Explore as explore
 use Rattle.steps.specs.declared.State.{State}
@@ -89,21 +90,15 @@ run-at t last x b =
       weight = a .weight;
     }))
 
--- A run can be taken from right arc j to below `to`: its numbers are in range, and unless j is at the end, arc j fits.
+-- A run can be taken from right arc j to below `to`: its numbers are in range, and unless j is at the end, arc j fits and the arcs of its state
+-- end at `to`.
 pub record Takeable (u : Transducer) (r : Run) (j to : ℕ) : Type 0 where
   pub target-fits : Bounded (r .target)
   pub weight-fits : weight-good (r .weight) ≡ true
   pub inside : r .alone ≡ false → to ≤ length (u .arcs)
   pub single : r .alone ≡ true → to ≤ j + 1
+  pub rest : r .alone ≡ false → j < to → Rest u (arc u j .source) j to
   pub fits-here : j < to → r .alone || fits u (r .label) (arc u j) ≡ true
-
--- From `from` on and below `to`, the links lead from each right arc that fits a label to the next one that does, and where there is none nowhere or past
--- `to`.
-pub record Linked (u : Transducer) (label : ℕ) (again : List ℕ) (from to : ℕ) : Type 0 where
-  pub last : (j : ℕ) → from ≤ j → j < to → fits u label (arc u j) ≡ true → getD again j 0 ≡ 0 → to ≡ fitting-from u label (to - suc j) (suc j)
-  pub more : (j : ℕ) → from ≤ j → j < to → fits u label (arc u j) ≡ true → (getD again j 0 ≡ 0 → ⊥)
-      → min (getD again j 0 - 1) to ≡ fitting-from u label (to - suc j) (suc j)
-  pub few : (j : ℕ) → j < length (u .arcs) → getD again j 0 ≤ length (u .arcs)
 
 -- The parts of a composed state are states of the two transducers.
 pub record In-both (t u : Transducer) (x : State) : Type 0 where

@@ -1,14 +1,14 @@
 // The arcs that a state has for a label, found by look-up. Arcs are in chains by bucket, in arc order; a link is the number of an arc and
 // one more, 0 for none.
 ghost use mathlib.Core.Path.{_≡_};
-ghost use mathlib.Core.Bool.{true, false, cond};
-ghost use Prim.Native.Nat.{ℕ, _+_, _*_, _-_, _≤_, _<_};
+ghost use mathlib.Core.Bool.{true};
+ghost use Prim.Native.Nat.{ℕ, _+_, _*_, _-_, _<_};
 ghost use lib.ListN.{length, replicate};
-ghost use Rattle.transducer.specs.Format.{max-arcs, decode};
+ghost use Rattle.transducer.specs.Format.{any, max-arcs, decode};
 ghost use Rattle.transducer.specs.Each.{named};
-ghost use Rattle.transducer.specs.Leaf.{Opened};
-ghost use Rattle.steps.specs.Lookup.{label-buckets, label-bucket, reads, first-from, Leads, Heads, Chain, Lookup, Leaving};
-ghost use Rattle.steps.specs.Runs.{fitting-from, reading-from};
+ghost use Rattle.transducer.specs.Leaf.{Opened, Leaving};
+ghost use Rattle.steps.specs.Lookup.{label-buckets, label-bucket, reads, first-from, Leads, Heads, Chain, Lookup};
+ghost use Rattle.steps.specs.Runs.{reading-from};
 use transducer::ARC_BYTES;
 use transducer::MAX_ARCS;
 
@@ -74,7 +74,7 @@ pub fn put_chains(
 }
 
 // The first arc of right state `q` that reads `label` by name; `to`, the arc behind those of the state, where none does.
-fn first_reading(
+pub fn first_reading(
     right: &[u8],
     rfirst: usize,
     heads: &[u16; LABEL_BUCKETS],
@@ -98,82 +98,23 @@ fn first_reading(
     link - 1
 }
 
-// The first arc of right state `q` that fits `label`, `to` where none does: the sooner of those that read it by name and those for any symbol.
-// Where no arc at all is for any symbol, which `exact` tells, only the former are looked up.
-pub fn first_fit(
+// The first arc of right state `q` for any symbol; `to` where there is none. Where no arc at all is, which `exact` tells, nothing is looked up.
+pub fn first_any(
     right: &[u8],
     rfirst: usize,
     heads: &[u16; LABEL_BUCKETS],
     chain: &[u16; MAX_ARCS],
     exact: bool,
     q: u16,
-    label: u16,
     to: usize,
 ) -> usize
     requires { ⌜ Opened (now right) rfirst × Heads (decode (now right)) 0 (now heads) × Chain (decode (now right)) 0 (now chain)
         × (exact ≡ true → named (decode (now right)) ≡ true) ⌝ }
     ensures { λ r. ⌜ ((from : ℕ) → Leaving (decode (now (right .entry))) q from to →
-        r ≡ fitting-from (decode (now (right .entry))) label (to - from) from) ⌝ }
+        r ≡ reading-from (decode (now (right .entry))) any (to - from) from) ⌝ }
 {
-    let by_name = first_reading(right, rfirst, heads, chain, q, label, to);
     if exact {
-        return by_name;
+        return to;
     }
-    if label == 0 {
-        return by_name;
-    }
-    let any = first_reading(right, rfirst, heads, chain, q, transducer::ANY, to);
-    if any < by_name {
-        return any;
-    }
-    by_name
-}
-
-// The first arc from `from` on, below `to`, that fits a symbol; `to` where none does.
-fn scan(right: &[u8], rfirst: usize, label: u16, from: usize, to: usize) -> usize
-    requires { ⌜ Opened (now right) rfirst × (from ≤ to) × (to ≤ length (decode (now right) .arcs)) × (label ≡ 0 → ⊥) ⌝ }
-    ensures { λ r. ⌜ r ≡ fitting-from (decode (now (right .entry))) label (to - from) from ⌝ }
-{
-    let mut j = from;
-    while j < to {
-        let input = wire::u16_at(right, rfirst + ARC_BYTES * j + 6);
-        if input == label {
-            return j;
-        }
-        if input == transducer::ANY {
-            return j;
-        }
-        j += 1;
-    }
-    to
-}
-
-// Behind the arcs that are taken along links from arc `j` on: those of the state, and where named ones and those for any symbol mix, arc `j` alone.
-pub fn links_end(mixed: bool, j: usize, to: usize) -> usize
-    requires { ⌜ j < to ⌝ }
-    ensures { λ r. ⌜ r ≡ cond mixed (j + 1) to ⌝ }
-{
-    if mixed {
-        return j + 1;
-    }
-    to
-}
-
-// The first arc from `from` on, below `to`, that fits `label`; `to` where none does. Where the kinds do not mix, none is left: `from` is `to`.
-pub fn next_fit(
-    right: &[u8],
-    rfirst: usize,
-    mixed: bool,
-    label: u16,
-    from: usize,
-    to: usize,
-) -> usize
-    requires { ⌜ Opened (now right) rfirst × (from ≤ to) × (to ≤ length (decode (now right) .arcs)) × (mixed ≡ true → label ≡ 0 → ⊥)
-        × (mixed ≡ false → from ≡ to) ⌝ }
-    ensures { λ r. ⌜ r ≡ fitting-from (decode (now (right .entry))) label (to - from) from ⌝ }
-{
-    if mixed {
-        return scan(right, rfirst, label, from, to);
-    }
-    to
+    first_reading(right, rfirst, heads, chain, q, transducer::ANY, to)
 }

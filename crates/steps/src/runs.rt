@@ -4,13 +4,12 @@ ghost use mathlib.Core.Bool.{true, false, cond};
 ghost use lib.Dec.{eqb};
 ghost use Prim.Native.Nat.{ℕ, _+_, _*_, _-_, _≤_, _<_};
 ghost use lib.ListN.{length};
-ghost use Rattle.transducer.specs.Format.{weight-good, decode, barred};
-ghost use Rattle.transducer.specs.Each.{named};
-ghost use Rattle.transducer.specs.Leaf.{Opened};
+ghost use Rattle.transducer.specs.Format.{weight-good, decode, barred, any};
+ghost use Rattle.transducer.specs.Leaf.{Opened, Leaving};
 ghost use Rattle.steps.specs.Steps.{left-origin, right-origin};
-ghost use Rattle.steps.specs.Lookup.{Heads, Chain, Leaving};
+ghost use Rattle.steps.specs.Lookup.{Heads, Chain};
 ghost use Rattle.steps.specs.Packing.{Bounded};
-ghost use Rattle.steps.specs.Runs.{run-step, run-at, begin-from};
+ghost use Rattle.steps.specs.Runs.{run-step, run-at, begin-from, reading-from};
 use crate::Begin;
 use crate::Origin;
 use crate::Run;
@@ -32,7 +31,8 @@ const AFTER_RIGHT: u32 = 1;
 const AFTER_BOTH: u32 = 0;
 
 // Where the next run with a step begins, from left arc `i` on: a left arc that writes nothing, where the filter state allows it; one
-// whose output some right arc fits; or behind the last left arc, with the first right arc that reads nothing.
+// whose output some right arc fits, by name or else as one for any symbol, of which `wild` is the first; or behind the last left arc, with the first
+// right arc that reads nothing.
 pub fn next_run(
     left: &[u8],
     lfirst: usize,
@@ -43,14 +43,14 @@ pub fn next_run(
     rfirst: usize,
     heads: &[u16; lookup::LABEL_BUCKETS],
     chain: &[u16; MAX_ARCS],
-    exact: bool,
     q: u16,
+    wild: usize,
     to: usize,
 ) -> Begin
     requires { ⌜ Opened (now left) lfirst × (i ≤ last) × (last ≤ length (decode (now left) .arcs)) ⌝ }
-    requires { ⌜ Opened (now right) rfirst × Heads (decode (now right)) 0 (now heads) × Chain (decode (now right)) 0 (now chain)
-        × (exact ≡ true → named (decode (now right)) ≡ true) ⌝ }
+    requires { ⌜ Opened (now right) rfirst × Heads (decode (now right)) 0 (now heads) × Chain (decode (now right)) 0 (now chain) ⌝ }
     ensures { λ r. ⌜ ((from : ℕ) → Leaving (decode (now (right .entry))) q from to →
+        wild ≡ reading-from (decode (now (right .entry))) any (to - from) from →
         r ≡ begin-from (decode (now (left .entry))) (decode (now (right .entry))) filter from (to - from) (last - i) i) ⌝ }
 {
     let mut k = i;
@@ -67,7 +67,7 @@ pub fn next_run(
                 };
             }
         } else {
-            let j = lookup::first_fit(right, rfirst, heads, chain, exact, q, label, to);
+            let j = lookup::first_reading(right, rfirst, heads, chain, q, label, to);
             if j < to {
                 return Begin {
                     alone: false,
@@ -75,12 +75,19 @@ pub fn next_run(
                     j: j,
                 };
             }
+            if wild < to {
+                return Begin {
+                    alone: false,
+                    i: at,
+                    j: wild,
+                };
+            }
         }
     }
     Begin {
         alone: false,
         i: last,
-        j: lookup::first_fit(right, rfirst, heads, chain, exact, q, 0, to),
+        j: lookup::first_reading(right, rfirst, heads, chain, q, 0, to),
     }
 }
 

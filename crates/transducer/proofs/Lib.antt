@@ -27,8 +27,10 @@ pub mod Finals
 pub mod Members
 pub mod Each
 pub mod Ranges
+pub mod Opened
 pub mod Fits
 pub mod Named
+pub mod Leaving
 -- Paths, their costs, and rings on them.
 pub mod Paths
 pub mod FitPaths

@@ -19,10 +19,18 @@ by-number i f (a ∷ as') = f i a ++ by-number (suc i) f as'
 unfoldable pub each-arc : {B : Type 0} → Transducer → (s : ℕ) → (ℕ → Arc → List B) → List B
 each-arc t s f = by-number 0 (λ i a. cond (eqb (a .source) s) (f i a) []) (t .arcs)
 
--- Whether an arc of a transducer fits a symbol, 0 standing for none: one for any symbol fits each symbol and never none. And the label that it
--- then writes: the symbol where it is passed on.
+-- Whether no arc of a state reads a symbol by name, wherever it leads.
+unfoldable pub unnamed : Transducer → (state symbol : ℕ) → Bool
+unnamed t q symbol = every (λ b. not (eqb (b .source) q && eqb (b .input) symbol)) (t .arcs)
+
+-- Whether an arc of a transducer fits a symbol, 0 standing for none: one for any symbol fits each symbol that no arc of its state names, and never none.
+-- And the label that it then writes: the symbol where it is passed on.
 unfoldable pub fits : Transducer → (symbol : ℕ) → Arc → Bool
-fits t symbol a = eqb (a .input) symbol || (eqb (a .input) any && not (eqb symbol 0))
+fits t symbol a = eqb (a .input) symbol || (eqb (a .input) any && (not (eqb symbol 0) && unnamed t (a .source) symbol))
+
+-- The input of the arcs of a state that fit a symbol.
+unfoldable pub label-at : Transducer → (state symbol : ℕ) → ℕ
+label-at t q symbol = cond (not (eqb symbol 0) && unnamed t q symbol) any symbol
 
 unfoldable pub passed : (symbol : ℕ) → Arc → ℕ
 passed symbol a = cond (eqb (a .output) any) symbol (a .output)

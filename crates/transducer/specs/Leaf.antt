@@ -3,7 +3,7 @@ use mathlib.Core.Path.{_≡_}
 use mathlib.Core.Bool.{true, cond}
 use mathlib.Core.List.{List, [], _∷_}
 use Prim.Native.Nat.{ℕ, suc, _+_, _≤_, _<_, max}
-use lib.Dec.{ltb}
+use lib.Dec.{ltb, eqb}
 use lib.ListN.{length, getD}
 use Rattle.transducer.specs.declared.Arc.{Arc}
 use Rattle.transducer.specs.declared.Final.{Final}
@@ -11,7 +11,7 @@ use Rattle.transducer.specs.declared.Header.{Header}
 use Rattle.transducer.specs.declared.Looked.{Looked}
 use Rattle.transducer.specs.Format.{Transducer, max-states, arcs-at, decode, refusal, head-states, head-arcs, head-finals, head-start}
 use Rattle.transducer.specs.Path.{arc, is-final, final-weight}
-use Rattle.transducer.specs.Each.{named}
+use Rattle.transducer.specs.Each.{fits, named}
 use Rattle.transducer.specs.Weight.{At-most, code-of}
 
 -- The head's four numbers, as an answer that is no refusal.
@@ -62,3 +62,20 @@ pub record Finals-by-state (t : Transducer) (codes : List ℕ) : Type 0 where
   pub long : length codes ≡ max-states
   pub at-state : (s : ℕ) → s < max-states → getD codes s 0 ≡ final-code (t .finals) s
   pub small : (s : ℕ) → s < max-states → getD codes s 0 ≤ max-code
+
+-- The arcs of state q from number `from` on are those below `to`.
+pub record Rest (u : Transducer) (q from to : ℕ) : Type 0 where
+  pub order : from ≤ to
+  pub within : to ≤ length (u .arcs)
+  pub sources : (j : ℕ) → from ≤ j → j < to → arc u j .source ≡ q
+  pub behind : (j : ℕ) → to ≤ j → j < length (u .arcs) → arc u j .source ≡ q → ⊥
+
+-- The arcs of state q are those from `from` to below `to`.
+pub record Leaving (u : Transducer) (q from to : ℕ) : Type 0 where
+  pub rest : Rest u q from to
+  pub before : (j : ℕ) → j < from → arc u j .source ≡ q → ⊥
+
+-- The arcs from `from` to below `to` that fit a symbol are those that read that label.
+abbrev pub Fitting-label : Transducer → (symbol from to label : ℕ) → Type 0
+Fitting-label t symbol from to label =
+    (i : ℕ) → from ≤ i → i < to → fits t symbol (arc t i) ≡ eqb (arc t i .input) label

@@ -45,6 +45,7 @@ pub use leaf::put_codes;
 pub use leaf::put_index;
 pub use leaf::weight_of;
 pub use naming::all_named;
+pub use naming::label_at;
 pub use naming::passed;
 pub use preparing::Shape;
 pub use preparing::prepare;

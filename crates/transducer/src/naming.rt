@@ -1,12 +1,13 @@
-// Arcs for any symbol: whether there are any, and what an arc writes for a symbol.
+// Arcs for any symbol: whether there are any, what an arc must read to fit a symbol, and what it writes for it.
 ghost use mathlib.Core.Path.{_≡_};
 ghost use mathlib.Core.Bool.{true};
-ghost use Prim.Native.Nat.{_+_, _*_, _≤_};
+ghost use Prim.Native.Nat.{ℕ, _+_, _*_, _≤_};
 ghost use lib.Dec.{ltb};
 ghost use lib.ListN.{length};
 ghost use Rattle.wire.specs.Bytes.{every, places};
 ghost use Rattle.transducer.specs.Format.{any, arc-bytes, arc-at, refusal, decode};
 ghost use Rattle.transducer.specs.Each.{passed, named};
+ghost use Rattle.transducer.specs.Leaf.{Opened, Leaving, Fitting-label};
 use crate::Arc;
 use crate::leaf;
 
@@ -41,6 +42,26 @@ pub fn all_named(bytes: &[u8], known: bool) -> bool
         bounds::arcs_at(head.finals as usize),
         head.arcs as usize,
     )
+}
+
+// What the arcs of a state, those from `from` to below `to`, read that fit a symbol, 0 standing for none: the symbol where one of them reads it, else 65,535.
+// Where no arc at all is for any symbol, which `exact` tells, none is asked.
+pub fn label_at(bytes: &[u8], first: usize, exact: bool, from: usize, to: usize, symbol: u16) -> u16
+    requires { ⌜ Opened (now bytes) first × (exact ≡ true → named (decode (now bytes)) ≡ true) ⌝ }
+    requires { ⌜ ((q : ℕ) × Leaving (decode (now bytes)) q from to) ⌝ }
+    ensures { λ r. ⌜ Fitting-label (decode (now (bytes .entry))) symbol from to r ⌝ }
+{
+    if exact | (symbol == 0) {
+        return symbol;
+    }
+    let mut i = from;
+    while i < to {
+        if wire::u16_at(bytes, first + bounds::ARC_BYTES * i + 6) == symbol {
+            return symbol;
+        }
+        i += 1;
+    }
+    bounds::ANY
 }
 
 // The label that an arc writes for a symbol.

@@ -31,7 +31,7 @@ use Rattle.compose.proofs.walking.serve.Statement.{statement}
 use Rattle.compose.proofs.walking.serve.Tie as tie
 
 abbrev Inv-loop : tie.InvT-loop
-Inv-loop left lfirst lindex right rfirst rindex rheads chain again exact source table₀ origins₀ states₀ heads₀ links₀ x p q to last walk₀ i₀
+Inv-loop left lfirst lindex right rfirst rindex rheads chain again exact source table₀ origins₀ states₀ heads₀ links₀ x p q to last wild walk₀ i₀
     table origins states heads links walk i =
     ((b : Sofar) → Walked 2 b walk₀ table₀ origins₀ states₀ heads₀ links₀
     → Serving (decode left) (decode right) x source last (state-served (key-steps (decode left) (decode right)) source b) i walk table origins states
@@ -40,7 +40,7 @@ Inv-loop left lfirst lindex right rfirst rindex rheads chain again exact source 
     × (length states ≡ length states₀)
 
 abbrev μ-loop : tie.MeasureT-loop
-μ-loop left lfirst lindex right rfirst rindex rheads chain again exact source table₀ origins₀ states₀ heads₀ links₀ x p q to last walk₀ i₀
+μ-loop left lfirst lindex right rfirst rindex rheads chain again exact source table₀ origins₀ states₀ heads₀ links₀ x p q to last wild walk₀ i₀
     table origins states heads links walk i =
     last + 1 - i
 
@@ -55,7 +55,7 @@ abbrev entry : tie.After-unpack Inv-loop μ-loop → tie.Start Inv-loop μ-loop
 entry c = start (lent c)
 
 abbrev state : tie.At-loop Inv-loop μ-loop → tie.After-unpack Inv-loop μ-loop
-state c = c .before .before .before .before .before .before
+state c = c .before .before .before .before .before .before .before
 
 abbrev head : tie.After-next-run Inv-loop μ-loop → tie.At-loop Inv-loop μ-loop
 head c = c .before .before
@@ -168,18 +168,26 @@ element-copy-out-last c = omega (arith, parts (c .before .before .before) .0)
 cast-last : tie.Need-cast-last Inv-loop μ-loop
 cast-last c = omega (arith, left-most (c .before .before .before .before) .1)
 
+cast-first-any : tie.Need-cast-first-any Inv-loop μ-loop
+cast-first-any c = omega (arith, parts (c .before .before .before .before) .1)
+
+first-any-requires : tie.Need-first-any-requires Inv-loop μ-loop
+first-any-requires c κs =
+    let walkable = entry (c .before .before .before .before) .pre .0 .0 in
+    (walkable .right-open, walkable .right-lookup .headed, walkable .right-lookup .chained, walkable .right-named)
+
 mul-i : tie.Need-mul-i Inv-loop μ-loop
-mul-i c = omega (arith, parts (c .before .before .before .before) .0)
+mul-i c = omega (arith, parts (c .before .before .before .before .before) .0)
 
 element-copy-out-i : tie.Need-element-copy-out-i Inv-loop μ-loop
-element-copy-out-i c = omega (arith, parts (c .before .before .before .before) .0)
+element-copy-out-i c = omega (arith, parts (c .before .before .before .before .before) .0)
 
 cast-i : tie.Need-cast-i Inv-loop μ-loop
-cast-i c = omega (arith, left-most (c .before .before .before .before .before) .0)
+cast-i c = omega (arith, left-most (c .before .before .before .before .before .before) .0)
 
 loop-holds : tie.Need-loop-holds Inv-loop μ-loop
 loop-holds c =
-    let k = c .before .before .before .before .before in
+    let k = c .before .before .before .before .before .before in
     let a = entry k .args in
     let p = bounds k in (
       λ b was.
@@ -199,7 +207,7 @@ next-run-requires : tie.Need-next-run-requires Inv-loop μ-loop
 next-run-requires c κs =
     let walkable = entry (state (c .before)) .pre .0 .0 in (
       (walkable .left-open, c .loop-test .taken, placed-left (c .before .loop .inv .1) .1),
-      (walkable .right-open, walkable .right-lookup .headed, walkable .right-lookup .chained, walkable .right-named),
+      (walkable .right-open, walkable .right-lookup .headed, walkable .right-lookup .chained),
     )
 
 -- The run that begins at the place that `next_run` gave is the next one.
@@ -214,7 +222,8 @@ begins c r r-is =
     let u = decode (a .right .now) in
     next-run-here (decode (a .left .now)) u (both k) (head c .loop .i) (last-of k) (to-of k) (c .next-run .result) r (left-good (lent k))
     (right-good (lent k)) (p .inside) (p .to-is) (c .before .loop-test .taken) (placed-left p .1)
-    (c .next-run .ensures (right-from u (both k)) (placed-leaving p (right-good (lent k)))) r-is
+    (c .next-run .ensures (right-from u (both k)) (placed-leaving p (right-good (lent k)))
+    (head c .before .before .first-any .ensures (right-from u (both k)) (placed-leaving p (right-good (lent k))))) r-is
 
 run-of-requires : tie.Need-run-of-requires Inv-loop μ-loop
 run-of-requires c κs =
@@ -240,15 +249,8 @@ take-run-requires c κs =
     let ended = c .before .before .before .before .before in
     let t = head (ended .before .before) in
     let pre = entry (state t) .pre in
-    let run = here (ended .before) in
     let g = t .loop .inv .0 (pre .1 .1 .0) (pre .1 .1 .1) in (
-      (
-        pre .0 .0 .right-open,
-        pre .0 .0 .right-lookup .repeated,
-        rw (ended .end-of .ensures) (run .ready),
-        pre .0 .0 .right-named,
-        rw (ended .end-of .ensures) (run .ends),
-      ),
+      (pre .0 .0 .right-open, pre .0 .0 .right-lookup .repeated, rw (ended .end-of .ensures) (here (ended .before) .ready)),
       (g .taking .sofar, g .taking .walked),
     )
 
@@ -258,25 +260,25 @@ went : (c : tie.After-take-run Inv-loop μ-loop) (b : Sofar)
     → Went 2 (all-taken (entry (state (turn c)) .args .source)
     (run-left (decode (entry (state (turn c)) .args .right .now)) (made c .run-of .result)
     (cond (made c .before .next-run .result .alone) 1 (to-of (state (turn c)))) (made c .before .next-run .result .j)) b)
-    (c .take-run .result) (c .take-run .last .1 .1 .1 .1 .1 .1 .1 .1 .1 .0) (c .take-run .last .1 .1 .1 .1 .1 .1 .1 .1 .1 .1 .0)
-    (c .take-run .last .1 .1 .1 .1 .1 .1 .1 .1 .1 .1 .1 .0) (c .take-run .last .1 .1 .1 .1 .1 .1 .1 .1 .1 .1 .1 .1 .0)
-    (c .take-run .last .1 .1 .1 .1 .1 .1 .1 .1 .1 .1 .1 .1 .1 .0)
+    (c .take-run .result) (c .take-run .last .1 .1 .1 .1 .1 .1 .1 .1 .0) (c .take-run .last .1 .1 .1 .1 .1 .1 .1 .1 .1 .0)
+    (c .take-run .last .1 .1 .1 .1 .1 .1 .1 .1 .1 .1 .0) (c .take-run .last .1 .1 .1 .1 .1 .1 .1 .1 .1 .1 .1 .0)
+    (c .take-run .last .1 .1 .1 .1 .1 .1 .1 .1 .1 .1 .1 .1 .0)
 went c b k = rw (← c .before .before .before .before .before .before .end-of .ensures) (c .take-run .ensures b k)
 
 same-length : tie.Need-same-length Inv-loop μ-loop
-same-length c = let k = taken (c .before) in k .take-run .kept .1 .1 .1 .1 .1 .1 .1 .1 .1 .0 ∙ turn k .loop .inv .2
+same-length c = let k = taken (c .before) in k .take-run .kept .1 .1 .1 .1 .1 .1 .1 .1 .0 ∙ turn k .loop .inv .2
 
 same-length-2 : tie.Need-same-length-2 Inv-loop μ-loop
-same-length-2 c = let k = taken (c .before) in k .take-run .kept .1 .1 .1 .1 .1 .1 .1 .1 .1 .1 .0 ∙ turn k .loop .inv .3
+same-length-2 c = let k = taken (c .before) in k .take-run .kept .1 .1 .1 .1 .1 .1 .1 .1 .1 .0 ∙ turn k .loop .inv .3
 
 same-length-3 : tie.Need-same-length-3 Inv-loop μ-loop
-same-length-3 c = let k = taken (c .before) in k .take-run .kept .1 .1 .1 .1 .1 .1 .1 .1 .1 .1 .1 .0 ∙ turn k .loop .inv .4
+same-length-3 c = let k = taken (c .before) in k .take-run .kept .1 .1 .1 .1 .1 .1 .1 .1 .1 .1 .0 ∙ turn k .loop .inv .4
 
 returns : tie.Need-returns Inv-loop μ-loop
 returns c = λ b was.
     let k = taken (c .before) in
     let g = turn k .loop .inv .0 b was in
-    let out = k .take-run .last .1 .1 .1 .1 .1 .1 .1 .1 .1 in
+    let out = k .take-run .last .1 .1 .1 .1 .1 .1 .1 .1 in
     serving-full g (made k .before .before .loop-test .taken) (here (made k)) (k .take-run .result) (out .0) (out .1 .0) (out .1 .1 .0)
     (out .1 .1 .1 .0) (out .1 .1 .1 .1 .0) (went k (g .taking .sofar) (g .taking .walked)) (c .if1 .taken)
 
@@ -294,8 +296,8 @@ loop-again : tie.Need-loop-again Inv-loop μ-loop
 loop-again c =
     let k = passed c in
     let t = turn k .loop in
-    let out = k .take-run .last .1 .1 .1 .1 .1 .1 .1 .1 .1 in
-    let kept = k .take-run .kept .1 .1 .1 .1 .1 .1 .1 .1 .1 in (
+    let out = k .take-run .last .1 .1 .1 .1 .1 .1 .1 .1 in
+    let kept = k .take-run .kept .1 .1 .1 .1 .1 .1 .1 .1 in (
       λ b was.
           let g = t .inv .0 b was in
           serving-next g (made k .before .before .loop-test .taken) (here (made k)) (k .take-run .result) (out .0) (out .1 .0) (out .1 .1 .0)
@@ -337,6 +339,8 @@ serve-spec =
     mul-last
     element-copy-out-last
     cast-last
+    cast-first-any
+    first-any-requires
     mul-i
     element-copy-out-i
     cast-i

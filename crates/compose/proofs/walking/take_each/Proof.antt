@@ -19,7 +19,7 @@ use Rattle.compose.specs.Walk.{keyed-step}
 use Rattle.steps.specs.Runs.{Takeable}
 use Rattle.steps.proofs.Reading.{Next-step}
 use Rattle.steps.proofs.Links.{step-last, step-more, step-link}
-use Rattle.steps.proofs.RunCode.{opened-few}
+use Rattle.transducer.proofs.Opened.{opened-few}
 use Rattle.compose.specs.Taking.{run-left}
 use Rattle.compose.proofs.WalkCode.{step-kept, run-left-first, run-left-next, run-left-none}
 use Rattle.compose.proofs.walking.take_each.Statement.{statement}
@@ -38,7 +38,6 @@ Inv-loop right rfirst again r source from to table₀ origins₀ states₀ heads
     ((b : Sofar) → Walked 2 b walk₀ table₀ origins₀ states₀ heads₀ links₀
     → Taking 2 source (run-left (decode right) r to j) (all-taken source (run-left (decode right) r to j₀) b) walk table origins states heads links)
     × Takeable (decode right) r j to × (length table ≡ length table₀) × (length origins ≡ length origins₀) × (length states ≡ length states₀)
-    × (from ≤ j)
 
 abbrev μ-loop : tie.MeasureT-loop
 μ-loop right rfirst again r source from to table₀ origins₀ states₀ heads₀ links₀ walk₀ j₀ table origins states heads links walk j = to - j
@@ -78,7 +77,6 @@ loop-holds c =
       refl,
       refl,
       refl,
-      omega arith,
     )
 
 -- What has been built at the loop's head, for one such.
@@ -291,13 +289,13 @@ last-step : (c : tie.Then4 Inv-loop2 μ-loop2 Inv-loop μ-loop) → let t = turn
     Next-step (decode (start t .args .right .now)) (start t .args .r) (t .loop .j) (start t .args .to) (start t .args .to)
 last-step c =
     let t = turn (put (c .before)) in
-    step-last (start t .pre .0 .1) (t .loop .j) (t .loop .inv .5) (t .loop .inv .1) (below (put (c .before))) (start t .pre .0 .3) (c .if4 .taken)
+    step-last (start t .pre .0 .1) (t .loop .j) (start t .args .to) (t .loop .inv .1) (below (put (c .before))) (start t .pre .0 .3) (c .if4 .taken)
 
 next-step : (c : tie.Else4 Inv-loop2 μ-loop2 Inv-loop μ-loop) → let t = turn (put (c .before)) in
     Next-step (decode (start t .args .right .now)) (start t .args .r) (t .loop .j) (start t .args .to) (getD (start t .args .again .now) (t .loop .j) 0 - 1)
 next-step c =
     let t = turn (put (c .before)) in
-    step-more (start t .pre .0 .1) (t .loop .j) (t .loop .inv .5) (t .loop .inv .1) (below (put (c .before))) (start t .pre .0 .3) (c .if4 .left)
+    step-more (start t .pre .0 .1) (t .loop .j) (start t .args .to) (t .loop .inv .1) (below (put (c .before))) (start t .pre .0 .3) (c .if4 .left)
 
 cast-link : tie.Need-cast-link Inv-loop2 μ-loop2 Inv-loop μ-loop
 cast-link c =
@@ -305,7 +303,7 @@ cast-link c =
     omega (
       arith,
       few t,
-      step-link (start t .pre .0 .1) (t .loop .j) (t .loop .inv .5) (t .loop .inv .1) (below (put c)) (start t .pre .0 .3),
+      step-link (start t .pre .0 .1) (t .loop .j) (start t .args .to) (t .loop .inv .1) (below (put c)) (start t .pre .0 .3),
     )
 
 same-length-4 : tie.Need-same-length-4 Inv-loop2 μ-loop2 Inv-loop μ-loop
@@ -337,7 +335,6 @@ loop-again c =
       p .record-step .kept .0 ∙ t .loop .inv .2,
       p .record-step .kept .1 .0 ∙ t .loop .inv .3,
       kept-length (found p) ∙ t .loop .inv .4,
-      omega (arith, next-step c .past, t .loop .inv .5),
     )
 
 same-length-7 : tie.Need-same-length-7 Inv-loop2 μ-loop2 Inv-loop μ-loop

@@ -9,27 +9,29 @@ use Rattle.lattice.proofs.applying.apply.Statement.{statement}
 use Rattle.lattice.proofs.applying.apply.Tie as tie
 
 -- Places to look back to.
-abbrev read : tie.Else2 → tie.After-refusal
+abbrev read : tie.Else2 → tie.After-look
 read c = c .before .before .before
 
-abbrev entry : tie.After-refusal → tie.Start
+abbrev entry : tie.After-look → tie.Start
 entry c = c .before .before .before .before .before .before
 
 abbrev all-tested : tie.After-apply-into → tie.Else5
-all-tested c = c .before .before .before .before
+all-tested c = c .before .before .before .before .before
 
 -- The string is good where its test is passed.
 fine : (c : tie.Else2) → true ≡ string-good (entry (read c) .args .string .now)
 fine c = let s = c .before .string-ok in sym (not-false (s .result) (c .if2 .left)) ∙ s .ensures
 
-refusal-requires : tie.Need-refusal-requires
-refusal-requires c κs = search needs
+look-requires : tie.Need-look-requires
+look-requires c κs = search needs
 
 refused-requires : tie.Need-refused-requires
 refused-requires c κs = tt
 
 returns : tie.Need-returns
-returns c = let n = c .before .before .refusal in says-bytes _ _ _ _ _ (n .result) (n .ensures) (c .before .if1 .taken) _ (c .refused .ensures)
+returns c =
+    let n = c .before .before .look in
+    says-bytes _ _ _ _ _ (n .result .refusal) (n .ensures .refusal-is) (c .before .if1 .taken) _ (c .refused .ensures)
 
 string-ok-requires : tie.Need-string-ok-requires
 string-ok-requires c κs = search needs
@@ -40,8 +42,8 @@ refused-requires-2 c κs = tt
 returns-2 : tie.Need-returns-2
 returns-2 c =
     let s = c .before .before .string-ok in
-    let n = c .before .before .before .before .refusal in
-    says-string _ _ _ _ _ (n .result) (n .ensures) (c .before .before .before .if1 .left)
+    let n = c .before .before .before .before .look in
+    says-string _ _ _ _ _ (n .result .refusal) (n .ensures .refusal-is) (c .before .before .before .if1 .left)
     (sym (not-true (s .result) (c .before .if2 .taken)) ∙ s .ensures) _ (c .refused2 .ensures)
 
 refused-requires-3 : tie.Need-refused-requires-3
@@ -50,8 +52,9 @@ refused-requires-3 c κs = tt
 returns-3 : tie.Need-returns-3
 returns-3 c =
     let else2 = c .before .before in
-    let n = read else2 .refusal in
-    says-table _ _ _ _ _ (n .result) (n .ensures) (else2 .before .before .if1 .left) (fine else2) (c .before .if3 .taken) _ (c .refused3 .ensures)
+    let n = read else2 .look in
+    says-table _ _ _ _ _ (n .result .refusal) (n .ensures .refusal-is) (else2 .before .before .if1 .left) (fine else2)
+    (c .before .if3 .taken) _ (c .refused3 .ensures)
 
 refused-requires-4 : tie.Need-refused-requires-4
 refused-requires-4 c κs = tt
@@ -59,8 +62,8 @@ refused-requires-4 c κs = tt
 returns-4 : tie.Need-returns-4
 returns-4 c =
     let else2 = c .before .before .before in
-    let n = read else2 .refusal in
-    says-origins _ _ _ _ _ (n .result) (n .ensures) (else2 .before .before .if1 .left) (fine else2) (c .before .before .if3 .left)
+    let n = read else2 .look in
+    says-origins _ _ _ _ _ (n .result .refusal) (n .ensures .refusal-is) (else2 .before .before .if1 .left) (fine else2) (c .before .before .if3 .left)
     (c .before .if4 .taken) _ (c .refused4 .ensures)
 
 refused-requires-5 : tie.Need-refused-requires-5
@@ -69,18 +72,27 @@ refused-requires-5 c κs = tt
 returns-5 : tie.Need-returns-5
 returns-5 c =
     let else2 = c .before .before .before .before in
-    let n = read else2 .refusal in
-    says-pairs _ _ _ _ _ (n .result) (n .ensures) (else2 .before .before .if1 .left) (fine else2) (c .before .before .before .if3 .left)
+    let n = read else2 .look in
+    says-pairs _ _ _ _ _ (n .result .refusal) (n .ensures .refusal-is) (else2 .before .before .if1 .left) (fine else2) (c .before .before .before .if3 .left)
     (c .before .before .if4 .left) (c .before .if5 .taken) _ (c .refused5 .ensures)
+
+all-named-requires : tie.Need-all-named-requires
+all-named-requires c κs =
+    let else2 = c .before .before .before in
+    let n = read else2 .look .ensures in
+    let ok = sym (n .refusal-is) ∙ else2 .before .before .if1 .left in
+    (ok, n .by-name ok)
 
 apply-into-requires : tie.Need-apply-into-requires
 apply-into-requires c κs =
-    let else5 = c .before .before .before in
+    let told = c .before .before .before .all-named in
+    let else5 = c .before .before .before .before in
     let else2 = else5 .before .before .before in
-    let n = read else2 .refusal in
+    let n = read else2 .look in
     let x = entry (read else2) .args in
-    ready (x .string .now) (x .table .now) (x .lattice .now) (x .origins .now) (x .pairs .now) (n .result) (n .ensures)
+    ready (x .string .now) (x .table .now) (x .lattice .now) (x .origins .now) (x .pairs .now) (n .result .refusal) (n .ensures .refusal-is)
     (else2 .before .before .if1 .left) (fine else2) (else5 .before .before .if3 .left) (else5 .before .if4 .left) (else5 .if5 .left)
+    (told .result) (told .ensures)
 
 same-length : tie.Need-same-length
 same-length c = search needs
@@ -96,15 +108,15 @@ returns-6 c =
     let into = c .before .before .before .before .before .before in
     let else5 = all-tested into in
     let else2 = else5 .before .before .before in
-    let n = read else2 .refusal in
-    says-into _ _ _ _ _ (n .result) (n .ensures) (else2 .before .before .if1 .left) (fine else2) (else5 .before .before .if3 .left) (else5 .before .if4 .left)
-    (else5 .if5 .left) _ _ _ _ (into .apply-into .ensures)
+    let n = read else2 .look in
+    says-into _ _ _ _ _ (n .result .refusal) (n .ensures .refusal-is) (else2 .before .before .if1 .left) (fine else2)
+    (else5 .before .before .if3 .left) (else5 .before .if4 .left) (else5 .if5 .left) _ _ _ _ (into .apply-into .ensures)
 
 pub apply-spec : {M : Type 1} → statement M
 apply-spec =
     tie.close
     (tie.spec
-    refusal-requires
+    look-requires
     refused-requires
     returns
     string-ok-requires
@@ -116,6 +128,7 @@ apply-spec =
     returns-4
     refused-requires-5
     returns-5
+    all-named-requires
     apply-into-requires
     same-length
     same-length-2

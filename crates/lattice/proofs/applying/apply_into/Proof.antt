@@ -104,7 +104,7 @@ walk-all-requires c κs =
     let at = numbered index in
     let o = at-header at in
     let pre = entry (lent o) .pre in (
-      (record { good = pre .good; opened = is-opened at; indexed = index .first-arcs-by-blocks .ensures }, head-is o .start-is),
+      (record { good = pre .good; all-named = pre .all-named; opened = is-opened at; indexed = index .first-arcs-by-blocks .ensures }, head-is o .start-is),
       (table-long, omega arith, pre .pairs-long),
     )
 
@@ -249,8 +249,8 @@ trace-requires c κs =
 clear32-requires : tie.Need-clear32-requires
 clear32-requires c κs = search needs
 
-cast-t44 : tie.Need-cast-t44
-cast-t44 c =
+cast-t45 : tie.Need-cast-t45
+cast-t45 c =
     let trim = trimming (counted (c .before .before .before .before .before .before)) in
     let made = closing trim in
     let else2 = coded made .before in
@@ -323,7 +323,7 @@ apply-into-spec =
     cast-kept
     trace-requires
     clear32-requires
-    cast-t44
+    cast-t45
     same-length-7
     same-length-8
     same-length-9

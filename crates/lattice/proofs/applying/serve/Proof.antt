@@ -2,20 +2,21 @@
 -- builds.
 use borrow.Author.Needs.{needs}
 use mathlib.Core.Path.{_≡_, refl, sym, ap, subst, _∙_}
-use mathlib.Core.Bool.{true, false}
 use mathlib.Core.Logic.{⊎-elim}
 use mathlib.Core.List.{_∷_, []}
 use Prim.Native.Nat.{ℕ, _+_, _-_, _≤_, _<_}
 use native.Mathlib.Omega.{arith}
 use lib.Dec.{eqb}
 use lib.ListN.{length, getD}
-use borrow.Author.Tests.{not-true, not-false}
+use borrow.Author.Tests.{eq-eqb, ne-eqb}
 use mir.Syntax.{w32}
 use mir.Val.{toZ, ofZ}
 use mir.Facts.{toZ-ofZ}
 use Rattle.transducer.specs.Format.{Transducer, decode, Good, max-states, max-arcs, max-symbols}
 use Rattle.transducer.proofs.RoundTrip.{accepted-good, good-range, good-content}
 use Rattle.transducer.specs.Each.{fits, passed}
+use Rattle.transducer.specs.Leaf.{Leaving}
+use Rattle.transducer.proofs.Fits.{fits-other}
 use Rattle.wire.proofs.Bool.{cond-most}
 use Rattle.transducer.specs.Weight.{Weight}
 use Rattle.transducer.specs.declared.Arc.{Arc}
@@ -24,22 +25,24 @@ use Rattle.explore.proofs.Walking.{Taking}
 use Rattle.lattice.specs.declared.State.{State}
 use Rattle.lattice.specs.Pack.{unpacked}
 use Rattle.lattice.specs.Applying.{next, arc-keyed, State-in}
-use Rattle.lattice.proofs.ServedArcs.{index-within, arc-next, arcs-left, symbol-of, reading, Reads, reads-some, reads-written, reads-nothing}
-use Rattle.lattice.proofs.ServedArcs.{reads-itself, read-taken, none-taken}
+use Rattle.lattice.proofs.ServedArcs.{index-within, index-leaving, arc-next, arcs-left, symbol-of, reading}
+use Rattle.lattice.proofs.ServedArcs.{Reads, reads-some, reads-written, reads-nothing, reads-itself, fits-number, read-taken, none-taken}
 use Rattle.lattice.proofs.ServedArcs.{serving-first, serving-skip, serving-next, serving-full, serving-stop}
 use Rattle.lattice.proofs.Symbols.{string-short}
 use Rattle.lattice.proofs.applying.serve.Statement.{statement}
 use Rattle.lattice.proofs.applying.serve.Tie as tie
 
 abbrev Inv-loop : tie.InvT-loop
-Inv-loop string bytes first index source table₀ origins₀ states₀ heads₀ links₀ key q position symbol end i₀ walk₀ table origins states heads links i walk =
+Inv-loop string bytes exact first index source table₀ origins₀ states₀ heads₀ links₀ key q position symbol end i₀ label walk₀
+    table origins states heads links i walk =
     ((b : Sofar) → Walked 1 b walk₀ table₀ origins₀ states₀ heads₀ links₀
     → Taking 1 source (arcs-left string (decode bytes) (unpacked key) end i) (state-served (next string (decode bytes)) source b) walk
     table origins states heads links)
-    × (length table ≡ length table₀) × (length origins ≡ length origins₀) × (length states ≡ length states₀)
+    × (length table ≡ length table₀) × (length origins ≡ length origins₀) × (length states ≡ length states₀) × (i₀ ≤ i)
 
 abbrev μ-loop : tie.MeasureT-loop
-μ-loop string bytes first index source table₀ origins₀ states₀ heads₀ links₀ key q position symbol end i₀ walk₀ table origins states heads links i walk =
+μ-loop string bytes exact first index source table₀ origins₀ states₀ heads₀ links₀ key q position symbol end i₀ label walk₀
+    table origins states heads links i walk =
     end - i
 
 -- Places to look back to.
@@ -56,7 +59,7 @@ abbrev at-unpack : tie.After-symbol-at Inv-loop μ-loop → tie.After-unpack Inv
 at-unpack c = c .before .before
 
 abbrev at-symbol : tie.At-loop Inv-loop μ-loop → tie.After-symbol-at Inv-loop μ-loop
-at-symbol c = c .before .before .before
+at-symbol c = c .before .before .before .before
 
 abbrev opened : tie.At-loop Inv-loop μ-loop → tie.After-unpack Inv-loop μ-loop
 opened c = at-unpack (at-symbol c)
@@ -161,15 +164,29 @@ element-copy-out-i c = omega (arith, state-lt (at-unpack (c .before)))
 cast-i : tie.Need-cast-i Inv-loop μ-loop
 cast-i c = let u = at-unpack (c .before .before) in omega (arith, within u .0, few-arcs u)
 
+-- The arcs of the state stand together.
+leaving : (c : tie.After-unpack Inv-loop μ-loop)
+    → Leaving (table-of (start c)) (c .unpack .result .state) (getD (start c .args .index .now) (c .unpack .result .state) 0)
+    (getD (start c .args .index .now) (c .unpack .result .state + 1) 0)
+leaving c =
+    index-leaving (table-of (start c)) (start c .args .index .now) (start c .pre .0 .0 .indexed) (c .unpack .result .state) (parts-in c .state-in)
+    (good (lent c))
+
+label-at-requires : tie.Need-label-at-requires Inv-loop μ-loop
+label-at-requires c κs =
+    let u = at-unpack (c .before .before) in
+    ((start u .pre .0 .0 .opened, start u .pre .0 .0 .all-named), (u .unpack .result .state, leaving u))
+
 loop-holds : tie.Need-loop-holds Inv-loop μ-loop
 loop-holds c =
-    let u = at-unpack (c .before .before) in
+    let u = at-unpack (c .before .before .before) in
     let s = start u in (
       λ b k. serving-first (s .args .string .now) (table-of s) (s .args .index .now) (s .args .source) (u .unpack .result) (good (lent u))
           (s .pre .0 .0 .indexed) (u .unpack .ensures) (parts-in u .state-in) (s .pre .0 .1) k,
       refl,
       refl,
       refl,
+      omega arith,
     )
 
 -- The arc of this turn is one of the transducer's.
@@ -185,26 +202,35 @@ arc-of-requires c κs = (start (opened (c .before)) .pre .0 .0 .opened, below c)
 add-i : tie.Need-add-i Inv-loop μ-loop
 add-i c = omega (arith, number-lt (c .before))
 
-fits-unnamed-requires : tie.Need-fits-unnamed-requires Inv-loop μ-loop
-fits-unnamed-requires c κs = c .before .if1 .taken
+-- It fits the symbol at the state's position where it reads the label that was told.
+fits-by : (c : tie.After-arc-of Inv-loop μ-loop)
+    → fits (table-of (start (opened (at-turn c)))) (symbol-of (start (opened (at-turn c)) .args .string .now) (unpacked (key-of (start (opened (at-turn c))))))
+    (c .arc-of .result)
+    ≡ eqb (c .arc-of .result .input) (at-turn c .before .label-at .result)
+fits-by c =
+    let turn = at-turn c in
+    let t = table-of (start (opened turn)) in
+    let symbol = at-symbol turn .symbol-at .result in
+    subst (λ (s : ℕ). fits t s (c .arc-of .result) ≡ eqb (c .arc-of .result .input) (turn .before .label-at .result)) (symbol-is (at-symbol turn))
+    (fits-number t symbol (turn .loop .i) (turn .before .label-at .result) (c .arc-of .result) (c .arc-of .ensures)
+    (turn .before .label-at .ensures (turn .loop .i) (turn .loop .inv .4) (c .before .loop-test .taken)))
 
 loop-less : tie.Need-loop-less Inv-loop μ-loop
-loop-less c = omega (arith, c .before .before .before .before .before .loop-test .taken)
+loop-less c = omega (arith, c .before .before .before .loop-test .taken)
 
 loop-again : tie.Need-loop-again Inv-loop μ-loop
 loop-again c =
-    let at = c .before .before .before .before in
+    let at = c .before .before in
     let turn = at-turn at in
     let s = start (opened turn) in
     let a = at .arc-of .result in
-    let unfit = sym (c .before .fits-unnamed .ensures (table-of s) a refl) ∙ not-true (c .before .fits-unnamed .result) (c .if3 .taken) in
     let none = none-taken (s .args .string .now) (table-of s) (unpacked (key-of s)) (turn .loop .i) (s .args .source) a
-    (at .arc-of .ensures) (c .before .before .if2 .taken)
-    (subst (λ (symbol : ℕ). fits (table-of s) symbol a ≡ false) (symbol-is (at-symbol turn)) unfit) in (
+    (at .arc-of .ensures) (c .if2 .taken) (fits-by at ∙ ne-eqb (a .input) (turn .before .label-at .result) (c .before .if1 .taken)) in (
       λ b k. serving-skip (s .args .string .now) (table-of s) (unpacked (key-of s)) (turn .loop .inv .0 b k) (at .before .loop-test .taken) none,
       turn .loop .inv .1,
       turn .loop .inv .2,
       turn .loop .inv .3,
+      omega (arith, turn .loop .inv .4),
     )
 
 -- What the arc of this turn reads, and what it writes for that.
@@ -222,16 +248,16 @@ was-read c =
     (c .if1 .read) (c .if1 .output) in
     let itself = reads-itself cs (table-of s) x (good (lent (opened turn))) (turn .loop .i) (below (at .before)) a (at .arc-of .ensures)
     (c .if1 .read) (c .if1 .output) in
-    ⊎-elim
-    (λ w. reads-some (w .1 .taken)
-    (subst (λ (symbol : ℕ). fits (table-of s) symbol a ≡ true) (symbol-is (at-symbol turn))
-    (sym (w .2 .ensures (table-of s) a refl) ∙ not-false (w .2 .result) (w .3 .left))) (w .5 ∙ symbol-is (at-symbol turn))
-    (w .6 ∙ w .4 .ensures ∙ ap (λ (symbol : ℕ). passed symbol a) (sym (w .5))))
-    (λ w. ⊎-elim (λ w. own (w .2) (w .3) (w .1 .left))
-    (λ w. itself (w .1) (w .2) (s .pre .0 .0 .good) (w .0 .left ∙ symbol-is (at-symbol turn))) w) (c .if1 .came)
+    let label = turn .before .label-at .result in
+    ⊎-elim (λ w. own (w .2) (w .3) (w .1 .left))
+    (λ w. ⊎-elim
+    (λ w. let fit = fits-by at ∙ eq-eqb (a .input) label (w .0 .left) in
+    reads-some (fits-other (table-of s) (symbol-of cs x) a (λ e. w .1 .taken (e ∙ sym (symbol-is (at-symbol turn)))) fit) fit
+    (w .3 ∙ symbol-is (at-symbol turn)) (w .4 ∙ w .2 .ensures ∙ ap (λ (symbol : ℕ). passed symbol a) (sym (w .3))))
+    (λ w. itself (w .2) (w .3) (s .pre .0 .0 .good) (w .1 .left ∙ symbol-is (at-symbol turn))) w) (c .if1 .came)
 
-cast-t40 : tie.Need-cast-t40 Inv-loop μ-loop
-cast-t40 c = omega (arith, source-lt (start (opened (at-turn (c .before)))))
+cast-t41 : tie.Need-cast-t41 Inv-loop μ-loop
+cast-t41 c = omega (arith, source-lt (start (opened (at-turn (c .before)))))
 
 passed-requires : tie.Need-passed-requires Inv-loop μ-loop
 passed-requires c κs = search needs
@@ -278,8 +304,8 @@ taken-here c =
     let same : u .unpack .result .position ≡ x .position = ap (λ (x : State). x .position) (u .unpack .ensures) in
     let call = c .before .before .moved in
     read-taken (s .args .string .now) (table-of s) x (turn .loop .i) (s .args .source) (at .arc-of .result) (at .arc-of .ensures) _ refl
-    (c .pack .result) (c .pack .ensures) (at-join (c .before) .if1 .read) (at-join (c .before) .if1 .output) (call .result) (was-read (at-join (c .before))) (call .ensures)
-    (omega (arith, same))
+    (c .pack .result) (c .pack .ensures) (at-join (c .before) .if1 .read) (at-join (c .before) .if1 .output) (call .result)
+    (was-read (at-join (c .before))) (call .ensures) (omega (arith, same))
 
 -- The weight goes over from arc to arc as it is.
 weight-is : (c : tie.After-pack Inv-loop μ-loop) →
@@ -356,6 +382,7 @@ loop-again-2 c =
       kept .0 ∙ turn .loop .inv .1,
       kept .1 .0 ∙ turn .loop .inv .2,
       kept .1 .1 .0 ∙ turn .loop .inv .3,
+      omega (arith, turn .loop .inv .4),
     )
 
 same-length-4 : tie.Need-same-length-4 Inv-loop μ-loop
@@ -391,14 +418,14 @@ serve-spec =
     mul-i
     element-copy-out-i
     cast-i
+    label-at-requires
     loop-holds
     arc-of-requires
     add-i
-    fits-unnamed-requires
     loop-less
     loop-again
     passed-requires
-    cast-t40
+    cast-t41
     moved-requires
     add-pack
     cast-pack

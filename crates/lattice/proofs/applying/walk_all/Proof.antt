@@ -19,12 +19,12 @@ use Rattle.lattice.proofs.applying.walk_all.Statement.{statement}
 use Rattle.lattice.proofs.applying.walk_all.Tie as tie
 
 abbrev Inv-loop : tie.InvT-loop
-Inv-loop string bytes first index start table₀ origins₀ states₀ heads₀ links₀ first-key walk₀ s₀ table origins states heads links walk s =
+Inv-loop string bytes exact first index start table₀ origins₀ states₀ heads₀ links₀ first-key walk₀ s₀ table origins states heads links walk s =
     Walking pack (State-in string (decode bytes)) 1 (next string (decode bytes)) (pack (first-state (decode bytes))) s walk table origins states heads links
     × (length table ≡ length table₀) × (length origins ≡ length origins₀) × (length states ≡ length states₀)
 
 abbrev μ-loop : tie.MeasureT-loop
-μ-loop string bytes first index start table₀ origins₀ states₀ heads₀ links₀ first-key walk₀ s₀ table origins states heads links walk s = max-states - s
+μ-loop string bytes exact first index start table₀ origins₀ states₀ heads₀ links₀ first-key walk₀ s₀ table origins states heads links walk s = max-states - s
 
 -- Places to look back to.
 abbrev entry : tie.After-shared-slice-known2 Inv-loop μ-loop → tie.Start Inv-loop μ-loop
@@ -118,16 +118,16 @@ serve-requires c κs =
     )
 
 same-length : tie.Need-same-length Inv-loop μ-loop
-same-length c = let at = at-serve (c .before) in at .serve .kept .1 .1 .1 .1 .1 .1 .0 ∙ at-turn (served-in at) .loop .inv .1
+same-length c = let at = at-serve (c .before) in at .serve .kept .1 .1 .1 .1 .1 .1 .1 .0 ∙ at-turn (served-in at) .loop .inv .1
 
 same-length-2 : tie.Need-same-length-2 Inv-loop μ-loop
-same-length-2 c = let at = at-serve (c .before) in at .serve .kept .1 .1 .1 .1 .1 .1 .1 .0 ∙ at-turn (served-in at) .loop .inv .2
+same-length-2 c = let at = at-serve (c .before) in at .serve .kept .1 .1 .1 .1 .1 .1 .1 .1 .0 ∙ at-turn (served-in at) .loop .inv .2
 
 same-length-3 : tie.Need-same-length-3 Inv-loop μ-loop
 same-length-3 c =
     let at = at-serve (c .before) in
     let turn = at-turn (served-in at) in
-    at .serve .kept .1 .1 .1 .1 .1 .1 .1 .1 .0 ∙ turn .loop .inv .3 ∙ stored turn .insert .kept .0
+    at .serve .kept .1 .1 .1 .1 .1 .1 .1 .1 .1 .0 ∙ turn .loop .inv .3 ∙ stored turn .insert .kept .0
 
 returns : tie.Need-returns Inv-loop μ-loop
 returns c =
@@ -135,7 +135,7 @@ returns c =
     let turn = at-turn (served-in at) in
     let g = turn .loop .inv .0 in
     let call = at .serve in
-    let out = call .last .1 .1 .1 .1 .1 .1 in
+    let out = call .last .1 .1 .1 .1 .1 .1 .1 in
     record {
       full = λ h.
           walking-full (keys (begun (stored turn))) 1 g (served-in at .if1 .taken) (call .result)
@@ -158,8 +158,8 @@ loop-again c =
     let turn = at-turn (served-in at) in
     let g = turn .loop .inv .0 in
     let call = at .serve in
-    let out = call .last .1 .1 .1 .1 .1 .1 in
-    let kept = call .kept .1 .1 .1 .1 .1 .1 in (
+    let out = call .last .1 .1 .1 .1 .1 .1 .1 in
+    let kept = call .kept .1 .1 .1 .1 .1 .1 .1 in (
       walking-next (keys (begun (stored turn))) 1 g (served-in at .if1 .taken) (call .result)
           (out .0) (out .1 .0) (out .1 .1 .0) (out .1 .1 .1 .0) (out .1 .1 .1 .1 .0) (call .ensures (g .sofar) (g .walked)) (c .if2 .left),
       kept .0 ∙ turn .loop .inv .1,

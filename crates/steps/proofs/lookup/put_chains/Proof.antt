@@ -9,7 +9,7 @@ use Rattle.transducer.specs.Format.{decode}
 use Rattle.transducer.specs.Path.{arc}
 use Rattle.steps.specs.Lookup.{label-bucket, Leads}
 use Rattle.steps.proofs.Links.{Filling, filling-first, filling-leads, filling-next, filling-done}
-use Rattle.steps.proofs.RunCode.{opened-inside, opened-few, source-in-place, input-in-place}
+use Rattle.transducer.proofs.Opened.{opened-inside, opened-few, source-in-place, input-in-place}
 use Rattle.steps.proofs.lookup.put_chains.Statement.{statement}
 use Rattle.steps.proofs.lookup.put_chains.Tie as tie
 

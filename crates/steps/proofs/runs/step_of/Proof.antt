@@ -9,7 +9,7 @@ use mir.Facts.{toZ-ofZ}
 use mir.Val.{SFits}
 use Rattle.wire.specs.Bytes.{Bytes}
 use Rattle.steps.specs.Runs.{run-step}
-use Rattle.steps.proofs.RunCode.{opened-few, opened-target, opened-weight}
+use Rattle.transducer.proofs.Opened.{opened-few, opened-target, opened-weight}
 use Rattle.steps.proofs.runs.step_of.Statement.{statement}
 use Rattle.steps.proofs.runs.step_of.Tie as tie
 use Rattle.transducer.specs.Format.{weight-good}
