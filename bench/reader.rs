@@ -406,29 +406,41 @@ fn round_of_loops() {
     println!("loops compose {ns:.1}");
 }
 
-// A final state with an arc onto itself for each of 3,072 symbols; or one for any symbol in the place of them all.
-fn catalogue(written_out: bool) -> Vec<u8> {
-    let labels: Vec<u16> = if written_out { (1..=3072).collect() } else { vec![65_535] };
+// A final state with an arc onto itself for each of these labels.
+fn catalogue(labels: Vec<u16>) -> Vec<u8> {
     let head = [8, 1, 1, labels.len() as u16, 1, 0, 6, 2, 0, 0, 0];
     let arcs = labels.into_iter().flat_map(|label| [12, 3, 0, label, label, 0, 0, 0]);
     head.into_iter().chain(arcs).flat_map(u16::to_le_bytes).collect()
 }
 
-// Both as the right table of a composition with 3,072 symbols, and with a string of 64 applied to them: the answers are the same but for origins.
+// 3,072 symbols by one arc for any symbol, written out, and all but the last written out with one for any symbol behind or in front of them. Each as the
+// right table of a composition with 3,072 symbols, and with a string of 64 of them applied to it: the answers are the same but for origins. And with a string
+// of 64 symbols that no arc names, where there is an arc for any symbol.
 fn round_of_catalogues() {
-    let (left, string) = (catalogue(true), Vec::from_iter((1..=64u16).map(|k| 48 * k)));
-    for (name, table) in [("any", catalogue(false)), ("written-out", catalogue(true))] {
+    const ANY: u16 = 65_535;
+    let left = catalogue((1..=3072).collect());
+    let (named, other) = (Vec::from_iter((1..=64u16).map(|k| 48 * k)), Vec::from_iter(5001..=5064u16));
+    for (name, labels, any) in [
+        ("any", vec![ANY], true),
+        ("written-out", (1..=3072).collect(), false),
+        ("any-last", (1..=3071).chain([ANY]).collect(), true),
+        ("any-first", [ANY].into_iter().chain(1..=3071).collect(), true),
+    ] {
+        let table = catalogue(labels);
         let mut made = reader::Composed::new();
         assert_eq!(reader::compose(&left, &table, &mut made), (0, 12 + 10 + 16 * 3072), "{name}");
         let ns = median_ns(&mut || {
             black_box(reader::compose(black_box(&left), black_box(&table), &mut made));
         });
         println!("catalogue-{name} compose {ns:.1}");
-        assert_eq!(reader::apply(&string, &table, &mut made), (0, 12 + 10 + 16 * 64), "{name}");
-        let ns = median_ns(&mut || {
-            black_box(reader::apply(black_box(&string), black_box(&table), &mut made));
-        });
-        println!("catalogue-{name} apply {ns:.1}");
+        for (call, string) in [("apply", &named), ("apply-other", &other)] {
+            let want = if any || call == "apply" { 12 + 10 + 16 * 64 } else { 12 };
+            assert_eq!(reader::apply(string, &table, &mut made), (0, want), "{name}");
+            let ns = median_ns(&mut || {
+                black_box(reader::apply(black_box(string), black_box(&table), &mut made));
+            });
+            println!("catalogue-{name} {call} {ns:.1}");
+        }
     }
 }
 

@@ -13,7 +13,7 @@ const MAX_STATES: usize = 1_024;
 const MAX_ARCS: usize = 3_072;
 const MAX_CODE: usize = 64;
 const MAX_LABEL: u16 = 65_534;
-/// As an input it reads any symbol, as an output it passes on the symbol read; and how it is written.
+/// As an input it reads any symbol that its state does not name, as an output it passes on the symbol read; and how it is written.
 const ANY: u16 = 65_535;
 const ANY_WORD: &str = "<any>";
 

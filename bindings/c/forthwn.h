@@ -16,9 +16,9 @@
  *    every buffer lent for writing is all 0; after every other refusal each keeps its contents.
  *  - It always ends, and needs at most FORTHWN_STACK bytes of stack.
  *
- * A label is 16 bits: 0 reads or writes nothing, 1 to 65534 are symbols. An arc of input 65535 reads any symbol, and with output 65535 it
- * writes the symbol that it read; composed tables and lattices hold the symbol itself. States and arcs are numbered from 0, an arc's
- * number is its place. A path is a run of arcs from the start; it accepts where it ends in a final state.
+ * A label is 16 bits: 0 reads or writes nothing, 1 to 65534 are symbols. An arc of input 65535 reads any symbol that no arc of its state has
+ * as its input, and with output 65535 it writes the symbol that it read; composed tables and lattices hold the symbol itself. States and
+ * arcs are numbered from 0, an arc's number is its place. A path is a run of arcs from the start; it accepts where it ends in a final state.
  *
  * The bytes of a table are records: the length of the body (2 bytes), a kind (2), the body. Kind 1, first and once: states, arcs, finals,
  * start (2 each). Kind 2, for each final state, rising: state (2), weight (4). Kind 3, for each arc, sources never falling: source, input

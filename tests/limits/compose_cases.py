@@ -37,6 +37,25 @@ def line(n, first=(), last=()):
 REST = one_state((1, 0, 7, 0))
 
 
+def sixes(n, like=1, weight=0):
+    """A line of n states, the last one final, with so many like arcs 1:6 from each to the next."""
+    return sound(n=n, start=0, finals=((n - 1, 0),), arcs=[(s, 1, 6, s + 1, weight) for s in range(n - 1) for _ in range(like)])
+
+
+def hiding(named, weight=0):
+    """So many loops 6:6 on the start, an arc for any symbol to a second state, a loop for any symbol there; both final."""
+    return sound(n=2, start=0, finals=((0, 0), (1, 0)), arcs=[(0, 6, 6, 0, weight)] * named + [(0, 65535, 65535, 1, 0), (1, 65535, 65535, 1, 0)])
+
+
+# Beside an arc for any symbol: 6 named at another state, and by an arc that leads nowhere.
+ELSEWHERE = sound(n=2, start=0, finals=((1, 0),), arcs=((0, 65535, 9, 1, 1), (1, 6, 6, 1, 4)))
+NOWHERE = sound(n=3, start=0, finals=((2, 0),), arcs=((0, 6, 6, 1, 0), (0, 65535, 65535, 2, 1)))
+
+
+# A loop 0:6, and a state that names 6 beside a loop for any symbol: two paths, and infinitely many if that loop fitted 6.
+HIDDEN_LOOP = one_state((1, 0, 6, 1)), sound(n=2, start=0, finals=((0, 0), (1, 0)), arcs=((0, 6, 6, 1, 0), (0, 65535, 65535, 0, 0)))
+
+
 def last_row():
     t, origins = composed(LAST_LEFT, LAST_RIGHT)
     if encode(t) != bytes.fromhex(LAST_BYTES) or struct.pack("<8H", *origins) != bytes.fromhex(LAST_ORIGINS):
@@ -128,7 +147,7 @@ def order_rows():
     yield c(12, "12 with a dear final", one_state((56, 1, 2, 0), weight=600000), one_state((55, 2, 3, 0), weight=400001), also=[13])
 
 
-# Arcs for any symbol: on the right in arc order among the others, never read by an empty output; on the left 18, wherever they stand.
+# Arcs for any symbol: on the right they fit what no arc of their state names, never an empty output; on the left 18, wherever they stand.
 def any_rows():
     c = compose_row
     any_left = one_state((1, 65535, 2, 0))
@@ -137,7 +156,19 @@ def any_rows():
         yield c(0, f"65535:{output} and an empty output", one_state((1, 1, 0, 2)), one_state((1, 65535, output, 3)))
         yield c(18, f"65535:{output} on the left", one_state((1, 65535, output, 2)), one_state((1, 2, 3, 3)))
     mixed = one_state((1, 65535, 65535, 1), (1, 6, 6, 4), (1, 0, 8, 1), (1, 65535, 9, 5))
-    yield c(0, "named and any arcs, mixed", one_state((2, 1, 6, 2), (1, 1, 7, 2)), mixed)
+    yield c(0, "named and any arcs, mixed", one_state((2, 1, 6, 2), (1, 1, 7, 2)), mixed, built=(2, 10, 2))
+    six = one_state((1, 1, 6, 2))
+    yield c(0, "a named arc before the any arc", six, one_state((1, 6, 6, 4), (1, 65535, 65535, 1)), built=(1, 1, 1))
+    yield c(0, "a named arc behind the any arc", six, one_state((1, 65535, 65535, 1), (1, 6, 6, 4)), built=(1, 1, 1))
+    yield c(0, "two any arcs", six, one_state((1, 65535, 65535, 1), (1, 7, 7, 4), (1, 65535, 9, 1)), built=(1, 2, 1))
+    yield c(0, "an empty input hides nothing", six, one_state((1, 0, 8, 1), (1, 65535, 9, 1)), built=(2, 4, 2))
+    yield c(0, "a named arc of another state", six, ELSEWHERE, built=(2, 2, 1))
+    yield c(0, "a named arc that leads nowhere", six, NOWHERE, built=(2, 1, 0))
+    yield c(0, "11 that hidden arcs would give", sixes(513), hiding(1), built=(513, 512, 1))
+    yield c(12, "12 in the place of 11 by hidden arcs", sixes(513, like=4), hiding(2))
+    yield c(0, "12 that hidden arcs would give", one_state((56, 1, 6, 0)), one_state((1, 6, 6, 0), (55, 65535, 65535, 0)), built=(1, 56, 1))
+    yield c(0, "13 that a hidden arc would give", one_state((1, 1, 6, 600000)), one_state((1, 6, 6, 0), (1, 65535, 7, 400001)), built=(1, 1, 1))
+    yield c(0, "14 that a hidden arc would give", *HIDDEN_LOOP, built=(2, 1, 2))
     bits = one_state((1, 43690, 6, 2), (1, 21845, 7, 2))
     yield c(0, "inputs whose bits make up 65535 on the left", bits, one_state((1, 6, 9, 3)), built=(1, 1, 1))
     yield c(0, "inputs whose bits make up 65535 on the right", one_state((1, 1, 43690, 2), (1, 1, 8, 2)), bits, built=(1, 1, 1))

@@ -2,9 +2,9 @@
 import struct
 import sys
 
-from compose_cases import LAST_BYTES, line, loops, one_state
+from compose_cases import ELSEWHERE, HIDDEN_LOOP, LAST_BYTES, NOWHERE, line, loops, one_state
 from lattice_model import APPLY_LEAST, TRIM_LEAST, apply, apply_conditions, applied, trim, trim_conditions, trimmed
-from model import ARCS, BARRED, STATES, decode, encode, split
+from model import ARCS, BARRED, STATES, composed, decode, encode, split
 from rows import EXACT, NONE, SMALLEST, agree, case, lend, sound, total
 
 APPLY, TRIM = 5, 6
@@ -61,6 +61,10 @@ def last_row():
     return apply_row(0, "paper 01's last case", (1, 3), LAST_JOINED, before=(5, 4), after=(4, 3))
 
 
+# Paper 02's example of Point 6.
+EXAMPLE = sound(n=2, start=0, finals=((1, 0),), arcs=((0, 6, 6, 1, 4), (0, 65535, 65535, 1, 1)))
+
+
 def apply_rows():
     a = apply_row
     copy = one_state((1, 5, 6, 2), weight=3)
@@ -81,7 +85,21 @@ def apply_rows():
     for output in (65535, 9, 0):
         yield a(0, f"65535:{output} applied", (5, 65534), one_state((1, 65535, output, 2)), after=(3, 2))
     mixed = sound(n=2, start=0, finals=((1, 0),), arcs=((0, 65535, 65535, 1, 1), (0, 6, 7, 1, 4), (0, 0, 8, 1, 2), (1, 65535, 0, 1, 5)))
-    yield a(0, "named and any arcs, mixed", (6, 7), mixed, after=(4, 5))
+    yield a(0, "named and any arcs, mixed", (6, 7), mixed, after=(4, 4))
+    yield a(0, "paper 02's example of Point 6, code 6", (6,), EXAMPLE, after=(2, 1))
+    yield a(0, "paper 02's example of Point 6, code 7", (7,), EXAMPLE, after=(2, 1))
+    yield a(0, "a named arc behind the any arc", (6,), one_state((1, 65535, 65535, 1), (1, 6, 6, 4)), after=(2, 1))
+    around = one_state((1, 65535, 65535, 1), (1, 6, 6, 4), (1, 65535, 9, 1), (1, 6, 8, 2))
+    yield a(0, "any arcs before and behind named ones", (6, 7), around, after=(3, 4))
+    yield a(0, "two any arcs", (6,), one_state((1, 65535, 65535, 1), (1, 7, 7, 4), (1, 65535, 9, 1)), after=(2, 2))
+    yield a(0, "an empty input hides nothing", (6,), one_state((1, 0, 8, 1), (1, 65535, 9, 1)), after=(2, 3))
+    yield a(0, "a named arc of another state", (6, 6), ELSEWHERE, after=(3, 2))
+    yield a(0, "a named arc that leads nowhere", (6,), NOWHERE, after=(1, 0))
+    rungs = [x for s in range(19) for x in ((s, 6, 6, s, 0), (s, 65535, 65535, min(s + 1, 18), 0))]
+    hidden = sound(n=19, start=0, finals=((0, 0),), arcs=rungs)
+    yield a(0, "11 that hidden arcs would give", (6,) * 64, hidden, after=(65, 64))
+    yield a(0, "12 that hidden arcs would give", (6,) * 64, one_state((1, 6, 6, 0), (48, 65535, 7, 0)), after=(65, 64))
+    yield a(0, "14 that a hidden arc would give", (), encode(composed(*HIDDEN_LOOP)[0]), after=(2, 1))
     bits = one_state((1, 43690, 6, 2), (1, 21845, 7, 2))
     yield a(0, "inputs whose bits make up 65535", (43690, 21845), bits, after=(3, 2))
     yield a(0, "inputs whose bits make up 65535, and another symbol", (8,), bits, after=(1, 0))

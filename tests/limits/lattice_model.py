@@ -1,5 +1,5 @@
 """Paper 01 in plain Python, for the limit cases: applying a string (a code there) and trimming, with refusals 9 to 12, and arcs for any symbol
-(paper 02, Point 5)."""
+(paper 02, Points 5 and 6)."""
 from functools import lru_cache
 
 from model import ARCS, BARRED, BYTES, STATES, Arc, Final, Transducer, arcs_of, built_conditions, byte_conditions, decode, encode, fits, passed, split
@@ -19,7 +19,7 @@ def applied(string, data):
             symbol = string[place] if place < len(string) else 0
             if a.input == 0:
                 target, symbol = (place, a.target), 0
-            elif fits(a, symbol):
+            elif fits(t, a, symbol):
                 target = (place + 1, a.target)
             else:
                 continue

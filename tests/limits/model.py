@@ -1,4 +1,4 @@
-"""Paper 01, with the weights of paper 02 (Point 8) and its label for any symbol (Point 5), in plain Python, for the limit cases: the bytes of a
+"""Paper 01, with the weights of paper 02 (Point 8) and its label for any symbol (Points 5 and 6), in plain Python, for the limit cases: the bytes of a
 transducer (a table there), refusals 1 to 8, reading and writing, and composition (the join there) with refusals 10 to 13 and 18.
 
 Written from the paper alone and made to be read, not to be fast: each refusal is the sentence of the paper as a test of
@@ -10,7 +10,7 @@ from functools import lru_cache
 
 STATES, ARCS, WEIGHT, BARRED, BYTES = 1024, 3072, 1000000, 65535, 59404
 
-# As an input it fits each symbol, as an output it passes on the symbol that was read.
+# As an input it fits each symbol that no arc of its state has as its input, as an output it passes on the symbol that was read.
 ANY = 65535
 
 Final = namedtuple("Final", "state weight")
@@ -186,9 +186,10 @@ def arcs_of(t, state):
     return [(i, x) for i, x in enumerate(t.arcs) if x.source == state]
 
 
-def fits(arc, symbol):
-    """Whether an arc fits a symbol; the empty label is none."""
-    return symbol != 0 and arc.input in (symbol, ANY)
+def fits(t, arc, symbol):
+    """Whether an arc fits a symbol; the empty label is none. One for any symbol fits what no arc of its state has as its input (Point 6)."""
+    named = arc.input == ANY and any(x.source == arc.source and x.input == symbol for x in t.arcs)
+    return symbol != 0 and (arc.input == symbol or arc.input == ANY and not named)
 
 
 def passed(arc, symbol):
@@ -200,7 +201,7 @@ def steps_of_left(left, right, p, q, mark):
     for i, a in arcs_of(left, p):
         if a.output != 0:
             for j, b in arcs_of(right, q):
-                if fits(b, a.output):
+                if fits(right, b, a.output):
                     yield Step((a.target, b.target, 0), a.input, passed(b, a.output), a.weight + b.weight, (i, j))
         elif mark == 0:
             yield Step((a.target, q, 0), a.input, 0, a.weight, (i, BARRED))

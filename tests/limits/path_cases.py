@@ -2,9 +2,10 @@
 import struct
 import sys
 
-from compose_cases import line, loops, one_state
-from lattice_cases import LAST_LATTICE
-from model import STATES
+from compose_cases import HIDDEN_LOOP, line, loops, one_state
+from lattice_cases import EXAMPLE, LAST_LATTICE
+from lattice_model import applied, trimmed
+from model import STATES, composed, encode
 from path_model import COSTS_LEAST, NO_COST, TELL_LEAST, count, count_conditions, distance, distance_conditions, nth, nth_conditions
 from path_model import shortest_conditions, shortest_path
 from rows import EXACT, NONE, SMALLEST, agree, case, lend, sound, total, total_costs
@@ -100,6 +101,11 @@ def apart_from_a_ring(total):
     return ring(total, [(0, 1, 2, 4, 3)], ((4, -2),))
 
 
+def lattice_of(string, data):
+    """The bytes of a string's lattice on a table."""
+    return encode(trimmed(applied(string, data)[0])[0])
+
+
 # Handed to a call directly, 65535 is one label of one arc.
 ANY = sound(n=3, start=0, finals=((2, 0),), arcs=((0, 65535, 65535, 2, 5), (0, 65535, 0, 1, 2), (1, 65535, 0, 2, 3)))
 
@@ -112,6 +118,8 @@ def count_rows():
     yield c(14, "a ring of weight 0", FREE_RING)
     yield c(14, "a ring of weight -1", PAYING)
     yield c(0, "an arc twice", like(2), 2)
+    for symbol in (6, 7):
+        yield c(0, f"paper 02's example of Point 6, code {symbol}", lattice_of((symbol,), EXAMPLE), 1)
     yield c(0, "a ring on no accepting path", ASIDE, 1)
     yield c(0, "a ring below 0 on no accepting path", lead_to_a_ring(-1), 1)
     yield c(0, "a ring that is not reached", sound(n=3, start=0, finals=((1, 0),), arcs=((0, 1, 2, 1, 0), (2, 0, 4, 2, 0), (2, 0, 4, 1, 0))), 1)
@@ -143,6 +151,7 @@ def nth_rows():
     yield p(15, "k 4294967295", 4294967295, like(2))
     yield p(14, "a ring", 0, RING)
     yield p(14, "a ring of weight -1", 0, PAYING)
+    yield p(15, "15 in the place of 14 by a hidden arc", 2, lattice_of((), encode(composed(*HIDDEN_LOOP)[0])))
     yield p(0, "a cost below 0", 1, sound(n=2, start=0, finals=((1, -4),), arcs=((0, 1, 2, 1, 5), (0, 1, 2, 1, -3))), (-7, 1, 1))
     yield p(0, "a cost of 0", 0, sound(n=2, start=0, finals=((1, -4),), arcs=((0, 1, 2, 1, 4),)), (0, 1, 1))
     yield p(0, "a cost of -1", 0, sound(n=2, start=0, finals=((1, 999999),), arcs=((0, 1, 2, 1, -1000000),)), (-1, 1, 1))
@@ -213,6 +222,8 @@ def tie_rows():
 def shortest_rows():
     s = shortest_row
     yield s(0, "paper 01's last case", LATTICE, (11, 3, 2))
+    for symbol, cost in ((6, 4), (7, 1)):
+        yield s(0, f"paper 02's example of Point 6, code {symbol}", lattice_of((symbol,), EXAMPLE), (cost, 1, 1))
     yield s(0, "a ring of weight 2", RING, (0, 0, 0))
     yield s(0, "a ring of weight 0", FREE_RING, (0, 0, 0))
     yield s(0, "the final weight counts", sound(n=2, start=0, finals=((0, 9), (1, 3)), arcs=((0, 1, 2, 1, 5),)), (8, 1, 1))

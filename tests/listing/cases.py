@@ -3,7 +3,6 @@ tests/limits computes. Each case has the first line written out by hand.
 
     python3 -B tests/listing/cases.py [PROGRAM]     (target/bin/list unless named)
 """
-import struct
 import subprocess
 import sys
 import tempfile
@@ -13,51 +12,13 @@ ROOT = Path(__file__).resolve().parents[2]
 sys.path.insert(0, str(ROOT / "tests/limits"))
 
 from compose_cases import LAST_LEFT, LAST_RIGHT, REST, line, one_state
-from lattice_model import applied, string_wrong, trimmed
-from model import ANY, WEIGHT, any_condition, built_conditions, byte_conditions, composed, encode
-from path_model import cost, endless, paths
+from model import ANY, WEIGHT
 from rows import sound
 
-MOST_READ = 65536
+import changed
+from listed import MOST_READ, labels, listing
+
 LONGEST = 602996  # bytes of the longest text
-
-
-def labels(*codes):
-    return struct.pack(f"<{len(codes)}H", *codes)
-
-
-def refusal(left, right, code):
-    """The composition's refusal, then the string's, then that of applying it; 0 where none holds."""
-    for held in (byte_conditions(left), any_condition(left), byte_conditions(right)):
-        if held:
-            return min(held)
-    joined = composed(left, right)[0]
-    if built_conditions(joined):
-        return min(built_conditions(joined))
-    string = struct.unpack(f"<{len(code) // 2}H", code[: len(code) // 2 * 2])
-    if len(code) % 2 or string_wrong(string):
-        return 9
-    return min(built_conditions(applied(string, encode(joined))[0]), default=0)
-
-
-def listing(left, right, code):
-    """The text for the bytes of three files."""
-    left, right, code = left[:MOST_READ], right[:MOST_READ], code[:MOST_READ]
-    number = refusal(left, right, code)
-    if number:
-        return f"refused {number}\n"
-    string = struct.unpack(f"<{len(code) // 2}H", code)
-    lattice = trimmed(applied(string, encode(composed(left, right)[0]))[0])[0]
-    if endless(lattice):
-        return "readings endless\n"
-    found = paths(lattice, 99)
-    if len(found) == 99:
-        return "readings 99+\n"
-    lines = [f"readings {len(found)}"]
-    for k, path in enumerate(found):
-        outputs = [lattice.arcs[i].output for i in path if lattice.arcs[i].output]
-        lines.append(" ".join(map(str, [k, cost(lattice, path), *outputs])))
-    return "\n".join(lines) + "\n"
 
 
 def like_arcs(count, weight=5):
@@ -108,7 +69,9 @@ def cases():
     yield "3,072 arcs in the lattice", "readings 99+", one_state((48, 1, 2, 0)), COPY, ONE * 64
     yield "the longest listing", "readings 98", one_state(), longest(), b""
     yield "the largest labels", "readings 1", one_state((1, 65534, 65534, 0)), one_state((1, 65534, 65534, 0)), labels(65534)
-    yield "arcs for any symbol", "readings 3", one_state((1, 6, 6, 0)), one_state((1, ANY, ANY, 1), (1, 6, 8, 4), (1, ANY, 0, 2)), labels(6)
+    for what, _, after, left, right, code, _ in changed.cases():
+        yield f"Point 6: {what}", after, left, right, code
+    yield "two arcs for any symbol", "readings 2", one_state((1, 6, 6, 0)), one_state((1, ANY, ANY, 1), (1, 7, 8, 4), (1, ANY, 0, 2)), labels(6)
     yield "an arc for any symbol and an empty output", "readings 0", one_state((1, 6, 0, 0)), ANY_TO_7, labels(6)
     # Refusals: the left table, the right one, the composition, the string, its application.
     yield "left missing", "refused 2", None, COPY, ONE

@@ -15,8 +15,8 @@
 // Left out: pairs that end in 11, 12 or 13, since OpenFst has no such limits. Bytes that are no table (1 to 8), strings that are
 // refused (9), short buffers (10), path order, origins and ties are not compared here: OpenFst has none of them.
 // OpenFst's composition has no label for any symbol: it gets such arcs of the right table written out, one for each symbol that the left one
-// writes. What is compared stays the same, since each of these is read in one way.
-// PLANT is none, or a fault of OpenFst's side to show that differences are found: filter, weight, arcs, sign or any.
+// writes and no arc of their state names. What is compared stays the same, since each of these is read in one way.
+// PLANT is none, or a fault of OpenFst's side to show that differences are found: filter, weight, arcs, sign, any or named.
 #include <fst/arcsort.h>
 #include <fst/compose.h>
 #include <fst/connect.h>
@@ -69,7 +69,7 @@ static Fst build(const Bytes &b) {
   return t;
 }
 
-// The right transducer with arcs for any symbol written out, for the symbols that the left one writes.
+// The right transducer with arcs for any symbol written out, for the symbols that the left one writes and no arc of their state names.
 static Fst written_out(const Fst &left, const Fst &right) {
   std::set<int> symbols;
   for (int s = 0; s < left.NumStates(); ++s)
@@ -79,6 +79,8 @@ static Fst written_out(const Fst &left, const Fst &right) {
   bool some = false;
   for (int s = 0; s < right.NumStates(); ++s) {
     t.DeleteArcs(s);
+    std::set<int> named;
+    for (fst::ArcIterator<Fst> it(right, s); !it.Done() && plant != "named"; it.Next()) named.insert(it.Value().ilabel);
     for (fst::ArcIterator<Fst> it(right, s); !it.Done(); it.Next()) {
       const Arc &a = it.Value();
       if (a.ilabel != ANY) {
@@ -86,7 +88,8 @@ static Fst written_out(const Fst &left, const Fst &right) {
         continue;
       }
       some = true;
-      for (int x : symbols) t.AddArc(s, Arc(x, a.olabel == ANY && plant != "any" ? x : a.olabel, a.weight, a.nextstate));
+      for (int x : symbols)
+        if (!named.count(x)) t.AddArc(s, Arc(x, a.olabel == ANY && plant != "any" ? x : a.olabel, a.weight, a.nextstate));
     }
   }
   tally["arcs for any symbol"] += some;

@@ -11,7 +11,7 @@
 using Bytes = std::vector<uint8_t>;
 using Labels = std::vector<uint16_t>;
 
-// As an input it reads any symbol, as an output it passes on the symbol read.
+// As an input it reads any symbol that its state does not name, as an output it passes on the symbol read.
 constexpr int ANY = 65535;
 
 struct Case {

@@ -868,6 +868,13 @@ fn any_symbol() -> Vec<Case> {
     let named = Draft::new(2, 0, &[(1, 0)], &[(0, 6, 6, 1, 4), (0, any, any, 1, 1)]);
     out.push(given("paper 02's example of Point 6", loops(1, 6, 6, 0), named.clone(), &[6], Some(0)));
     out.push(given("the same, applied", named, loops(1, 6, 6, 0), &[7], Some(18)));
+    // A named arc of another state hides nothing; one that leads nowhere does; behind the arc for any symbol, too.
+    let other = Draft::new(2, 0, &[(1, 0)], &[(0, any, 9, 1, 1), (1, 6, 6, 1, 4)]);
+    let nowhere = Draft::new(3, 0, &[(2, 0)], &[(0, any, any, 2, 1), (0, 6, 6, 1, 0)]);
+    for (name, table) in [("named at another state", other), ("named and leading nowhere", nowhere)] {
+        out.push(given(name, loops(1, 6, 6, 0), table.clone(), &[6, 6], Some(0)));
+        out.push(given(name, table, loops(1, 6, 6, 0), &[6], Some(18)));
+    }
     // 18 before the right table's 1, and behind the left table's 8.
     let broken = |bytes: Vec<u8>, left: u32, join: u32| Case {
         name: "18 among the others".to_string(),

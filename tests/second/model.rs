@@ -15,7 +15,7 @@ pub const MAX_WEIGHT: i64 = 1_000_000;
 pub const MIN_WEIGHT: i64 = -1_000_000;
 pub const MAX_CODE: usize = 64;
 pub const BARRED: u16 = 65_535;
-/// As an input it fits each symbol, as an output it passes on the symbol read (02, Point 5).
+/// As an input it fits each symbol that no arc of its state names, as an output it passes on the symbol read (02, Points 5 and 6).
 pub const ANY: u16 = 65_535;
 pub const STILL: u16 = 65_535;
 pub const MANY: usize = 99;
@@ -333,9 +333,16 @@ pub fn write(
 
 // ---------------------------------------------------------- any symbol
 
-/// Whether an arc of this input reads a symbol. The empty label is none.
-fn fits(input: u16, symbol: u16) -> bool {
-    symbol != 0 && (input == symbol || input == ANY)
+/// Whether an arc reads a symbol. The empty label is none. One for any symbol
+/// reads what no arc of its state names (02, Point 6).
+fn fits(t: &Table, a: &Arc, symbol: u16) -> bool {
+    symbol != 0 && (a.input == symbol || a.input == ANY && !named(t, a.source, symbol))
+}
+
+/// Whether an arc of a state has a symbol as its input, wherever it leads.
+fn named(t: &Table, state: usize, symbol: u16) -> bool {
+    let first = t.arcs.partition_point(|a| a.source < state);
+    t.arcs[first..].iter().take_while(|a| a.source == state).any(|a| a.input == symbol)
 }
 
 /// What an arc writes that reads a symbol.
@@ -382,7 +389,7 @@ pub fn join(left: &Table, right: &Table) -> Result<Joined, u32> {
             }
             for &r in &of_right[q] {
                 let b = &right.arcs[r];
-                if fits(b.input, a.output) {
+                if fits(right, b, a.output) {
                     let to = (a.target, b.target, 0);
                     let weight = a.weight + b.weight;
                     let output = passed(b.output, a.output);
@@ -564,7 +571,7 @@ pub fn lattice(code: &[u16], t: &Table) -> Result<(Table, Vec<usize>), u32> {
             let a = &t.arcs[x];
             let (next, input, output) = if a.input == 0 {
                 (place, 0, a.output)
-            } else if place < code.len() && fits(a.input, code[place]) {
+            } else if place < code.len() && fits(t, a, code[place]) {
                 (place + 1, code[place], passed(a.output, code[place]))
             } else {
                 continue;
@@ -1015,7 +1022,7 @@ pub fn all_paths(
             }
             let rest = match reads {
                 Some(x) if a.input != 0 => match x.split_first() {
-                    Some((first, rest)) if fits(a.input, *first) => Some(rest),
+                    Some((first, rest)) if fits(t, a, *first) => Some(rest),
                     _ => continue,
                 },
                 same => same,

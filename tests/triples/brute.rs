@@ -45,11 +45,11 @@ fn ways(t: &Table, word: Option<&[u16]>, longest: usize) -> Option<Vec<Way>> {
         }
         for &i in leaving[state].iter().filter(|_| way.arcs.len() < longest) {
             let a = &t.arcs[i];
-            // An arc for any symbol reads the next one of the word, and may pass it on.
+            // An arc for any symbol reads the next one of the word where no arc of its state names that, and may pass it on.
             let read = match word {
                 Some(w) if a.input == 65_535 => match w.get(way.input.len()) {
-                    Some(&symbol) => symbol,
-                    None => continue,
+                    Some(&symbol) if leaving[state].iter().all(|&k| t.arcs[k].input != symbol) => symbol,
+                    _ => continue,
                 },
                 _ => a.input,
             };

@@ -32,7 +32,8 @@ FAULTS = [
     ("the right side's final weight left out", "second/model.rs", "pub fn join", "finals.push((i, x + y));", "finals.push((i, x + 0 * y));"),
     ("origins of a lattice before trimming", "second/model.rs", "pub fn apply", "kept.iter().map(|&i| from[i]).collect()", "kept.clone()"),
     ("any left in a composed arc", "second/model.rs", "pub fn join", "let output = passed(b.output, a.output);", "let output = b.output;"),
-    ("any arcs do not fit", "second/model.rs", "fn fits", "(input == symbol || input == ANY)", "input == symbol"),
+    ("any arcs do not fit", "second/model.rs", "fn fits", "(a.input == symbol || a.input == ANY && !named(t, a.source, symbol))", "a.input == symbol"),
+    ("a hidden any arc still fits", "second/model.rs", "fn fits", " && !named(t, a.source, symbol)", ""),
     ("count capped at 98", "second/model.rs", "pub fn count", "MANY", "(MANY - 1)"),
 ]
 

@@ -15,8 +15,8 @@ pub struct Final {
     pub weight: Weight,
 }
 
-/// An arc. Label 0 reads or writes nothing, 1 to 65,534 are symbols. Input 65,535 reads any symbol, and output 65,535 beside it writes the symbol
-/// that was read.
+/// An arc. Label 0 reads or writes nothing, 1 to 65,534 are symbols. Input 65,535 reads any symbol that no arc of its state has as its input, and
+/// output 65,535 beside it writes the symbol that was read.
 #[derive(Clone, Copy, Debug, PartialEq, Eq, Hash)]
 pub struct Arc {
     /// The state it leaves.

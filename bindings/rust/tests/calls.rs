@@ -134,6 +134,12 @@ fn any_symbol() -> Result<(), Refusal> {
     let turn = Table::new(1, 0, &[end(0, 0)], &[arc(0, 7, 3, 0, 0)])?;
     assert_eq!(turn.compose(&copy)?.table.apply(&[7])?.table.shortest()?.labels, [3]);
     assert_eq!(copy.compose(&turn).map(|x| x.table), Err(Refusal::ANY_INPUT));
+    // A symbol that its state names is not read by the arc for any symbol.
+    let rest = Table::new(2, 0, &[end(1, 0)], &[arc(0, 6, 6, 1, 4), arc(0, ANY, ANY, 1, 1)])?;
+    for (symbol, cost) in [(6, 4), (7, 1)] {
+        let lattice = rest.apply(&[symbol])?.table;
+        assert_eq!((lattice.head().arcs, lattice.shortest()?.cost), (1, cost));
+    }
     Ok(())
 }
 
