@@ -52,8 +52,9 @@ ELSEWHERE = sound(n=2, start=0, finals=((1, 0),), arcs=((0, 65535, 9, 1, 1), (1,
 NOWHERE = sound(n=3, start=0, finals=((2, 0),), arcs=((0, 6, 6, 1, 0), (0, 65535, 65535, 2, 1)))
 
 
-# A loop 0:6, and a state that names 6 beside a loop for any symbol: two paths, and infinitely many if that loop fitted 6.
-HIDDEN_LOOP = one_state((1, 0, 6, 1)), sound(n=2, start=0, finals=((0, 0), (1, 0)), arcs=((0, 6, 6, 1, 0), (0, 65535, 65535, 0, 0)))
+def hidden_loop(weight):
+    """A loop 0:6, and a state that names 6 beside a loop for any symbol: two paths, and infinitely many if that loop fitted 6."""
+    return one_state((1, 0, 6, weight)), sound(n=2, start=0, finals=((0, 0), (1, 0)), arcs=((0, 6, 6, 1, 0), (0, 65535, 65535, 0, 0)))
 
 
 def last_row():
@@ -168,7 +169,7 @@ def any_rows():
     yield c(12, "12 in the place of 11 by hidden arcs", sixes(513, like=4), hiding(2))
     yield c(0, "12 that hidden arcs would give", one_state((56, 1, 6, 0)), one_state((1, 6, 6, 0), (55, 65535, 65535, 0)), built=(1, 56, 1))
     yield c(0, "13 that a hidden arc would give", one_state((1, 1, 6, 600000)), one_state((1, 6, 6, 0), (1, 65535, 7, 400001)), built=(1, 1, 1))
-    yield c(0, "14 that a hidden arc would give", *HIDDEN_LOOP, built=(2, 1, 2))
+    yield c(0, "14 that a hidden arc would give", *hidden_loop(1), built=(2, 1, 2))
     bits = one_state((1, 43690, 6, 2), (1, 21845, 7, 2))
     yield c(0, "inputs whose bits make up 65535 on the left", bits, one_state((1, 6, 9, 3)), built=(1, 1, 1))
     yield c(0, "inputs whose bits make up 65535 on the right", one_state((1, 1, 43690, 2), (1, 1, 8, 2)), bits, built=(1, 1, 1))

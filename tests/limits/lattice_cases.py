@@ -2,7 +2,7 @@
 import struct
 import sys
 
-from compose_cases import ELSEWHERE, HIDDEN_LOOP, LAST_BYTES, NOWHERE, line, loops, one_state
+from compose_cases import ELSEWHERE, LAST_BYTES, NOWHERE, hidden_loop, line, loops, one_state
 from lattice_model import APPLY_LEAST, TRIM_LEAST, apply, apply_conditions, applied, trim, trim_conditions, trimmed
 from model import ARCS, BARRED, STATES, composed, decode, encode, split
 from rows import EXACT, NONE, SMALLEST, agree, case, lend, sound, total
@@ -99,7 +99,7 @@ def apply_rows():
     hidden = sound(n=19, start=0, finals=((0, 0),), arcs=rungs)
     yield a(0, "11 that hidden arcs would give", (6,) * 64, hidden, after=(65, 64))
     yield a(0, "12 that hidden arcs would give", (6,) * 64, one_state((1, 6, 6, 0), (48, 65535, 7, 0)), after=(65, 64))
-    yield a(0, "14 that a hidden arc would give", (), encode(composed(*HIDDEN_LOOP)[0]), after=(2, 1))
+    yield a(0, "14 that a hidden arc would give", (), encode(composed(*hidden_loop(1))[0]), after=(2, 1))
     bits = one_state((1, 43690, 6, 2), (1, 21845, 7, 2))
     yield a(0, "inputs whose bits make up 65535", (43690, 21845), bits, after=(3, 2))
     yield a(0, "inputs whose bits make up 65535, and another symbol", (8,), bits, after=(1, 0))

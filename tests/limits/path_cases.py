@@ -2,7 +2,7 @@
 import struct
 import sys
 
-from compose_cases import HIDDEN_LOOP, line, loops, one_state
+from compose_cases import NOWHERE, hidden_loop, line, loops, one_state
 from lattice_cases import EXAMPLE, LAST_LATTICE
 from lattice_model import applied, trimmed
 from model import STATES, composed, encode
@@ -151,7 +151,7 @@ def nth_rows():
     yield p(15, "k 4294967295", 4294967295, like(2))
     yield p(14, "a ring", 0, RING)
     yield p(14, "a ring of weight -1", 0, PAYING)
-    yield p(15, "15 in the place of 14 by a hidden arc", 2, lattice_of((), encode(composed(*HIDDEN_LOOP)[0])))
+    yield p(15, "15 in the place of 14 by a hidden arc", 2, lattice_of((), encode(composed(*hidden_loop(1))[0])))
     yield p(0, "a cost below 0", 1, sound(n=2, start=0, finals=((1, -4),), arcs=((0, 1, 2, 1, 5), (0, 1, 2, 1, -3))), (-7, 1, 1))
     yield p(0, "a cost of 0", 0, sound(n=2, start=0, finals=((1, -4),), arcs=((0, 1, 2, 1, 4),)), (0, 1, 1))
     yield p(0, "a cost of -1", 0, sound(n=2, start=0, finals=((1, 999999),), arcs=((0, 1, 2, 1, -1000000),)), (-1, 1, 1))
@@ -224,6 +224,8 @@ def shortest_rows():
     yield s(0, "paper 01's last case", LATTICE, (11, 3, 2))
     for symbol, cost in ((6, 4), (7, 1)):
         yield s(0, f"paper 02's example of Point 6, code {symbol}", lattice_of((symbol,), EXAMPLE), (cost, 1, 1))
+    yield s(16, "16 where only a hidden arc leads on", lattice_of((6,), NOWHERE))
+    yield s(0, "19 that a hidden arc would give", lattice_of((), encode(composed(*hidden_loop(-1))[0])), (-1, 1, 1))
     yield s(0, "a ring of weight 2", RING, (0, 0, 0))
     yield s(0, "a ring of weight 0", FREE_RING, (0, 0, 0))
     yield s(0, "the final weight counts", sound(n=2, start=0, finals=((0, 9), (1, 3)), arcs=((0, 1, 2, 1, 5),)), (8, 1, 1))

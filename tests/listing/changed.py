@@ -14,11 +14,11 @@ sys.path.insert(0, str(ROOT / "tests/limits"))
 
 import lattice_model
 import model
-from compose_cases import HIDDEN_LOOP, NOWHERE, hiding, one_state, sixes
+from compose_cases import NOWHERE, hidden_loop, hiding, one_state, sixes
 from lattice_cases import EXAMPLE
-from lattice_model import applied, trimmed
 from model import ANY, composed, decode, encode, split
-from path_model import TELL_LEAST, nth_conditions
+from path_cases import lattice_of
+from path_model import TELL_LEAST, nth_conditions, shortest_path
 
 from listed import labels, listing
 
@@ -65,7 +65,7 @@ def cases():
            (ONE.format("56 loops 1:6 of weight 600000"), ONE.format("a loop 6:6 of weight 400001 and 55 loops <any>:<any>")))
     yield "Refusal 13 that vanishes", "refused 13", "readings 1", one_state((1, 6, 6, 600000)), one_state((1, 6, 6, 0), (1, ANY, 7, 400001)), SIX, ()
     yield "Refusal 13 that gives way to 9", "refused 13", "refused 9", one_state((1, 6, 6, 600000)), one_state((1, 6, 6, 0), (1, ANY, 7, 400001)), BAD, ()
-    yield "Refusal 14 that vanishes: infinitely many readings become two", "readings endless", "readings 2", *HIDDEN_LOOP, NONE, ()
+    yield "Refusal 14 that vanishes: infinitely many readings become two", "readings endless", "readings 2", *hidden_loop(1), NONE, ()
 
 
 def text(data):
@@ -80,17 +80,33 @@ def size(left, right):
     return t.n, len(t.arcs)
 
 
-def third(left, right):
-    """What the third path, that of k 2, of the empty code's lattice is refused by."""
-    lattice = encode(trimmed(applied((), encode(composed(left, right)[0]))[0])[0])
-    return nth_conditions(lattice, 2, TELL_LEAST)[0]
+def third(data):
+    """What the third path, that of k 2, of a lattice is refused by."""
+    return f"refused by {nth_conditions(data, 2, TELL_LEAST)[0]}"
+
+
+def cheapest(data):
+    """What the shortest path of a lattice costs, or is refused by."""
+    number, told, _ = shortest_path(data, {x: [0] * cells for x, cells in TELL_LEAST.items()})
+    return f"refused by {number}" if number else f"cost {told[0]}"
+
+
+def calls():
+    """What a call on a lattice tells: what changes, of which tables and code, the limit case that has the call tell what is told now, and how it is told."""
+    joined = lambda weight: lattice_of((), encode(composed(*hidden_loop(weight))[0]))
+    yield ("Refusal 14 that gives way to 15: the third reading of the same", "Tables and code of the last row; k is 2.",
+           "path, 15 in the place of 14 by a hidden arc", "the k-th path", lambda: third(joined(1)))
+    yield ("Refusal 19 that vanishes", "The same with weight -1 in the left table.", "shortest path, 19 that a hidden arc would give", "the shortest path",
+           lambda: cheapest(joined(-1)))
+    yield ("A shortest path that gives way to 16", "The right table of the code that loses its last reading, and code 6 applied to it.",
+           "shortest path, 16 where only a hidden arc leads on", "the shortest path", lambda: cheapest(lattice_of((6,), NOWHERE)))
 
 
 OPENING = """\
 Against Point 5, where an arc for any symbol fits each symbol, also one that another arc of its state names. Each row is executed: `tests/listing/cases.py`
-has the program print what is listed now, and this page is what `tests/listing/changed.py` writes, which the gate compares. Both answers are those of the
-model in Python. Tables are in the form of [tables.md](../tables.md); long ones are told in words. A code that is applied to such a table directly loses the
-same arcs: `tests/limits/lattice_cases.py` ("hidden arcs" in the names of its cases).""".splitlines()
+has the program print what is listed now, the last three are cases of the program `limits`, and this page is what `tests/listing/changed.py` writes, which the
+gate compares. Both answers are those of the model in Python. Tables are in the form of [tables.md](../tables.md); long ones are told in words. A code that is
+applied to such a table directly loses the same arcs: `tests/limits/lattice_cases.py` ("hidden arcs" in the names of its cases).""".splitlines()
 
 
 def document():
@@ -112,11 +128,10 @@ def document():
         out += [f"code: {' '.join(map(str, string)) or 'empty'}", "", "| | composed states | composed arcs | listing |", "|---|---:|---:|---|",
                 f"| before | {old_states:,} | {old_arcs:,} | {', '.join(f'`{x}`' for x in old.splitlines())} |",
                 f"| after | {new_states:,} | {new_arcs:,} | {', '.join(f'`{x}`' for x in new.splitlines())} |", ""]
-    with as_before():
-        old = third(*HIDDEN_LOOP)
-    out += ["## Refusal 14 that gives way to 15: the third reading of the same", "",
-            "Tables and code of the last row; k is 2. A case of `crates/limits` has the k-th path tell what is told now (`path, 15 in the place of 14 by a "
-            "hidden arc`).", "", "| | the k-th path |", "|---|---|", f"| before | refused by {old} |", f"| after | refused by {third(*HIDDEN_LOOP)} |", ""]
+    for what, tables, case, call, told in calls():
+        with as_before():
+            old = told()
+        out += [f"## {what}", "", f"{tables} In `crates/limits`: `{case}`.", "", f"| | {call} |", "|---|---|", f"| before | {old} |", f"| after | {told()} |", ""]
     return "\n".join(out)
 
 
