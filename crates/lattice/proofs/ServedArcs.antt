@@ -115,11 +115,6 @@ module _ (cs : List ℕ) (t : Transducer) (x : State) (good : Good t) (i : ℕ) 
       by-test (eqb (a .input) 0) (λ h. reads-nothing (eqb-true (a .input) 0 h))
       (λ h. reads-some (eqb-false (a .input) 0 h) (reads-fits t (symbol-of cs x) a e) (from ∙ e) (own-output (omega (arith, e, symbol-below cs x string))))
 
--- What is said of the arc of a number is said of that arc.
-pub fits-number : (t : Transducer) (s i label : ℕ) (a : Arc) → a ≡ arc t i
-    → fits t s (arc t i) ≡ eqb (arc t i .input) label → fits t s a ≡ eqb (a .input) label
-fits-number t s i label a is h = rw is h
-
 -- An arc as it reads a symbol, 0 for none, with another source.
 abbrev pub reading : (source symbol : ℕ) → Arc → Arc
 reading source symbol a = record { source = source; input = symbol; output = passed symbol a; target = a .target; weight = a .weight }

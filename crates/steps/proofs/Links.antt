@@ -16,8 +16,8 @@ use Rattle.wire.specs.Bytes.{Bytes, four}
 use Rattle.transducer.specs.Format.{Transducer, any, decode}
 use Rattle.transducer.specs.Leaf.{Opened, Rest, Leaving}
 use Rattle.transducer.specs.Path.{arc}
-use Rattle.transducer.specs.Each.{unnamed, fits, label-at, named}
-use Rattle.transducer.proofs.Fits.{named-input, label-none, label-named, label-any, fits-label}
+use Rattle.transducer.specs.Each.{unnamed, fits, named}
+use Rattle.transducer.proofs.Fits.{named-input, label-at, label-none, label-named, label-any, fits-label}
 use Rattle.steps.specs.Lookup.{label-bucket, reads, in-bucket, first-of, first-from, Heads, Chain, Again, Lookup, Leads}
 use Rattle.steps.specs.declared.Run.{Run}
 use Rattle.steps.specs.Runs.{fitting-from, reading-from, Takeable}

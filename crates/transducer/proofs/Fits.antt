@@ -3,7 +3,7 @@
 --     fits-label                             the arcs of a state that fit a symbol all have the same input
 -- Assumes nothing.
 use mathlib.Core.Path.{_≡_, sym, subst, _∙_}
-use mathlib.Core.Bool.{true, false, _&&_, not}
+use mathlib.Core.Bool.{true, false, _&&_, not, cond}
 use mathlib.Core.Logic.{_⊎_, inl, inr}
 use Prim.Native.Nat.{ℕ, _≤_, _<_}
 use native.Mathlib.Decide.{decLe}
@@ -16,7 +16,7 @@ use Rattle.wire.proofs.Places.{every-getD, getD-every}
 use Rattle.transducer.specs.declared.Arc.{Arc}
 use Rattle.transducer.specs.Format.{Transducer, any, all-labels-good}
 use Rattle.transducer.specs.Path.{arc, no-arc}
-use Rattle.transducer.specs.Each.{unnamed, fits, label-at, passed, named, plain}
+use Rattle.transducer.specs.Each.{unnamed, fits, passed, named, plain}
 use Rattle.transducer.proofs.Labels.{arc-unbarred}
 
 -- unnamed
@@ -113,7 +113,9 @@ pub fits-named : (t : Transducer) (s : ℕ) (a : Arc) → a .input < any → fit
 fits-named t s a l =
     same-truth (fits t s a) (eqb (a .input) s) (λ h. eq-eqb (a .input) s (fits-reads t s a l h)) (λ h. reads-fits t s a (eqb-true (a .input) s h))
 
--- label-at
+-- The input of the arcs of a state that fit a symbol, by which composition and application find them.
+pub label-at : Transducer → (state symbol : ℕ) → ℕ
+label-at t q symbol = cond (not (eqb symbol 0) && unnamed t q symbol) any symbol
 
 module _ (t : Transducer) (q s : ℕ) where
   pub label-none : s ≡ 0 → label-at t q s ≡ 0

@@ -12,8 +12,8 @@ use Rattle.transducer.specs.Leaf.{arcs-below, Rest, Leaving, Fitting-lab
 use Rattle.transducer.proofs.Good.{content-good}
 use Rattle.transducer.proofs.Index.{arcs-of-state, state-of-arcs}
 use Rattle.transducer.proofs.Ranges.{arcs-below-length, arcs-below-rises}
-use Rattle.transducer.specs.Each.{unnamed, label-at, named}
-use Rattle.transducer.proofs.Fits.{none-unnamed, label-any, label-named, fits-label, fits-named, fits-none, named-input}
+use Rattle.transducer.specs.Each.{unnamed, named}
+use Rattle.transducer.proofs.Fits.{none-unnamed, label-at, label-any, label-named, fits-label, fits-named, fits-none, named-input}
 
 -- A part of the rest, up to the same end.
 pub rest-from : {u : Transducer} {q from to : ℕ} (k : ℕ) → Rest u q from to → from ≤ k → k ≤ to → Rest u q k to

@@ -28,10 +28,6 @@ unnamed t q symbol = every (λ b. not (eqb (b .source) q && eqb (b .input) symbo
 unfoldable pub fits : Transducer → (symbol : ℕ) → Arc → Bool
 fits t symbol a = eqb (a .input) symbol || (eqb (a .input) any && (not (eqb symbol 0) && unnamed t (a .source) symbol))
 
--- The input of the arcs of a state that fit a symbol.
-unfoldable pub label-at : Transducer → (state symbol : ℕ) → ℕ
-label-at t q symbol = cond (not (eqb symbol 0) && unnamed t q symbol) any symbol
-
 unfoldable pub passed : (symbol : ℕ) → Arc → ℕ
 passed symbol a = cond (eqb (a .output) any) symbol (a .output)
 

@@ -26,7 +26,7 @@ use Rattle.lattice.specs.declared.State.{State}
 use Rattle.lattice.specs.Pack.{unpacked}
 use Rattle.lattice.specs.Applying.{next, arc-keyed, State-in}
 use Rattle.lattice.proofs.ServedArcs.{index-within, index-leaving, arc-next, arcs-left, symbol-of, reading}
-use Rattle.lattice.proofs.ServedArcs.{Reads, reads-some, reads-written, reads-nothing, reads-itself, fits-number, read-taken, none-taken}
+use Rattle.lattice.proofs.ServedArcs.{Reads, reads-some, reads-written, reads-nothing, reads-itself, read-taken, none-taken}
 use Rattle.lattice.proofs.ServedArcs.{serving-first, serving-skip, serving-next, serving-full, serving-stop}
 use Rattle.lattice.proofs.Symbols.{string-short}
 use Rattle.lattice.proofs.applying.serve.Statement.{statement}
@@ -210,9 +210,9 @@ fits-by : (c : tie.After-arc-of Inv-loop μ-loop)
 fits-by c =
     let turn = at-turn c in
     let t = table-of (start (opened turn)) in
-    let symbol = at-symbol turn .symbol-at .result in
-    subst (λ (s : ℕ). fits t s (c .arc-of .result) ≡ eqb (c .arc-of .result .input) (turn .before .label-at .result)) (symbol-is (at-symbol turn))
-    (fits-number t symbol (turn .loop .i) (turn .before .label-at .result) (c .arc-of .result) (c .arc-of .ensures)
+    let label = turn .before .label-at .result in
+    subst (λ (s : ℕ). fits t s (c .arc-of .result) ≡ eqb (c .arc-of .result .input) label) (symbol-is (at-symbol turn))
+    (subst (λ (a : Arc). fits t (at-symbol turn .symbol-at .result) a ≡ eqb (a .input) label) (sym (c .arc-of .ensures))
     (turn .before .label-at .ensures (turn .loop .i) (turn .loop .inv .4) (c .before .loop-test .taken)))
 
 loop-less : tie.Need-loop-less Inv-loop μ-loop
