@@ -7,7 +7,7 @@ use Prim.Native.Nat.{ℕ}
 use Rattle.transducer.specs.Format.{Good, decode}
 use Rattle.transducer.specs.Each.{plain}
 use Rattle.transducer.proofs.Fits.{named-plain}
-use Rattle.transducer.proofs.GoodParts.{good-parts}
+use Rattle.transducer.proofs.Good.{good-tests}
 use Rattle.transducer.proofs.RoundTrip.{accepted-good}
 use Rattle.trim.specs.Trim.{through}
 use Rattle.claim.specs.Kind.{Paths-are}
@@ -51,7 +51,7 @@ module _ {a b c : List ℕ} (r : Brackets a b c) where
 
   -- The second transducer has no arc for any symbol, by 18 of its composition with the third.
   plain-b : plain (decode b) ≡ true
-  plain-b = named-plain (decode b) (good-parts (decode b) good-b .labels-are) (composing (r .bc) .left-named)
+  plain-b = named-plain (decode b) (good-tests (decode b) good-b .labels) (composing (r .bc) .left-named)
 
   plain-bc : plain (decode (composed-bytes (r .bc))) ≡ true
   plain-bc = composition-plain good-b good-c (composing (r .bc))

@@ -113,7 +113,7 @@ module _ (t o s : List ℕ) (long-t : max-bytes ≤ length t) (long-o : max-orig
         states-left = left-behind 0 s [];
         says =
             rw (le-ltb (length t) max-bytes long-t, le-ltb (length o) max-origins long-o, le-ltb (length s) max-states long-s, none)
-            (record { refusal-is = refl; len-is = refl; table = refl; origins = refl; states = refl });
+            (record { refusal-is = refl; len-is = refl; table = refl; origins = refl; work = refl });
         well = refl;
       }
 
@@ -155,7 +155,7 @@ module _ (t o s : List ℕ) (long-t : max-bytes ≤ length t) (long-o : max-orig
           pairs-left = left-behind 0 s [];
           says =
               rw (le-ltb (length t) max-bytes long-t, le-ltb (length l) max-arcs long-l, le-ltb (length s) max-states long-s, computed .applied-fine)
-              (record { refusal-is = refl; len-is = refl; table = refl; origins = refl; pairs = refl });
+              (record { refusal-is = refl; len-is = refl; table = refl; origins = refl; work = refl });
           well = refl;
         }
 

@@ -8,7 +8,7 @@ use Prim.Native.Nat.{ℕ}
 use Rattle.wire.proofs.Bool.{clash, is-false}
 use Rattle.transducer.specs.Format.{Transducer, refusal, decode}
 use Rattle.transducer.specs.Path.{accepts, path-cost}
-use Rattle.transducer.specs.Weight.{Weight, At-most, Below}
+use Rattle.transducer.specs.Weight.{At-most}
 use Rattle.transducer.proofs.Runs.{Within}
 use Rattle.compose.specs.Claim.{Least}
 use Rattle.shortest.specs.Claim.{No-least-cost, Best-of-all, Tells-path, Shortest-claim}

@@ -18,7 +18,7 @@ use Rattle.compose.specs.Entry.{compose-refusal, Compose-says}
 use Rattle.trim.specs.Trim.{through}
 use Rattle.lattice.specs.ApplyEntry.{apply-refusal, Apply-says}
 use Rattle.paths.specs.declared.Counted.{Counted}
-use Rattle.paths.specs.declared.Told.{Told}
+use Rattle.tell.specs.declared.Told.{Told}
 use Rattle.paths.specs.Entry.{count-refusal, Count-says}
 use Rattle.shortest.specs.Entry.{shortest-refusal, Shortest-says}
 use Rattle.claim.specs.Kind.{Kind, those, Paths-are, Counts}

@@ -16,12 +16,16 @@ max-arcs = 3072
 abbrev pub index-long : ℕ
 index-long = max-states + 1
 
-abbrev pub max-weight : ℤ
-max-weight = pos 1000000
+-- How far a weight may be from zero.
+abbrev pub weight-limit : ℕ
+weight-limit = 1000000
 
--- -1,000,000: `negsuc n` is -(n + 1).
+abbrev pub max-weight : ℤ
+max-weight = pos weight-limit
+
+-- Of this size below zero: `negsuc n` is -(n + 1).
 abbrev pub min-weight : ℤ
-min-weight = negsuc 999999
+min-weight = negsuc (weight-limit - 1)
 
 -- The longest string, the longest accepting path where there are finitely many, and where counting stops.
 abbrev pub max-symbols : ℕ

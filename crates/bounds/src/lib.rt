@@ -12,7 +12,7 @@ pub const INDEX_LEN: usize = MAX_STATES + 1;
 
 pub const MAX_WEIGHT: i32 = 1000000;
 
-pub const MIN_WEIGHT: i32 = -1000000;
+pub const MIN_WEIGHT: i32 = -MAX_WEIGHT;
 
 // No symbol: strings may not hold it.
 pub const BARRED: u16 = 65535;

@@ -12,7 +12,7 @@ use Rattle.wire.specs.Bytes.{filled}
 use Rattle.wire.proofs.Places.{take-filled}
 use Rattle.wire.proofs.Bool.{passed-last, raised-last, not-raised}
 use Rattle.transducer.specs.declared.Written.{Written}
-use Rattle.transducer.specs.Format.{Transducer, refusal, decode}
+use Rattle.transducer.specs.Format.{max-path, Transducer, refusal, decode}
 use Rattle.transducer.specs.Encode.{encode}
 use Rattle.transducer.specs.Each.{named, any-refusal}
 use Rattle.transducer.specs.Entry.{or-else, unless}
@@ -26,7 +26,7 @@ use Rattle.lattice.specs.Apply.{string-good, applied}
 use Rattle.lattice.specs.ApplyEntry.{apply-room, apply-refusal, Apply-says}
 use Rattle.lattice.specs.Lattice.{lattice, lattice-origins}
 use Rattle.paths.specs.declared.Counted.{Counted}
-use Rattle.paths.specs.declared.Told.{Told}
+use Rattle.tell.specs.declared.Told.{Told}
 use Rattle.paths.specs.Count.{endless, path-count, nth-path}
 use Rattle.paths.specs.Entry.{count-refusal, Count-says, nth-refusal, Nth-says}
 
@@ -159,15 +159,15 @@ pub record Told-well (w : Transducer) (k : ℕ) (r : Told) (a' b' : List ℕ) : 
   pub cost : r .cost ≡ path-cost w (nth-path w k)
 
 pub told-well : (bs : List ℕ) (k : ℕ) (r : Told) (a a' b b' : List ℕ) → refusal bs ≡ 0 → endless (decode bs) ≡ false → k < path-count (decode bs)
-    → 1023 ≤ length a → 1023 ≤ length b → Nth-says bs k (nth-refusal bs k (length a) (length b)) r a a' b b' → Told-well (decode bs) k r a' b'
+    → max-path ≤ length a → max-path ≤ length b → Nth-says bs k (nth-refusal bs k (length a) (length b)) r a a' b b' → Told-well (decode bs) k r a' b'
 unfolding nth-refusal
 told-well bs k r a a' b b' ok finite below room-a room-b says =
     let w : Transducer = decode bs in
     let p : List ℕ = nth-path w k in
     let number : ℕ = nth-refusal bs k (length a) (length b) in
     let none : number ≡ 0 =
-    none-or-else (refusal bs) (cond (ltb (length a) 1023 || ltb (length b) 1023) 10 (cond (endless w) 14 (cond (leb (path-count w) k) 15 0))) ok
-    ∙ (rw (le-ltb (length a) 1023 room-a, le-ltb (length b) 1023 room-b, finite, lt-leb (path-count w) k below)) in
+    none-or-else (refusal bs) (cond (ltb (length a) max-path || ltb (length b) max-path) 10 (cond (endless w) 14 (cond (leb (path-count w) k) 15 0))) ok
+    ∙ (rw (le-ltb (length a) max-path room-a, le-ltb (length b) max-path room-b, finite, lt-leb (path-count w) k below)) in
     record {
       well = says .refusal-is ∙ none;
       arcs =

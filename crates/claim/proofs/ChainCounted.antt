@@ -18,14 +18,14 @@ use Rattle.claim.proofs.Counting.{counts}
 use Rattle.claim.proofs.HandedOn.{composition-good, composition-plain, composition-pairs, applied-read, applied-good, applied-accepted, applied-reads}
 
 -- The calls: zs and ws are the composition's and the lattice's bytes as handed on, os and ls their origins as left behind, r the count's answer.
-pub record Chained (xs ys cs zs os ws ls : List ℕ) (r : Counted) : Type 0 where
+pub record Calls-chained (xs ys cs zs os ws ls : List ℕ) (r : Counted) : Type 0 where
   pub left-bytes : Bytes xs
   pub right-bytes : Bytes ys
   pub composing : Composed-well xs ys zs os
   pub applying : Applied-well cs zs ws ls
   pub counting : Count-says ws (count-refusal ws) r
 
-module _ {xs ys cs zs os ws ls : List ℕ} {r : Counted} (chained : Chained xs ys cs zs os ws ls r) where
+module _ {xs ys cs zs os ws ls : List ℕ} {r : Counted} (chained : Calls-chained xs ys cs zs os ws ls r) where
   good-xs : Good (decode xs)
   good-xs = accepted-good xs (chained .left-bytes) (chained .composing .left-good)
 

@@ -18,7 +18,7 @@ use Rattle.claim.specs.Claim.{Calls, composed-bytes, lattice-bytes, latt
 use Rattle.claim.specs.Claim.{told-arcs, Tells, Claim}
 use Rattle.claim.proofs.Answers.{composed-well, applied-well, Told-well, told-well}
 use Rattle.claim.proofs.Answers.{none-counted, count-told, some-counted}
-use Rattle.claim.proofs.ChainCounted.{Chained, lattice-accepted, lattice-within, paths-are-pairs, counts-pairs}
+use Rattle.claim.proofs.ChainCounted.{Calls-chained, lattice-accepted, lattice-within, paths-are-pairs, counts-pairs}
 
 module _ (c : Calls) (answered : Answered c) where
   abbrev w : Transducer
@@ -27,7 +27,7 @@ module _ (c : Calls) (answered : Answered c) where
   abbrev Accepting : List ℕ → Type 0
   Accepting p = accepts w p ≡ true
 
-  chained : Chained (c .left) (c .right) (c .string) (composed-bytes c) (c .origins-left) (lattice-bytes c) (c .lattice-origins-left) (c .counting)
+  chained : Calls-chained (c .left) (c .right) (c .string) (composed-bytes c) (c .origins-left) (lattice-bytes c) (c .lattice-origins-left) (c .counting)
   chained =
       record {
         left-bytes = answered .left-bytes;

@@ -1,7 +1,8 @@
+-- What the calls' answers say.
+pub mod Answers
 -- Lists and counts: paths and other things that stand one to one.
 pub mod Counting
--- What the calls' answers say, one after the other.
-pub mod Answers
+-- What is handed on from call to call, and the chain of calls.
 pub mod HandedOn
 pub mod Chain
 pub mod ChainCounted
@@ -9,5 +10,3 @@ pub mod ChainCounted
 pub mod Claimed
 pub mod Plain
 pub mod ReadingsSays
--- Names passed on to crates that still look for them here.
-pub mod Pigeonhole

@@ -6,7 +6,7 @@ use Prim.Native.Nat.{ℕ, _≤_}
 use lib.ListN.{length, take}
 use Rattle.wire.specs.Bytes.{Bytes}
 use Rattle.transducer.specs.declared.Written.{Written}
-use Rattle.transducer.specs.Format.{Transducer, Good, refusal, decode}
+use Rattle.transducer.specs.Format.{max-arcs, max-bytes, max-origins, max-states, Transducer, Good, refusal, decode}
 use Rattle.transducer.specs.Entry.{or-else}
 use Rattle.transducer.proofs.Answers.{some-or-else, none-or-else, unless-some}
 use Rattle.transducer.proofs.RoundTrip.{accepted-good}
@@ -19,7 +19,7 @@ use Rattle.paths.specs.Entry.{count-refusal, Count-says}
 use Rattle.claim.specs.Entry.{composition, composition-lattice, composition-refusal, application-refusal, readings-refusal, Readings-says}
 use Rattle.claim.proofs.Answers.{Composed-well, composed-well, composed-fits}
 use Rattle.claim.proofs.Answers.{Applied-well, applied-well, applied-fits}
-use Rattle.claim.proofs.ChainCounted.{Chained, lattice-read, lattice-accepted, counts-pairs}
+use Rattle.claim.proofs.ChainCounted.{Calls-chained, lattice-read, lattice-accepted, counts-pairs}
 use Rattle.claim.proofs.HandedOn.{composition-read, composition-accepted}
 
 -- Which refusal it is
@@ -46,16 +46,31 @@ module _ (xs ys cs : List ℕ) where
   unfolding readings-refusal
   number-third e f = none-or-else m (or-else n last) e ∙ none-or-else n last f
 
+-- Composing was called on bytes, with buffers of the least lengths.
+pub record Composed-call (xs ys : List ℕ) (made : Written) (a a' b b' c c' : List ℕ) : Type 0 where
+  pub left-bytes : Bytes xs
+  pub right-bytes : Bytes ys
+  pub table-room : length a ≡ max-bytes
+  pub origins-room : length b ≡ max-origins
+  pub states-room : length c ≡ max-states
+  pub says : Compose-says xs ys (compose-refusal xs ys (length a) (length b) (length c)) made a a' b b' c c'
+
+-- And applying.
+pub record Applied-call (cs bs : List ℕ) (put : Written) (d d' e e' f f' : List ℕ) : Type 0 where
+  pub lattice-room : length d ≡ max-bytes
+  pub origins-room : length e ≡ max-arcs
+  pub pairs-room : length f ≡ max-states
+  pub says : Apply-says cs bs (apply-refusal cs bs (length d) (length e) (length f)) put d d' e e' f f'
+
 -- The composition's answer
 
-module _ (xs ys cs : List ℕ) (made : Written) {a a' b b' c c' : List ℕ} (la : length a ≡ 59404) (lb : length b ≡ 6144) (lc : length c ≡ 1024)
-    (composing : Compose-says xs ys (compose-refusal xs ys (length a) (length b) (length c)) made a a' b b' c c') where
+module _ {xs ys : List ℕ} {made : Written} {a a' b b' c c' : List ℕ} (composing : Composed-call xs ys made a a' b b' c c') where
   made-number : made .refusal ≡ composition-refusal xs ys
   unfolding compose-refusal compose-room composition-refusal or-else
-  made-number = composing .refusal-is ∙ (rw (la, lb, lc))
+  made-number = composing .says .refusal-is ∙ (rw (composing .table-room, composing .origins-room, composing .states-room))
 
-  pub says-uncomposed : (made .refusal ≡ 0 → ⊥) → Readings-says xs ys cs (record { refusal = made .refusal; count = 0 })
-  says-uncomposed bad =
+  pub says-uncomposed : (cs : List ℕ) → (made .refusal ≡ 0 → ⊥) → Readings-says xs ys cs (record { refusal = made .refusal; count = 0 })
+  says-uncomposed cs bad =
       let some : composition-refusal xs ys ≡ 0 → ⊥ = λ none. bad (made-number ∙ none) in
       let is : readings-refusal xs ys cs ≡ composition-refusal xs ys = number-first xs ys cs some in
       record {
@@ -64,35 +79,36 @@ module _ (xs ys cs : List ℕ) (made : Written) {a a' b b' c c' : List ℕ} (la 
         counts = λ none _. absurd (some none);
       }
 
-  module _ (bytes-xs : Bytes xs) (bytes-ys : Bytes ys) (well : made .refusal ≡ 0) where
+  module _ (well : made .refusal ≡ 0) where
     made-well : Composed-well xs ys (take (made .len) a') b'
-    made-well = composed-well xs ys made a a' b b' c c' composing well
+    made-well = composed-well xs ys made a a' b b' c c' (composing .says) well
 
     pub made-fits : made .len ≤ length a'
-    made-fits = composed-fits xs ys made a a' b b' c c' composing well
+    made-fits = composed-fits xs ys made a a' b b' c c' (composing .says) well
 
     none : composition-refusal xs ys ≡ 0
     none = sym made-number ∙ well
 
     good-xs : Good (decode xs)
-    good-xs = accepted-good xs bytes-xs (made-well .left-good)
+    good-xs = accepted-good xs (composing .left-bytes) (made-well .left-good)
 
     good-ys : Good (decode ys)
-    good-ys = accepted-good ys bytes-ys (made-well .right-good)
+    good-ys = accepted-good ys (composing .right-bytes) (made-well .right-good)
 
     read : decode (take (made .len) a') ≡ composition xs ys
     read = composition-read good-xs good-ys made-well
 
     -- The application's answer
 
-    module _ (put : Written) {d d' e e' f f' : List ℕ} (ld : length d ≡ 59404) (le : length e ≡ 3072) (lf : length f ≡ 1024)
-        (applying : Apply-says cs (take (made .len) a') (apply-refusal cs (take (made .len) a') (length d) (length e) (length f)) put d d' e e' f f') where
+    module _ {cs : List ℕ} {put : Written} {d d' e e' f f' : List ℕ} (applying : Applied-call cs (take (made .len) a') put d d' e e' f f') where
       abbrev bs : List ℕ
       bs = take (made .len) a'
 
       put-number : put .refusal ≡ application-refusal cs (composition xs ys)
       unfolding apply-refusal apply-room application-refusal or-else
-      put-number = applying .refusal-is ∙ (rw (ld, le, lf, composition-accepted good-xs good-ys made-well, read))
+      put-number =
+          applying .says .refusal-is
+          ∙ (rw (applying .lattice-room, applying .origins-room, applying .pairs-room, composition-accepted good-xs good-ys made-well, read))
 
       pub says-unapplied : (put .refusal ≡ 0 → ⊥) → Readings-says xs ys cs (record { refusal = put .refusal; count = 0 })
       says-unapplied bad =
@@ -108,18 +124,24 @@ module _ (xs ys cs : List ℕ) (made : Written) {a a' b b' c c' : List ℕ} (la 
 
       module _ (fine : put .refusal ≡ 0) where
         put-well : Applied-well cs bs (take (put .len) d') e'
-        put-well = applied-well cs bs put d d' e e' f f' applying fine
+        put-well = applied-well cs bs put d d' e e' f f' (applying .says) fine
 
         pub put-fits : put .len ≤ length d'
-        put-fits = applied-fits cs bs put d d' e e' f f' applying fine
+        put-fits = applied-fits cs bs put d d' e e' f f' (applying .says) fine
 
         pub says-counted : (r : Counted) → Count-says (take (put .len) d') (count-refusal (take (put .len) d')) r → Readings-says xs ys cs r
         unfolding count-refusal
         says-counted r counting =
             let ws : List ℕ = take (put .len) d' in
             let w : Transducer = composition-lattice xs ys cs in
-            let chained : Chained xs ys cs bs b' ws e' r =
-            record { left-bytes = bytes-xs; right-bytes = bytes-ys; composing = made-well; applying = put-well; counting = counting } in
+            let chained : Calls-chained xs ys cs bs b' ws e' r =
+            record {
+              left-bytes = composing .left-bytes;
+              right-bytes = composing .right-bytes;
+              composing = made-well;
+              applying = put-well;
+              counting = counting;
+            } in
             let in-bytes : decode ws ≡ w = lattice-read chained ∙ ap (lattice cs) read in
             let number : count-refusal ws ≡ readings-refusal xs ys cs =
             none-or-else (refusal ws) (cond (endless (decode ws)) 14 0) (lattice-accepted chained)

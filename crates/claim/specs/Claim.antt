@@ -16,7 +16,7 @@ use Rattle.compose.specs.Entry.{compose-refusal, Compose-says}
 use Rattle.lattice.specs.ApplyEntry.{apply-refusal, Apply-says}
 use Rattle.trim.specs.Trim.{through}
 use Rattle.paths.specs.declared.Counted.{Counted}
-use Rattle.paths.specs.declared.Told.{Told}
+use Rattle.tell.specs.declared.Told.{Told}
 use Rattle.paths.specs.Count.{before}
 use Rattle.paths.specs.Entry.{count-refusal, Count-says, nth-refusal, Nth-says}
 use Rattle.claim.specs.Kind.{Kind, Paths-are, Counts}

@@ -1,3 +1,4 @@
+-- What a caller must believe, and what is claimed
+pub mod Kind
 pub mod Claim
 pub mod Entry
-pub mod Kind

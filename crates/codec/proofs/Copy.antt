@@ -1,4 +1,4 @@
--- Loops that copy numbers from records to the front of a buffer. `Copied` and `Fields-copied` say how far one has come.
+-- Loops that copy numbers from records to the front of a buffer. `Numbers-copied` and `Fields-copied` say how far one has come.
 -- Assumes nothing.
 use mathlib.Core.Path.{_≡_, refl, sym, ap, _∙_}
 use mathlib.Core.List.{List, [], _∷_, _++_, append-assoc}
@@ -11,7 +11,7 @@ use lib.Seq.{sets, sets-eq, take-at, drop-append-add, drop-drop}
 use Rattle.wire.specs.Bytes.{places, padded, emptied, filled, cleared}
 use Rattle.wire.proofs.Places.{length-places, places-snoc, emptied-front, cleared-front}
 use Rattle.transducer.specs.declared.Arc.{Arc}
-use Rattle.transducer.specs.Format.{arc-at}
+use Rattle.transducer.specs.Format.{arc-bytes, arc-at}
 use Rattle.codec.specs.Entry.{arc-fields}
 
 -- The front of a buffer, and what is stored next behind it.
@@ -41,26 +41,26 @@ pub step-inside : (at step i count : ℕ) → i < count → at + step * i + step
 step-inside at step i count h = omega (arith, mul-le-mul-left step h)
 
 -- The first `i` of `count` numbers stand at the front; what lies behind is as it was.
-pub record Copied {A : Type 0} (f : ℕ → A) (at step count : ℕ) (out₀ out : List A) (place i : ℕ) : Type 0 where
+pub record Numbers-copied {A : Type 0} (f : ℕ → A) (at step count : ℕ) (out₀ out : List A) (place i : ℕ) : Type 0 where
   pub within : i ≤ count
   pub there : place ≡ at + step * i
   pub so-far : out ≡ places i at step f ++ drop i out₀
 
 module _ {A : Type 0} {f : ℕ → A} {at step count : ℕ} {out₀ : List A} where
-  pub copied-first : Copied f at step count out₀ out₀ at 0
+  pub copied-first : Numbers-copied f at step count out₀ out₀ at 0
   unfolding places
   copied-first = record { within = omega arith; there = omega (arith, mul-zero step); so-far = refl }
 
   pub copied-inside : {out : List A} {place i : ℕ} (size room : ℕ) → at + step * count + size ≤ room + step → i < count →
-      Copied f at step count out₀ out place i → place + size ≤ room
+      Numbers-copied f at step count out₀ out place i → place + size ≤ room
   copied-inside {i = i} size room h l c = omega (arith, step-inside at step i count l, c .there)
 
-  pub copied-length : {out : List A} {place i : ℕ} → count ≤ length out₀ → Copied f at step count out₀ out place i → length out ≡ length out₀
+  pub copied-length : {out : List A} {place i : ℕ} → count ≤ length out₀ → Numbers-copied f at step count out₀ out place i → length out ≡ length out₀
   copied-length {i = i} h c =
       rw (c .so-far) (length-front (places i at step f) out₀ i (length-places i at step f) (omega (arith, c .within)))
 
-  pub copied-next : {out : List A} {place i : ℕ} (v : A) → count ≤ length out₀ → i < count → v ≡ f place → Copied f at step count out₀ out place i →
-      Copied f at step count out₀ (set out i v) (place + step) (i + 1)
+  pub copied-next : {out : List A} {place i : ℕ} (v : A) → count ≤ length out₀ → i < count → v ≡ f place → Numbers-copied f at step count out₀ out place i →
+      Numbers-copied f at step count out₀ (set out i v) (place + step) (i + 1)
   copied-next {out} {i = i} v h l e c =
       let value : v ≡ f (at + step * i) = e ∙ ap f (c .there) in
       let stored : set out i v ≡ (places i at step f ++ (v ∷ [])) ++ drop (i + 1) out₀ =
@@ -71,7 +71,7 @@ module _ {A : Type 0} {f : ℕ → A} {at step count : ℕ} {out₀ : List A} wh
 
   -- All of them stand, and nothing is left behind them.
   pub copied-stop : {out : List A} {place i : ℕ} (none : A) (end : List A) → count ≤ length out₀ → count ≤ i → end ≡ emptied none count out →
-      Copied f at step count out₀ out place i → end ≡ padded none (length out₀) (places count at step f)
+      Numbers-copied f at step count out₀ out place i → end ≡ padded none (length out₀) (places count at step f)
   copied-stop {out} {i = i} none end h l e c =
       let all : i ≡ count = omega (arith, c .within) in
       let stored : out ≡ places count at step f ++ drop count out₀ = rw all at (c .so-far) in
@@ -99,7 +99,7 @@ four-set out k vs = set (set (set (set out k (getD vs 0 0)) (k + 1) (getD vs 1 0
 -- The fields of the first `i` of `count` arcs stand at the front; what lies behind is as it was.
 pub record Fields-copied (bs : List ℕ) (at count : ℕ) (out₀ out : List ℕ) (place i : ℕ) : Type 0 where
   pub within : i ≤ count
-  pub there : place ≡ at + 16 * i
+  pub there : place ≡ at + arc-bytes * i
   pub so-far : out ≡ arc-fields (places i at 16 (arc-at bs)) ++ drop (4 * i) out₀
 
 module _ {bs : List ℕ} {at count : ℕ} {out₀ : List ℕ} where

@@ -14,7 +14,8 @@ use Rattle.transducer.specs.Weight.{Weight}
 use Rattle.transducer.specs.declared.Arc.{Arc}
 use Rattle.transducer.specs.declared.Final.{Final}
 use Rattle.transducer.specs.declared.Header.{Header}
-use Rattle.transducer.specs.Format.{decode, refusal, head-arcs, head-finals, weight-at, final-at, arc-at, arcs-at}
+use Rattle.transducer.specs.Format.{head-bytes, final-bytes, arc-bytes, max-arcs, max-fields, max-states, decode, refusal, head-arcs, head-finals}
+use Rattle.transducer.specs.Format.{weight-at, final-at, arc-at, arcs-at}
 use Rattle.transducer.specs.Leaf.{header-of}
 use Rattle.codec.specs.Entry.{Read-says, read-refusal, read-room, arc-fields}
 use Rattle.codec.proofs.Copy.{places-shift}
@@ -23,25 +24,25 @@ use Rattle.transducer.proofs.Offsets.{length-accepted, decode-states, decode-st
 -- read-room
 
 module _ (a b c d : ℕ) where
-  pub short-states : a < 1024 → read-room a b c d ≡ 10
+  pub short-states : a < max-states → read-room a b c d ≡ 10
   unfolding read-room
-  short-states h = rw (lt-ltb a 1024 h)
+  short-states h = rw (lt-ltb a max-states h)
 
-  pub short-weights : b < 1024 → read-room a b c d ≡ 10
+  pub short-weights : b < max-states → read-room a b c d ≡ 10
   unfolding read-room
-  short-weights h = rw (lt-ltb b 1024 h, or-true (ltb a 1024))
+  short-weights h = rw (lt-ltb b max-states h, or-true (ltb a max-states))
 
-  pub short-fields : c < 12288 → read-room a b c d ≡ 10
+  pub short-fields : c < max-fields → read-room a b c d ≡ 10
   unfolding read-room
-  short-fields h = rw (lt-ltb c 12288 h, or-true (ltb b 1024), or-true (ltb a 1024))
+  short-fields h = rw (lt-ltb c max-fields h, or-true (ltb b max-states), or-true (ltb a max-states))
 
-  pub short-arc-weights : d < 3072 → read-room a b c d ≡ 10
+  pub short-arc-weights : d < max-arcs → read-room a b c d ≡ 10
   unfolding read-room
-  short-arc-weights h = rw (lt-ltb d 3072 h, or-true (ltb c 12288), or-true (ltb b 1024), or-true (ltb a 1024))
+  short-arc-weights h = rw (lt-ltb d max-arcs h, or-true (ltb c max-fields), or-true (ltb b max-states), or-true (ltb a max-states))
 
-  pub long-enough : 1024 ≤ a → 1024 ≤ b → 12288 ≤ c → 3072 ≤ d → read-room a b c d ≡ 0
+  pub long-enough : max-states ≤ a → max-states ≤ b → max-fields ≤ c → max-arcs ≤ d → read-room a b c d ≡ 0
   unfolding read-room
-  long-enough h₁ h₂ h₃ h₄ = rw (le-ltb a 1024 h₁, le-ltb b 1024 h₂, le-ltb c 12288 h₃, le-ltb d 3072 h₄)
+  long-enough h₁ h₂ h₃ h₄ = rw (le-ltb a max-states h₁, le-ltb b max-states h₂, le-ltb c max-fields h₃, le-ltb d max-arcs h₄)
 
 -- Refusals
 
@@ -89,9 +90,9 @@ module _ {bs a : List ℕ} {b : List Weight} {c : List ℕ} {d : List Weight} {n
 pub record Counted (bs : List ℕ) (head : Header) : Type 0 where
   pub finals-are : head .finals ≡ head-finals bs
   pub arcs-are : head .arcs ≡ head-arcs bs
-  pub few-finals : head .finals ≤ 1024
-  pub few-arcs : head .arcs ≤ 3072
-  pub long : length bs ≡ 12 + 10 * head .finals + 16 * head .arcs
+  pub few-finals : head .finals ≤ max-states
+  pub few-arcs : head .arcs ≤ max-arcs
+  pub long : length bs ≡ arcs-at (head .finals) + arc-bytes * head .arcs
 
 module _ (bs : List ℕ) (bytes : Bytes bs) (ok : refusal bs ≡ 0) where
   pub counted : {head : Header} → head ≡ header-of bs → Counted bs head
@@ -105,23 +106,23 @@ module _ (bs : List ℕ) (bytes : Bytes bs) (ok : refusal bs ≡ 0) where
   states-read : map (λ f. f .state) (decode bs .finals) ≡ places (head-finals bs) 16 10 (two bs)
   unfolding final-at
   states-read =
-      rw (decode-finals bs bytes ok, map-places (λ (f : Final). f .state) (head-finals bs) 12 10 (final-at bs))
+      rw (decode-finals bs bytes ok, map-places (λ (f : Final). f .state) (head-finals bs) head-bytes final-bytes (final-at bs))
       (sym (places-shift (head-finals bs) 12 4 10 (two bs)))
 
   weights-read : map (λ f. f .weight) (decode bs .finals) ≡ places (head-finals bs) 18 10 (weight-at bs)
   unfolding final-at
   weights-read =
-      rw (decode-finals bs bytes ok, map-places (λ (f : Final). f .weight) (head-finals bs) 12 10 (final-at bs))
+      rw (decode-finals bs bytes ok, map-places (λ (f : Final). f .weight) (head-finals bs) head-bytes final-bytes (final-at bs))
       (sym (places-shift (head-finals bs) 12 6 10 (weight-at bs)))
 
-  arc-weights-read : map (λ f. f .weight) (decode bs .arcs) ≡ places (head-arcs bs) (12 + 10 * head-finals bs + 12) 16 (weight-at bs)
+  arc-weights-read : map (λ f. f .weight) (decode bs .arcs) ≡ places (head-arcs bs) (arcs-at (head-finals bs) + 12) 16 (weight-at bs)
   unfolding arc-at
   arc-weights-read =
-      rw (decode-arcs bs bytes ok, map-places (λ (a : Arc). a .weight) (head-arcs bs) (12 + 10 * head-finals bs) 16 (arc-at bs))
-      (sym (places-shift (head-arcs bs) (12 + 10 * head-finals bs) 12 16 (weight-at bs)))
+      rw (decode-arcs bs bytes ok, map-places (λ (a : Arc). a .weight) (head-arcs bs) (arcs-at (head-finals bs)) 16 (arc-at bs))
+      (sym (places-shift (head-arcs bs) (arcs-at (head-finals bs)) 12 16 (weight-at bs)))
 
-  pub says-read : {head : Header} {first : ℕ} {a a' : List ℕ} {b b' : List Weight} {c c' : List ℕ} {d d' : List Weight} → 1024 ≤ length a
-      → 1024 ≤ length b → 12288 ≤ length c → 3072 ≤ length d →
+  pub says-read : {head : Header} {first : ℕ} {a a' : List ℕ} {b b' : List Weight} {c c' : List ℕ} {d d' : List Weight} → max-states ≤ length a
+      → max-states ≤ length b → max-fields ≤ length c → max-arcs ≤ length d →
       head ≡ header-of bs → first ≡ arcs-at (head .finals) →
       a' ≡ filled (length a) (places (head .finals) 16 10 (two bs)) →
       b' ≡ signed-filled (length b) (places (head .finals) 18 10 (weight-at bs)) →

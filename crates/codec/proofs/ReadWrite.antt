@@ -4,7 +4,7 @@
 -- Both rest on the transducer in the runs: `given-left` finds in the buffers that reading leaves the transducer that was read, and
 -- `fields-given` and its like find in a given transducer the runs that gave it. Assumes nothing.
 use mathlib.Core.Path.{_≡_, refl, sym, ap, _∙_}
-use mathlib.Core.Bool.{Bool, true, false, _||_, cond}
+use mathlib.Core.Bool.{false, _||_, cond}
 use mathlib.Core.List.{List, [], _∷_, map}
 use Prim.Native.Nat.{ℕ, zero, suc, _+_, _*_, _≤_}
 use native.Mathlib.Numerals.{add-one}
@@ -21,7 +21,7 @@ use Rattle.transducer.specs.declared.Arc.{Arc}
 use Rattle.transducer.specs.declared.Final.{Final}
 use Rattle.transducer.specs.declared.Header.{Header}
 use Rattle.transducer.specs.declared.Written.{Written}
-use Rattle.transducer.specs.Format.{Transducer, Good, max-states, max-arcs, max-bytes, decode, refusal, head-good, content-refusal}
+use Rattle.transducer.specs.Format.{max-fields, Transducer, Good, max-states, max-arcs, max-bytes, decode, refusal, head-good, content-refusal}
 use Rattle.transducer.specs.Encode.{encode}
 use Rattle.transducer.specs.Path.{no-arc}
 use Rattle.transducer.specs.Weight.{Weight, no-weight}
@@ -169,11 +169,16 @@ record Room (a b c d : ℕ) : Type 0 where
 read-room-none : (a b c d : ℕ) → read-room a b c d ≡ 0 → Room a b c d
 unfolding read-room
 read-room-none a b c d h =
-    let p = not-raised (ltb a 1024 || (ltb b 1024 || (ltb c 12288 || ltb d 3072))) 9 0 h .0 in
-    let q = or-false (ltb a 1024) (ltb b 1024 || (ltb c 12288 || ltb d 3072)) p in
-    let r = or-false (ltb b 1024) (ltb c 12288 || ltb d 3072) (q .1) in
-    let s = or-false (ltb c 12288) (ltb d 3072) (r .1) in
-    record { states = ltb-false a 1024 (q .0); weights = ltb-false b 1024 (r .0); fields = ltb-false c 12288 (s .0); arc-weights = ltb-false d 3072 (s .1) }
+    let p = not-raised (ltb a max-states || (ltb b max-states || (ltb c max-fields || ltb d max-arcs))) 9 0 h .0 in
+    let q = or-false (ltb a max-states) (ltb b max-states || (ltb c max-fields || ltb d max-arcs)) p in
+    let r = or-false (ltb b max-states) (ltb c max-fields || ltb d max-arcs) (q .1) in
+    let s = or-false (ltb c max-fields) (ltb d max-arcs) (r .1) in
+    record {
+      states = ltb-false a max-states (q .0);
+      weights = ltb-false b max-states (r .0);
+      fields = ltb-false c max-fields (s .0);
+      arc-weights = ltb-false d max-arcs (s .1);
+    }
 
 too-few-none : (f m a b c d : ℕ) → too-few f m a b c d ≡ false → Enough f m a b c d
 unfolding too-few

@@ -12,7 +12,7 @@ use Rattle.wire.specs.Bytes.{two, four, every}
 use Rattle.wire.proofs.Bool.{by-test, and-true, true-and, passed}
 use Rattle.transducer.specs.declared.Arc.{Arc}
 use Rattle.transducer.specs.declared.Final.{Final}
-use Rattle.transducer.specs.Format.{Transducer, Record, max-weight, framed, records, kinds-good, head-states, head-arcs, head-finals, head-start}
+use Rattle.transducer.specs.Format.{weight-limit, Transducer, Record, max-weight, framed, records, kinds-good, head-states, head-arcs, head-finals, head-start}
 use Rattle.transducer.specs.Format.{finals-in, arcs-in, decode, head-good, states-good, finals-rise, sources-stay, order-good, labels-good}
 use Rattle.transducer.specs.Format.{all-labels-good, weight-good, weight-at, weights-good, first-of, content-refusal, refusal}
 use Rattle.transducer.specs.Weight.{Weight, amount, at-most}
@@ -68,8 +68,8 @@ same-stay bs floor (r ∷ rs) =
 
 -- Weights that were good
 
-small : (n : ℕ) → at-most (amount n) max-weight ≡ true → n ≤ 1000000
-small n h = leb-true n 1000000 h
+small : (n : ℕ) → at-most (amount n) max-weight ≡ true → n ≤ weight-limit
+small n h = leb-true n weight-limit h
 
 -- What was good is the same, and good.
 same-finals : (bs : List ℕ) (rs : List Record) → every (λ f. at-most (f .weight) max-weight) (unsigned-finals bs rs) ≡ true

@@ -12,7 +12,7 @@ use Rattle.wire.specs.Bytes.{places, filled, cleared}
 use Rattle.wire.proofs.Places.{length-places}
 use Rattle.transducer.specs.Entry.{or-else, unless, left-in}
 use Rattle.transducer.specs.declared.Written.{Written}
-use Rattle.transducer.specs.Format.{Transducer, arcs-at, head-good, first-of, content-refusal}
+use Rattle.transducer.specs.Format.{arc-bytes, max-bytes, Transducer, arcs-at, head-good, first-of, content-refusal}
 use Rattle.transducer.specs.Check.{finals-checked, arcs-checked, from-0, none-failed, final-word, arc-word}
 use Rattle.transducer.specs.Encode.{head-record, final-records, arc-records, encode}
 use Rattle.codec.specs.Entry.{Write-says, write-refusal, given, final-of, arc-of, too-few}
@@ -110,31 +110,32 @@ module _ (n m f start : ℕ) (a : List ℕ) (b : List Weight) (c : List ℕ) (d 
       says-content k is bad = let no : eqb k 0 ≡ false = ne-eqb k 0 bad in refused k (rw (head, all, ← is, no)) no
 
       module _ (number : ℕ) (is : number ≡ content-refusal (given n m f start a b c d)) (good : number ≡ 0) where
-        pub says-10 : length out < 59404 → Refused 10
+        pub says-10 : length out < max-bytes → Refused 10
         unfolding write-refusal or-else
-        says-10 short = refused 10 (rw (head, all, ← is, good, lt-ltb (length out) 59404 short)) refl
+        says-10 short = refused 10 (rw (head, all, ← is, good, lt-ltb (length out) max-bytes short)) refl
 
-        says-0 : 59404 ≤ length out → write-refusal n m f start a b c d (length out) ≡ 0
+        says-0 : max-bytes ≤ length out → write-refusal n m f start a b c d (length out) ≡ 0
         unfolding write-refusal or-else
-        says-0 room = rw (head, all, ← is, good, le-ltb (length out) 59404 room)
+        says-0 room = rw (head, all, ← is, good, le-ltb (length out) max-bytes room)
 
-        says-stored : {o1 o2 o3 o4 : List ℕ} → 59404 ≤ length out → o1 ≡ sets out 0 (head-record n m f start) →
-            o2 ≡ sets o1 12 (final-records (places f 0 1 (final-of a b))) → o3 ≡ sets o2 (12 + 10 * f) (arc-records (places m 0 1 (arc-of c d))) →
-            o4 ≡ cleared (12 + 10 * f + 16 * m) o3 →
-            Write-says (given n m f start a b c d) (write-refusal n m f start a b c d (length out)) (record { refusal = 0; len = 12 + 10 * f + 16 * m }) out o4
+        says-stored : {o1 o2 o3 o4 : List ℕ} → max-bytes ≤ length out → o1 ≡ sets out 0 (head-record n m f start) →
+            o2 ≡ sets o1 12 (final-records (places f 0 1 (final-of a b))) → o3 ≡ sets o2 (arcs-at f) (arc-records (places m 0 1 (arc-of c d))) →
+            o4 ≡ cleared (arcs-at f + arc-bytes * m) o3 →
+            Write-says (given n m f start a b c d) (write-refusal n m f start a b c d (length out))
+            (record { refusal = 0; len = arcs-at f + arc-bytes * m }) out o4
         unfolding given
         says-stored room h1 h2 h3 h4 =
             let t = given n m f start a b c d in
             let finals : length (t .finals) ≡ f = length-places f 0 1 (final-of a b) in
             let arcs : length (t .arcs) ≡ m = length-places m 0 1 (arc-of c d) in
-            let long : length (encode t) ≡ 12 + 10 * f + 16 * m = length-encode t ∙ rw (finals, arcs) in
-            let fits : 12 + 10 * f + 16 * m ≤ length out = omega (arith, head-range n m f start head) in
-            says-written t (write-refusal n m f start a b c d (length out)) (12 + 10 * f + 16 * m) out _ (says-0 room) (sym long)
-            (cleared-sets (encode t) out (12 + 10 * f + 16 * m) long fits (sets-encode t out f m finals arcs h1 h2 h3) h4)
+            let long : length (encode t) ≡ arcs-at f + arc-bytes * m = length-encode t ∙ rw (finals, arcs) in
+            let fits : arcs-at f + arc-bytes * m ≤ length out = omega (arith, head-range n m f start head) in
+            says-written t (write-refusal n m f start a b c d (length out)) (arcs-at f + arc-bytes * m) out _ (says-0 room) (sym long)
+            (cleared-sets (encode t) out (arcs-at f + arc-bytes * m) long fits (sets-encode t out f m finals arcs h1 h2 h3) h4)
 
         -- The head, the finals and the arcs stored, and zeros behind them.
-        pub says-all : {first : ℕ} {o1 o2 o3 o4 : List ℕ} → 59404 ≤ length out → first ≡ arcs-at f → o1 ≡ sets out 0 (head-record n m f start) →
+        pub says-all : {first : ℕ} {o1 o2 o3 o4 : List ℕ} → max-bytes ≤ length out → first ≡ arcs-at f → o1 ≡ sets out 0 (head-record n m f start) →
             o2 ≡ sets o1 12 (final-records (places f 0 1 (final-of a b))) → o3 ≡ sets o2 first (arc-records (places m 0 1 (arc-of c d))) →
-            o4 ≡ cleared (first + 16 * m) o3 →
-            Write-says (given n m f start a b c d) (write-refusal n m f start a b c d (length out)) (record { refusal = 0; len = first + 16 * m }) out o4
+            o4 ≡ cleared (first + arc-bytes * m) o3 →
+            Write-says (given n m f start a b c d) (write-refusal n m f start a b c d (length out)) (record { refusal = 0; len = first + arc-bytes * m }) out o4
         says-all room place h1 h2 h3 h4 = rw place (says-stored room h1 h2 (rw place at h3) (rw place at h4))

@@ -1,6 +1,6 @@
 // Reading a transducer.
 ghost use mathlib.Core.Path.{_≡_};
-ghost use Prim.Native.Nat.{ℕ, _+_, _*_, _≤_, _<_};
+ghost use Prim.Native.Nat.{_+_, _*_, _≤_, _<_};
 ghost use lib.ListN.{length};
 ghost use Rattle.wire.specs.Bytes.{two, places, filled, signed-filled};
 ghost use Rattle.transducer.specs.Format.{arc-bytes, arc-at, weight-at};

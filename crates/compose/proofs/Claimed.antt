@@ -5,7 +5,7 @@ use mathlib.Core.List.{List}
 use Prim.Native.Nat.{ℕ, _≤_}
 use lib.ListN.{length}
 use Rattle.wire.specs.Bytes.{Bytes}
-use Rattle.transducer.specs.Format.{Transducer, Good, refusal, decode}
+use Rattle.transducer.specs.Format.{max-states, Transducer, Good, refusal, decode}
 use Rattle.transducer.specs.Encode.{encode}
 use Rattle.transducer.specs.Each.{named}
 use Rattle.transducer.specs.Path.{accepts, read-by, written-by, path-cost}
@@ -45,7 +45,7 @@ module _ (t u : Transducer) (good-t : Good t) (good-u : Good u) (fine : built-re
   abbrev origins : List ℕ
   origins = origin-pairs (composed t u .steps)
 
-  few : length (composed t u .states) ≤ 1024
+  few : length (composed t u .states) ≤ max-states
   unfolding composed
   few = unrefused-few same-state (steps t u) (final-state t u) (state-weight t u) (first-state t u) same-state-decides fine
 

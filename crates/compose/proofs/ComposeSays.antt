@@ -1,17 +1,18 @@
 -- The answers of composing: which refusal it is, and what is said and left behind; one law for each answer, in the order of the tests. Assumes nothing.
 use mathlib.Core.Path.{_≡_, refl, sym, ap, subst, _∙_}
-use mathlib.Core.Bool.{Bool, true, false}
+use mathlib.Core.Bool.{true, false}
 use mathlib.Core.List.{List, []}
 use Prim.Native.Nat.{ℕ, _+_, _*_, _≤_, _<_}
 use native.Mathlib.Omega.{arith}
-use lib.ListN.{length, getD, take}
+use lib.ListN.{length, getD, take, drop}
 use lib.Seq.{sets, length-sets}
 use borrow.Author.Tests.{lt-ltb, le-ltb, ne-eqb}
 use Rattle.wire.specs.Bytes.{Bytes, cleared}
+use Rattle.wire.proofs.Bool.{never}
 use Rattle.transducer.specs.declared.Final.{Final}
 use Rattle.transducer.specs.declared.Written.{Written}
-use Rattle.transducer.specs.Format.{Transducer, Good, refusal, decode}
-use Rattle.transducer.specs.Encode.{head-record, final-records, arc-records, encode}
+use Rattle.transducer.specs.Format.{arcs-at, max-arcs, max-bytes, max-origins, max-states, Transducer, Good, refusal, decode}
+use Rattle.transducer.specs.Encode.{head-record, final-records, encode}
 use Rattle.transducer.specs.Each.{named, any-refusal}
 use Rattle.transducer.specs.Entry.{or-else, unless}
 use Rattle.transducer.specs.Leaf.{Finals-by-state}
@@ -19,11 +20,11 @@ use Rattle.transducer.proofs.Most.{refusal-most}
 use Rattle.transducer.proofs.RoundTrip.{accepted-good}
 use Rattle.explore.specs.declared.FinalsPut.{FinalsPut}
 use Rattle.explore.specs.declared.Walk.{Walk}
-use Rattle.explore.specs.Explore.{built-refusal, keeps}
-use Rattle.explore.specs.Walk.{Told, stored-arcs, Finals-stored}
+use Rattle.explore.specs.Explore.{built-refusal}
+use Rattle.explore.specs.Walk.{Walk-told, Finals-stored, Refused-with}
 use Rattle.explore.proofs.EncodeStored.{filled-front}
 use Rattle.explore.proofs.ExploredKeys.{Keying}
-use Rattle.explore.proofs.LeftBehind.{built-late, early-keeps, late-keeps, behind-kept, behind-zeroed, behind-written, behind-same}
+use Rattle.explore.proofs.LeftBehind.{built-late, early-keeps, late-keeps, says-kept, says-zeroed, behind-written, behind-same}
 use Rattle.explore.proofs.WalkTold.{
   told-11,
   told-key,
@@ -40,58 +41,13 @@ use Rattle.explore.proofs.WalkTold.{
 use Rattle.steps.specs.Steps.{same-state, steps, first-state, origin-pair}
 use Rattle.compose.specs.Compose.{final-state, state-weight, composed}
 use Rattle.compose.specs.Entry.{Compose-says, compose-refusal, compose-room, origin-pairs}
-use Rattle.compose.specs.Finished.{key-final, key-weight, key-finals, Finishable, Refused-with, Composable}
+use Rattle.compose.specs.declared.entry.Attempt.{Attempt}
+use Rattle.compose.specs.Finished.{key-final, key-weight, key-finals, Finishable, Composable, Attempted}
 use Rattle.steps.specs.Packing.{pack}
 use Rattle.compose.specs.Walk.{key-steps, key-walk}
-use Rattle.compose.proofs.Explored.{two-origins, composed-keying, steps-light, key-bounded}
+use Rattle.compose.proofs.Explored.{two-origins, composed-keying, key-bounded}
 use Rattle.compose.proofs.KeyFinals.{pack-final, pack-weight}
 use Rattle.steps.proofs.Within.{Within, within-bounded}
-use Rattle.compose.proofs.Written.{steps-labelled}
-
--- Compose-says, by how the buffers are left
-
-module _ (xs ys : List ℕ) (number : ℕ) where
-  abbrev bytes : List ℕ
-  bytes = encode (composed (decode xs) (decode ys) .result)
-
-  abbrev pairs : List ℕ
-  pairs = origin-pairs (composed (decode xs) (decode ys) .steps)
-
-  says-early : (k : ℕ) (a b c : List ℕ) → number ≡ k → (k ≡ 0 → ⊥) → keeps k ≡ true
-      → (r : Written) → r ≡ record { refusal = k; len = 0 } → Compose-says xs ys number r a a b b c c
-  unfolding unless
-  says-early k a b c is bad kept r h =
-      record {
-        refusal-is = ap (λ (r : Written). r .refusal) h ∙ sym is;
-        len-is = ap (λ (r : Written). r .len) h ∙ (rw (is, ne-eqb k 0 bad));
-        table = rw is (sym (behind-kept a bytes k bad kept));
-        origins = rw is (sym (behind-kept b pairs k bad kept));
-        states = rw is (sym (behind-kept c [] k bad kept));
-      }
-
-  says-zeroed : (k : ℕ) (r : Written) (a a' b b' c c' : List ℕ) → number ≡ k → 10 < k → k < 14 → Refused-with k r a a' b b' c c'
-      → Compose-says xs ys number r a a' b b' c c'
-  unfolding unless
-  says-zeroed k r a a' b b' c c' is high low z =
-      record {
-        refusal-is = ap (λ (r : Written). r .refusal) (z .answer) ∙ sym is;
-        len-is = ap (λ (r : Written). r .len) (z .answer) ∙ (rw (is, ne-eqb k 0 (omega arith)));
-        table = rw is (z .table ∙ sym (behind-zeroed a bytes k high low));
-        origins = rw is (z .origins ∙ sym (behind-zeroed b pairs k high low));
-        states = rw is (z .states ∙ sym (behind-zeroed c [] k high low));
-      }
-
-  says-after : (r : Written) (a a₀ a' b b₀ b' c c₀ c' : List ℕ) → (keeps number ≡ true → number ≡ 0)
-      → length a ≡ length a₀ → length b ≡ length b₀ → length c ≡ length c₀
-      → Compose-says xs ys number r a a' b b' c c' → Compose-says xs ys number r a₀ a' b₀ b' c₀ c'
-  says-after r a a₀ a' b b₀ b' c c₀ c' late la lb lc s =
-      record {
-        refusal-is = s .refusal-is;
-        len-is = s .len-is;
-        table = s .table ∙ behind-same a bytes number a₀ late la;
-        origins = s .origins ∙ behind-same b pairs number b₀ late lb;
-        states = s .states ∙ behind-same c [] number c₀ late lc;
-      }
 
 -- The answers before anything is written
 
@@ -105,62 +61,44 @@ module _ (xs ys a b c : List ℕ) where
   pub says-left : (k : ℕ) → k ≡ refusal xs → (k ≡ 0 → ⊥) → Refused k
   unfolding compose-refusal or-else
   says-left k is bad =
-      says-early xs ys number k a b c (rw (← is, ne-eqb k 0 bad)) bad (early-keeps k (omega (arith, refusal-most xs)))
+      says-kept _ _ number k a b c (rw (← is, ne-eqb k 0 bad)) bad (early-keeps k (omega (arith, refusal-most xs)))
 
-  module _ (k : ℕ) (lis : k ≡ refusal xs) (lok : k ≡ 0) where
-    left-ok : refusal xs ≡ 0
-    left-ok = sym lis ∙ lok
-
-    pub says-any : (all : Bool) → all ≡ named (decode xs) → all ≡ false → Refused 18
+  module _ (lok : refusal xs ≡ 0) where
+    pub says-any : named (decode xs) ≡ false → Refused 18
     unfolding compose-refusal or-else any-refusal
-    says-any all is some =
-        says-early xs ys number 18 a b c (rw (left-ok, ← is, some)) (omega arith) (late-keeps 18 (omega arith))
+    says-any some = says-kept _ _ number 18 a b c (rw (lok, some)) (omega arith) (late-keeps 18 (omega arith))
 
-    module _ (all : Bool) (ais : all ≡ named (decode xs)) (aok : all ≡ true) where
-      all-ok : any-refusal (decode xs) ≡ 0
-      unfolding any-refusal
-      all-ok = rw (← ais, aok)
-
+    module _ (all : named (decode xs) ≡ true) where
       pub says-right : (j : ℕ) → j ≡ refusal ys → (j ≡ 0 → ⊥) → Refused j
-      unfolding compose-refusal or-else
+      unfolding compose-refusal or-else any-refusal
       says-right j is bad =
-          says-early xs ys number j a b c (rw (left-ok, all-ok, ← is, ne-eqb j 0 bad)) bad (early-keeps j (omega (arith, refusal-most ys)))
+          says-kept _ _ number j a b c (rw (lok, all, ← is, ne-eqb j 0 bad)) bad (early-keeps j (omega (arith, refusal-most ys)))
 
-      module _ (j : ℕ) (ris : j ≡ refusal ys) (rok : j ≡ 0) where
-        right-ok : refusal ys ≡ 0
-        right-ok = sym ris ∙ rok
-
+      module _ (rok : refusal ys ≡ 0) where
         short : compose-room (length a) (length b) (length c) ≡ 10 → Refused 10
-        unfolding compose-refusal or-else
-        short h = says-early xs ys number 10 a b c (rw (left-ok, all-ok, right-ok, h)) (omega arith) (early-keeps 10 (omega arith))
+        unfolding compose-refusal or-else any-refusal
+        short h = says-kept _ _ number 10 a b c (rw (lok, all, rok, h)) (omega arith) (early-keeps 10 (omega arith))
 
-        pub says-table : length a < 59404 → Refused 10
+        pub says-table : length a < max-bytes → Refused 10
         unfolding compose-room
-        says-table h = short (rw (lt-ltb (length a) 59404 h))
+        says-table h = short (rw (lt-ltb (length a) max-bytes h))
 
-        pub says-origins : 59404 ≤ length a → length b < 6144 → Refused 10
+        pub says-origins : max-bytes ≤ length a → length b < max-origins → Refused 10
         unfolding compose-room
-        says-origins p h = short (rw (le-ltb (length a) 59404 p, lt-ltb (length b) 6144 h))
+        says-origins p h = short (rw (le-ltb (length a) max-bytes p, lt-ltb (length b) max-origins h))
 
-        pub says-states : 59404 ≤ length a → 6144 ≤ length b → length c < 1024 → Refused 10
+        pub says-states : max-bytes ≤ length a → max-origins ≤ length b → length c < max-states → Refused 10
         unfolding compose-room
-        says-states p q h = short (rw (le-ltb (length a) 59404 p, le-ltb (length b) 6144 q, lt-ltb (length c) 1024 h))
+        says-states p q h = short (rw (le-ltb (length a) max-bytes p, le-ltb (length b) max-origins q, lt-ltb (length c) max-states h))
 
-        module _ (p : 59404 ≤ length a) (q : 6144 ≤ length b) (s : 1024 ≤ length c) where
+        module _ (p : max-bytes ≤ length a) (q : max-origins ≤ length b) (s : max-states ≤ length c) where
           pub composable : Composable xs ys (length a) (length b) (length c)
           composable =
-              record {
-                left-accepted = left-ok;
-                left-named = sym ais ∙ aok;
-                right-accepted = right-ok;
-                table-long = p;
-                origins-long = q;
-                states-long = s;
-              }
+              record { left-accepted = lok; left-named = all; right-accepted = rok; table-long = p; origins-long = q; states-long = s }
 
           into : number ≡ built-refusal (composed (decode xs) (decode ys) .result)
-          unfolding compose-refusal or-else compose-room
-          into = rw (left-ok, all-ok, right-ok, le-ltb (length a) 59404 p, le-ltb (length b) 6144 q, le-ltb (length c) 1024 s)
+          unfolding compose-refusal or-else any-refusal compose-room
+          into = rw (lok, all, rok, le-ltb (length a) max-bytes p, le-ltb (length b) max-origins q, le-ltb (length c) max-states s)
 
           pub says-into : (r : Written) (a' b' c' : List ℕ)
               → Compose-says xs ys (built-refusal (composed (decode xs) (decode ys) .result)) r a a' b b' c c' → Compose-says xs ys number r a a' b b' c c'
@@ -168,9 +106,9 @@ module _ (xs ys a b c : List ℕ) where
 
 -- The numbers that are written fit.
 pub record Writable (w : Walk) (f : FinalsPut) : Type 0 where
-  pub finals : f .count ≤ 1024
-  pub states : w .states ≤ 1024
-  pub arcs : w .arcs ≤ 3072
+  pub finals : f .count ≤ max-states
+  pub states : w .states ≤ max-states
+  pub arcs : w .arcs ≤ max-arcs
 
 -- The answers once the walk has begun, of accepted transducers
 
@@ -197,40 +135,60 @@ module _ (left right : List ℕ) (lb : Bytes left) (rb : Bytes right) (lok : ref
   abbrev Says : Written → (a a' b b' c c' : List ℕ) → Type 0
   Says r a a' b b' c c' = Compose-says left right (built-refusal (composed (decode left) (decode right) .result)) r a a' b b' c c'
 
-  pub says-11 : (r : Written) (a a₀ a' b b₀ b' c c₀ c' : List ℕ) → 1024 < length (key-walk t u .keys)
+  pub says-11 : (r : Written) (a a₀ a' b b₀ b' c c₀ c' : List ℕ) → max-states < length (key-walk t u .keys)
       → length a ≡ length a₀ → length b ≡ length b₀ → length c ≡ length c₀
       → Refused-with 11 r a a' b b' c c' → Says r a₀ a' b₀ b' c₀ c'
   unfolding composed
   says-11 r a a₀ a' b b₀ b' c c₀ c' over la lb lc z' =
-      says-after left right (built-refusal z) r a a₀ a' b b₀ b' c c₀ c' (built-late z) la lb lc
-      (says-zeroed left right (built-refusal z) 11 r a a' b b' c c' (told-11 keying (final-state t u) (state-weight t u) over) (omega arith)
-      (omega arith) z')
+      says-zeroed _ _ (built-refusal z) 11 r a a₀ a' b b₀ b' c c₀ c' (told-11 keying (final-state t u) (state-weight t u) over) (omega arith)
+      (omega arith) la lb lc z'
 
   pub says-same : (r : Written) (a a₀ a' b b₀ b' c c₀ c' : List ℕ) → length a ≡ length a₀ → length b ≡ length b₀ → length c ≡ length c₀
       → Says r a a' b b' c c' → Says r a₀ a' b₀ b' c₀ c'
-  says-same r a a₀ a' b b₀ b' c c₀ c' la lb lc s = says-after left right (built-refusal z) r a a₀ a' b b₀ b' c c₀ c' (built-late z) la lb lc s
+  says-same r a a₀ a' b b₀ b' c c₀ c' la lb lc s =
+      record {
+        refusal-is = s .refusal-is;
+        len-is = s .len-is;
+        table = s .table ∙ behind-same a _ (built-refusal z) a₀ (built-late z) la;
+        origins = s .origins ∙ behind-same b _ (built-refusal z) b₀ (built-late z) lb;
+        work = s .work ∙ behind-same c _ (built-refusal z) c₀ (built-late z) lc;
+      }
 
-  module _ (w : Walk) (table origins states : List ℕ) (told : Told 2 (key-walk t u) w table origins states) where
-    pub says-12 : (r : Written) (a₀ a' b₀ b' c₀ c' : List ℕ) → 3072 < w .arcs
+  -- An attempt that has given its answer, one that has not, and one whose buffers had changed but not their lengths.
+  module _ {room : ℕ} where
+    pub attempted : {r : Attempt} {answer : Written} {a a' b b' c c' : List ℕ} → r ≡ record { written = answer; again = false }
+        → Says answer a a' b b' c c' → Attempted left right room r a a' b b' c c'
+    attempted is s = rw is (record { says = λ _. s; enough = λ _. refl })
+
+    pub attempted-again : {answer : Written} {a a' b b' c c' : List ℕ} → room < max-states
+        → Attempted left right room (record { written = answer; again = true }) a a' b b' c c'
+    attempted-again less = record { says = λ e. never (sym e); enough = λ h. absurd (omega arith) }
+
+    pub attempted-same : (r : Attempt) (a a₀ a' b b₀ b' c c₀ c' : List ℕ) → length a ≡ length a₀ → length b ≡ length b₀ → length c ≡ length c₀
+        → Attempted left right room r a a' b b' c c' → Attempted left right room r a₀ a' b₀ b' c₀ c'
+    attempted-same r a a₀ a' b b₀ b' c c₀ c' la lb lc s =
+        record { says = λ e. says-same (r .written) a a₀ a' b b₀ b' c c₀ c' la lb lc (s .says e); enough = s .enough }
+
+  -- The walk has been lent the part of the buffer from a place on.
+  module _ (w : Walk) (held origins states : List ℕ) (told : Walk-told 2 (key-walk t u) w held origins states) (table : List ℕ) where
+    pub says-12 : (r : Written) (a₀ a' b₀ b' c₀ c' : List ℕ) → max-arcs < w .arcs
         → length table ≡ length a₀ → length origins ≡ length b₀ → length states ≡ length c₀
         → Refused-with 12 r table a' origins b' states c' → Says r a₀ a' b₀ b' c₀ c'
     unfolding composed
     says-12 r a₀ a' b₀ b' c₀ c' over la lb lc z' =
-        says-after left right (built-refusal z) r table a₀ a' origins b₀ b' states c₀ c' (built-late z) la lb lc
-        (says-zeroed left right (built-refusal z) 12 r table a' origins b' states c' (told-12 keying (final-state t u) (state-weight t u) told over)
-        (omega arith) (omega arith) z')
+        says-zeroed _ _ (built-refusal z) 12 r table a₀ a' origins b₀ b' states c₀ c' (told-12 keying (final-state t u) (state-weight t u) told over)
+        (omega arith) (omega arith) la lb lc z'
 
-    module _ (few-arcs : w .arcs ≤ 3072) where
+    module _ (few-arcs : w .arcs ≤ max-arcs) where
       says-13 : (r : Written) (a a' b' c' : List ℕ) → built-refusal z ≡ 13 → length a ≡ length table
           → Refused-with 13 r a a' origins b' states c' → Says r table a' origins b' states c'
       says-13 r a a' b' c' is la z' =
-          says-after left right (built-refusal z) r a table a' origins origins b' states states c' (built-late z) la refl refl
-          (says-zeroed left right (built-refusal z) 13 r a a' origins b' states c' is (omega arith) (omega arith) z')
+          says-zeroed _ _ (built-refusal z) 13 r a table a' origins origins b' states states c' is (omega arith) (omega arith) la refl refl z'
 
       module _ (ls rs : List ℕ) (lby : Finals-by-state t ls) (rby : Finals-by-state u rs) where
-        pub finishable : 59404 ≤ length table → 1024 ≤ length states → Finishable ls rs states (w .states) table
+        pub finishable : max-bytes ≤ length table → max-states ≤ length states → Finishable ls rs states (w .states) table
         finishable room long =
-            let few : w .states ≤ 1024 = omega (arith, told .states-are, told .few) in
+            let few : w .states ≤ max-states = omega (arith, told .states-are, told .few) in
             record {
               few = few;
               stored = omega arith;
@@ -276,14 +234,15 @@ module _ (left right : List ℕ) (lb : Bytes left) (rb : Bytes right) (lok : ref
                 arcs = few-arcs;
               }
 
-          pub says-written : (t2 t3 t4 o1 s1 : List ℕ) → w .dear ≡ 0 → f .dear ≡ false → 59404 ≤ length table
-              → t2 ≡ sets t1 (12 + 10 * f .count) (arc-records (stored-arcs t1 (w .arcs)))
+          pub says-written : (from : ℕ) (t2 t3 t4 o1 s1 : List ℕ) → w .dear ≡ 0 → f .dear ≡ false → max-bytes ≤ length table
+              → drop from table ≡ held → arcs-at (f .count) ≤ from
+              → t2 ≡ sets t1 (arcs-at (f .count)) (take (16 * w .arcs) (drop from t1))
               → t3 ≡ sets t2 0 (head-record (w .states) (w .arcs) (f .count) 0)
-              → t4 ≡ cleared (12 + 10 * f .count + 16 * w .arcs) t3
+              → t4 ≡ cleared (arcs-at (f .count) + 16 * w .arcs) t3
               → o1 ≡ cleared (2 * w .arcs) origins → s1 ≡ cleared 0 states
-              → Says (record { refusal = 0; len = 12 + 10 * f .count + 16 * w .arcs }) table t4 origins o1 states s1
+              → Says (record { refusal = 0; len = arcs-at (f .count) + 16 * w .arcs }) table t4 origins o1 states s1
           unfolding composed unless origin-pairs
-          says-written t2 t3 t4 o1 s1 cheap light room moved headed clear8 clear16 clear32 =
+          says-written from t2 t3 t4 o1 s1 cheap light room lent front moved headed clear8 clear16 clear32 =
               let fits = writable in
               let no : built-refusal z ≡ 0 =
               told-0 keying (final-state t u) (state-weight t u) told few-arcs cheap (sym (finals-put .dear-is) ∙ light) in
@@ -291,11 +250,11 @@ module _ (left right : List ℕ) (lb : Bytes left) (rb : Bytes right) (lok : ref
                 refusal-is = sym no;
                 len-is = rw no (sym (length-written keying (final-state t u) (state-weight t u) told few-arcs (f .count) (finals-put .count-is)));
                 table =
-                    table-written keying (final-state t u) (state-weight t u) told few-arcs (steps-labelled t u tg all ug) (steps-light t u tg ug) (f .count)
+                    table-written keying (final-state t u) (state-weight t u) told few-arcs table from lent (omega (arith, finals-put .count-is)) (f .count)
                     t1 t2 t3 t4 (finals-put .count-is) (omega (arith, fits .finals, fits .arcs)) (finals-put .stored) moved headed clear8
                     ∙ sym (behind-written table (encode z) (built-refusal z) no);
                 origins =
                     origins-written keying (final-state t u) (state-weight t u) told few-arcs two-origins o1 clear16
                     ∙ sym (behind-written origins (origin-pairs (composed t u .steps)) (built-refusal z) no);
-                states = filled-front [] states s1 0 refl refl clear32 ∙ sym (behind-written states [] (built-refusal z) no);
+                work = filled-front [] states s1 0 refl refl clear32 ∙ sym (behind-written states [] (built-refusal z) no);
               }

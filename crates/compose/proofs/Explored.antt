@@ -6,7 +6,6 @@ use lib.ListN.{length}
 use Rattle.transducer.specs.Format.{Transducer, Good}
 use Rattle.explore.specs.Explore.{Step}
 use Rattle.explore.specs.Walk.{Keyed, keyed}
-use Rattle.explore.proofs.ArcsFit.{Weighing}
 use Rattle.explore.proofs.ExploredKeys.{Keying}
 use Rattle.explore.proofs.Member.{mem-in}
 use Rattle.explore.proofs.Walking.{Key-of}
@@ -17,7 +16,7 @@ use Rattle.steps.specs.Runs.{In-both, coded}
 use Rattle.steps.specs.Packing.{pack, unpacked, Bounded}
 use Rattle.compose.specs.Walk.{keyed-step, key-steps}
 use Rattle.steps.proofs.Packing.{unpacked-pack, pack-injective}
-use Rattle.steps.proofs.Within.{Within, within-bounded, first-within, step-within, step-weight}
+use Rattle.steps.proofs.Within.{Within, within-bounded, first-within, step-within}
 use Rattle.steps.proofs.SameState.{same-state-decides}
 
 pub two-origins : (o : Origin) → length (origin-pair o) ≡ 2
@@ -40,9 +39,6 @@ module _ (t u : Transducer) (tg : Good t) (ug : Good u) where
         steps-within = λ x s w m. step-within t u tg ug x s w (mem-in m);
         next-is = λ x w. rw (unpacked-pack x (within-bounded t u tg ug x w)) (keyed-steps (steps t u x));
       }
-
-  pub steps-light : Weighing (steps t u)
-  steps-light x s m = step-weight t u tg ug x s (mem-in m)
 
   -- What a stored key tells.
   pub key-inside : (key : ℕ) → Key-of pack (Within t u) key → In-both t u (unpacked key)

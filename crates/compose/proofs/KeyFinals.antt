@@ -13,7 +13,7 @@ use Rattle.transducer.specs.Leaf.{Finals-by-state, final-code}
 use Rattle.transducer.specs.Path.{is-final}
 use Rattle.transducer.specs.Weight.{plus, weight-of}
 use Rattle.transducer.proofs.Finals.{final-code-some, weight-final-code}
-use Rattle.transducer.proofs.RoundTrip.{good-passed}
+use Rattle.transducer.proofs.Good.{good-tests, finals-light}
 use Rattle.steps.specs.declared.State.{State}
 use Rattle.compose.specs.Compose.{final-state, state-weight}
 use Rattle.compose.specs.Finished.{key-final, key-weight}
@@ -69,6 +69,6 @@ module _ (t u : Transducer) (ls rs : List ℕ) (lby : Finals-by-state t ls) (rby
         unpacked-pack x b,
         lby .at-state (x .left) (b .left),
         rby .at-state (x .right) (b .right),
-        weight-final-code (t .finals) (x .left) (good-passed t tg .final-weights) (both .0),
-        weight-final-code (u .finals) (x .right) (good-passed u ug .final-weights) (both .1),
+        weight-final-code (t .finals) (x .left) (finals-light t (good-tests t tg)) (both .0),
+        weight-final-code (u .finals) (x .right) (finals-light u (good-tests u ug)) (both .1),
       )

@@ -15,6 +15,5 @@ pub mod Claimed
 pub mod Explored
 pub mod WalkCode
 -- What is written, and the answers.
-pub mod Opening
 pub mod KeyFinals
 pub mod ComposeSays

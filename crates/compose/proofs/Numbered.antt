@@ -4,7 +4,7 @@ use mathlib.Core.Logic.{_↔_}
 use mathlib.Core.List.{_∷_}
 use Prim.Native.Nat.{_≤_}
 use lib.ListN.{length}
-use Rattle.transducer.specs.Format.{Transducer}
+use Rattle.transducer.specs.Format.{max-states, Transducer}
 use Rattle.explore.specs.Explore.{targets, built-refusal}
 use Rattle.explore.proofs.Numbered as numbering
 use Rattle.explore.proofs.Numbered.{Numbered, More-reached, built-numbered}
@@ -14,7 +14,7 @@ use Rattle.compose.specs.Compose.{final-state, state-weight, composed}
 use Rattle.steps.proofs.SameState.{same-state-decides}
 
 module _ (t u : Transducer) where
-  pub composed-numbered : length (composed t u .states) ≤ 1024
+  pub composed-numbered : length (composed t u .states) ≤ max-states
       → Numbered same-state (steps t u) (first-state t u) (composed t u .states) (first-state t u ∷ targets (composed t u .steps))
   unfolding composed
   composed-numbered = built-numbered same-state (steps t u) (final-state t u) (state-weight t u) (first-state t u) same-state-decides

@@ -23,31 +23,32 @@ use Rattle.compose.proofs.Trail.{add-left, add-right, lefts, rights}
 use Rattle.steps.proofs.Moves.{Move, by-left, by-right, by-both, step-move, move-step}
 
 -- Only from filter state 0 does a left path begin with an arc that writes nothing.
-unfoldable pub Ready : Transducer → (filter : ℕ) → (path : List ℕ) → Type 0
-Ready t k [] = Unit {0}
-Ready t k (i ∷ p) = arc t i .output ≡ 0 → k ≡ 0
+unfoldable pub Filter-allows : Transducer → (filter : ℕ) → (path : List ℕ) → Type 0
+Filter-allows t k [] = Unit {0}
+Filter-allows t k (i ∷ p) = arc t i .output ≡ 0 → k ≡ 0
 
-pub ready-zero : (t : Transducer) (p : List ℕ) → Ready t 0 p
-unfolding Ready
-ready-zero t [] = tt
-ready-zero t (i ∷ p) = λ e. refl
+pub allows-zero : (t : Transducer) (p : List ℕ) → Filter-allows t 0 p
+unfolding Filter-allows
+allows-zero t [] = tt
+allows-zero t (i ∷ p) = λ e. refl
 
-ready-one : (t : Transducer) (k : ℕ) (p : List ℕ) → Ready t 1 p → Ready t k p
-unfolding Ready
-ready-one t k [] r = tt
-ready-one t k (i ∷ p) r = λ e. let z : _≡_ {A = ℕ} 1 0 = r e in absurd (omega arith)
+allows-one : (t : Transducer) (k : ℕ) (p : List ℕ) → Filter-allows t 1 p → Filter-allows t k p
+unfolding Filter-allows
+allows-one t k [] r = tt
+allows-one t k (i ∷ p) r = λ e. let z : _≡_ {A = ℕ} 1 0 = r e in absurd (omega arith)
 
-ready-step : (t u : Transducer) (x : State) (s : Step State Origin) (p : List ℕ) → Move t u x s → Ready t (s .target .filter) p
-    → Ready t (x .filter) (add-left (s .origin) p)
-unfolding Ready left-alone right-alone both-step add-left
-ready-step t u x s p (by-left m) = rw (m .made) (λ r e. m .allowed)
-ready-step t u x s p (by-right m) = rw (m .made) (λ r. ready-one t (x .filter) p r)
-ready-step t u x s p (by-both m) = rw (m .made) (λ r e. absurd (m .writes e))
+allows-step : (t u : Transducer) (x : State) (s : Step State Origin) (p : List ℕ) → Move t u x s → Filter-allows t (s .target .filter) p
+    → Filter-allows t (x .filter) (add-left (s .origin) p)
+unfolding Filter-allows left-alone right-alone both-step add-left
+allows-step t u x s p (by-left m) = rw (m .made) (λ r e. m .allowed)
+allows-step t u x s p (by-right m) = rw (m .made) (λ r. allows-one t (x .filter) p r)
+allows-step t u x s p (by-both m) = rw (m .made) (λ r e. absurd (m .writes e))
 
-pub trail-ready : (t u : Transducer) (x : State) (ss : List (Step State Origin)) (y : State) → Trail (steps t u) x ss y → Ready t (x .filter) (lefts ss)
-unfolding lefts Ready
-trail-ready t u x [] y h = tt
-trail-ready t u x (s ∷ ss) y h = ready-step t u x s (lefts ss) (step-move t u x s (mem-in (h .0))) (trail-ready t u (s .target) ss y (h .1))
+pub trail-allowed : (t u : Transducer) (x : State) (ss : List (Step State Origin)) (y : State) → Trail (steps t u) x ss y
+    → Filter-allows t (x .filter) (lefts ss)
+unfolding lefts Filter-allows
+trail-allowed t u x [] y h = tt
+trail-allowed t u x (s ∷ ss) y h = allows-step t u x s (lefts ss) (step-move t u x s (mem-in (h .0))) (trail-allowed t u (s .target) ss y (h .1))
 
 -- Every pair has a trail
 
@@ -95,10 +96,10 @@ paired-rights t u x (j ∷ q) ru e = on (path-took u j q [] e) (λ x' ru' e'. pa
         paired-right t u x j [] q r none (rest (record { left = x .left; right = arc u j .target; filter = 1 }) (r .rest) f)
     on (took c cs is reads f more) rest = let z : _≡_ {A = ℕ} 0 1 = cc in absurd (omega arith)
 
--- A left path pairs with each right path that fits what it writes, from any state that is ready for it.
+-- A left path pairs with each right path that fits what it writes, from any state whose filter allows it.
 abbrev Pairs : Transducer → Transducer → List ℕ → Type 0
 Pairs t u p =
-    (x : State) (q : List ℕ) → Ready t (x .filter) p → runs t (x .left) p ≡ true → runs u (x .right) q ≡ true
+    (x : State) (q : List ℕ) → Filter-allows t (x .filter) p → runs t (x .left) p ≡ true → runs u (x .right) q ≡ true
     → path-fits u (written-by t p) q ≡ true → Paired t u x p q
 
 -- Where the left path begins with an arc that writes: right arcs go alone up to the one that fits the symbol.
@@ -135,11 +136,11 @@ pairs-writing t u p shorter i writes x (j ∷ q) l ru e =
           fitted = rw same at f;
           made = refl;
         }))
-        (shorter (record { left = arc t i .target; right = arc u j .target; filter = 0 }) q (ready-zero t p) (l .rest) (r .rest) (rw left at more))
+        (shorter (record { left = arc t i .target; right = arc u j .target; filter = 0 }) q (allows-zero t p) (l .rest) (r .rest) (rw left at more))
 
 pairs-cons : (t u : Transducer) (i : ℕ) (p : List ℕ) → Pairs t u p → Pairs t u (i ∷ p)
-unfolding Ready written-by left-alone add-left add-right
-pairs-cons t u i p shorter x q ready rt ru e = on (eqb (arc t i .output) 0) refl
+unfolding Filter-allows written-by left-alone add-left add-right
+pairs-cons t u i p shorter x q allows rt ru e = on (eqb (arc t i .output) 0) refl
   where
     l : Runs t (x .left) i p
     l = runs-cons t (x .left) i p rt
@@ -149,20 +150,20 @@ pairs-cons t u i p shorter x q ready rt ru e = on (eqb (arc t i .output) 0) refl
         let silent : arc t i .output ≡ 0 = eqb-true (arc t i .output) 0 b in
         let e' : path-fits u (written-by t p) q ≡ true = rw (empty-passed (arc t i .output) (written-by t p) silent) at e in
         paired-step t u x (left-alone x i (arc t i)) p q
-        (by-left (record { left-arc = i; below = l .below; leaves = l .leaves; silent = silent; allowed = ready silent; made = refl }))
-        (shorter (record { left = arc t i .target; right = x .right; filter = 0 }) q (ready-zero t p) (l .rest) ru e')
+        (by-left (record { left-arc = i; below = l .below; leaves = l .leaves; silent = silent; allowed = allows silent; made = refl }))
+        (shorter (record { left = arc t i .target; right = x .right; filter = 0 }) q (allows-zero t p) (l .rest) ru e')
     on false b =
         let writes : arc t i .output ≡ 0 → ⊥ = eqb-false (arc t i .output) 0 b in
         pairs-writing t u p shorter i writes x q l ru (rw (symbol-kept (arc t i .output) (written-by t p) writes) at e)
 
-pub ready-pair-trail : (t u : Transducer) (p : List ℕ) → Pairs t u p
+pub allowed-pair-trail : (t u : Transducer) (p : List ℕ) → Pairs t u p
 unfolding written-by
-ready-pair-trail t u [] = λ x q ready rt ru e. paired-rights t u x q ru e
-ready-pair-trail t u (i ∷ p) = pairs-cons t u i p (ready-pair-trail t u p)
+allowed-pair-trail t u [] = λ x q allows rt ru e. paired-rights t u x q ru e
+allowed-pair-trail t u (i ∷ p) = pairs-cons t u i p (allowed-pair-trail t u p)
 
 pub pair-trail : (t u : Transducer) (a b : ℕ) (p q : List ℕ) → runs t a p ≡ true → runs u b q ≡ true → path-fits u (written-by t p) q ≡ true
     → Paired t u (record { left = a; right = b; filter = 0 }) p q
-pair-trail t u a b p q rt ru e = ready-pair-trail t u p (record { left = a; right = b; filter = 0 }) q (ready-zero t p) rt ru e
+pair-trail t u a b p q rt ru e = allowed-pair-trail t u p (record { left = a; right = b; filter = 0 }) q (allows-zero t p) rt ru e
 
 -- No pair has two trails
 
@@ -185,15 +186,15 @@ add-right-injective (Right j) q q' e = cc
 add-right-injective (Both i j) q q' e = cc
 
 -- Behind a right step no left path begins with an arc that writes nothing.
-not-ready : (t : Transducer) (i : ℕ) (p p' : List ℕ) → Ready t 1 p' → i ∷ p ≡ p' → arc t i .output ≡ 0 → ⊥
-unfolding Ready
-not-ready t i p p' r e silent =
-    let r' : Ready t 1 (i ∷ p) = rw (← e) at r in
+not-allowed : (t : Transducer) (i : ℕ) (p p' : List ℕ) → Filter-allows t 1 p' → i ∷ p ≡ p' → arc t i .output ≡ 0 → ⊥
+unfolding Filter-allows
+not-allowed t i p p' r e silent =
+    let r' : Filter-allows t 1 (i ∷ p) = rw (← e) at r in
     let z : _≡_ {A = ℕ} 1 0 = r' silent in
     omega arith
 
 same-first : (t u : Transducer) (x : State) (s s' : Step State Origin) (p p' q q' : List ℕ) → Move t u x s → Move t u x s'
-    → Ready t (s .target .filter) p → Ready t (s' .target .filter) p' → add-left (s .origin) p ≡ add-left (s' .origin) p'
+    → Filter-allows t (s .target .filter) p → Filter-allows t (s' .target .filter) p' → add-left (s .origin) p ≡ add-left (s' .origin) p'
     → add-right (s .origin) q ≡ add-right (s' .origin) q' → s ≡ s'
 unfolding left-alone right-alone both-step add-left add-right
 same-first t u x s s' p p' q q' (by-left m) (by-left m') r r' el er =
@@ -202,16 +203,16 @@ same-first t u x s s' p p' q q' (by-left m) (by-left m') r r' el er =
     m .made ∙ ap (λ (i : ℕ). left-alone x i (arc t i)) i ∙ sym (m' .made)
 same-first t u x s s' p p' q q' (by-left m) (by-right m') r r' el er =
     let e : m .left-arc ∷ p ≡ p' = rw (m .made, m' .made) at el in
-    let one : Ready t 1 p' = rw (m' .made) at r' in
-    absurd (not-ready t (m .left-arc) p p' one e (m .silent))
+    let one : Filter-allows t 1 p' = rw (m' .made) at r' in
+    absurd (not-allowed t (m .left-arc) p p' one e (m .silent))
 same-first t u x s s' p p' q q' (by-left m) (by-both m') r r' el er =
     let e : m .left-arc ∷ p ≡ m' .left-arc ∷ p' = rw (m .made, m' .made) at el in
     let i : m .left-arc ≡ m' .left-arc = cc in
     absurd (m' .writes (rw i at (m .silent)))
 same-first t u x s s' p p' q q' (by-right m) (by-left m') r r' el er =
     let e : p ≡ m' .left-arc ∷ p' = rw (m .made, m' .made) at el in
-    let one : Ready t 1 p = rw (m .made) at r in
-    absurd (not-ready t (m' .left-arc) p' p one (sym e) (m' .silent))
+    let one : Filter-allows t 1 p = rw (m .made) at r in
+    absurd (not-allowed t (m' .left-arc) p' p one (sym e) (m' .silent))
 same-first t u x s s' p p' q q' (by-right m) (by-right m') r r' el er =
     let e : m .right-arc ∷ q ≡ m' .right-arc ∷ q' = rw (m .made, m' .made) at er in
     let j : m .right-arc ≡ m' .right-arc = cc in
@@ -244,7 +245,7 @@ never-two t u x (s ∷ ss) [] y y' h h' el er = absurd (no-arcs (s .origin) (lef
 never-two t u x (s ∷ ss) (s' ∷ ss') y y' h h' el er =
     let same : s ≡ s' =
     same-first t u x s s' (lefts ss) (lefts ss') (rights ss) (rights ss') (step-move t u x s (mem-in (h .0))) (step-move t u x s' (mem-in (h' .0)))
-    (trail-ready t u (s .target) ss y (h .1)) (trail-ready t u (s' .target) ss' y' (h' .1)) el er in
+    (trail-allowed t u (s .target) ss y (h .1)) (trail-allowed t u (s' .target) ss' y' (h' .1)) el er in
     let l : add-left (s .origin) (lefts ss) ≡ add-left (s .origin) (lefts ss') = rw (← same) at el in
     let r : add-right (s .origin) (rights ss) ≡ add-right (s .origin) (rights ss') = rw (← same) at er in
     let rest : Trail (steps t u) (s .target) ss' y' = rw same (h' .1) in

@@ -9,9 +9,9 @@ use native.Mathlib.Omega.{arith}
 use lib.Dec.{ltb, leb, eqb}
 use lib.ListN.{length, getD, set}
 use borrow.Author.Tests.{ltb-true, ltb-false, lt-ltb, le-ltb, le-leb, lt-leb}
-use Rattle.transducer.specs.Format.{Transducer, Good}
+use Rattle.transducer.specs.Format.{max-arcs, Transducer, Good}
 use Rattle.transducer.specs.Leaf.{arcs-below, Indexed, Leaving}
-use Rattle.transducer.proofs.Ranges.{arcs-below-length, arcs-below-rises}
+use Rattle.transducer.proofs.Index.{arcs-below-length, arcs-below-mono}
 use Rattle.explore.specs.declared.Walk.{Walk}
 use Rattle.explore.specs.Explore.{place}
 use Rattle.explore.specs.Chain.{Chained}
@@ -24,8 +24,8 @@ use Rattle.steps.specs.declared.Origin.{Origin}
 use Rattle.steps.specs.declared.Run.{Run}
 use Rattle.steps.specs.declared.State.{State}
 use Rattle.steps.specs.declared.Step.{Step}
-use Rattle.steps.specs.Steps.{left-origin, right-origin, origin-pair, steps}
-use Rattle.steps.specs.Packing.{unpacked}
+use Rattle.steps.specs.Steps.{left-origin, right-origin, origin-pair, steps, first-state}
+use Rattle.steps.specs.Packing.{pack, unpacked}
 use Rattle.steps.specs.Runs.{coded, run-step, run-steps, Takeable, In-both}
 use Rattle.compose.specs.Walk.{keyed-step, key-steps}
 use Rattle.compose.specs.Taking.{run-left}
@@ -34,16 +34,22 @@ use Rattle.transducer.proofs.Leaving.{state-leaving}
 use Rattle.steps.proofs.RunSteps.{runs-from, good-runs}
 use Rattle.steps.proofs.Reading.{first-step, Next-step, right-from, right-to, Run-here}
 
+-- The key of the first state.
+pub first-key : (t u : Transducer) (k a b : ℕ) → k ≡ pack (record { left = a; right = b; filter = 0 }) → a ≡ t .start → b ≡ u .start
+    → k ≡ pack (first-state t u)
+unfolding first-state
+first-key t u k a b is p q = is ∙ (rw (p, q))
+
 -- The two origins of an arc stored, or left out where there is no room for the arc.
 module _ (arcs : ℕ) (o : Origin) (origins : List ℕ) where
-  pub traced-pair : (x y : ℕ) → arcs < 3072 → x ≡ left-origin o → y ≡ right-origin o
+  pub traced-pair : (x y : ℕ) → arcs < max-arcs → x ≡ left-origin o → y ≡ right-origin o
       → set (set origins (2 * arcs) x) (2 * arcs + 1) y ≡ traced-by 2 arcs (origin-pair o) origins
   unfolding traced-by origin-pair
-  traced-pair x y l x-is y-is = rw (lt-ltb arcs 3072 l, x-is, y-is, add-one (2 * arcs))
+  traced-pair x y l x-is y-is = rw (lt-ltb arcs max-arcs l, x-is, y-is, add-one (2 * arcs))
 
-  pub traced-full : 3072 ≤ arcs → origins ≡ traced-by 2 arcs (origin-pair o) origins
+  pub traced-full : max-arcs ≤ arcs → origins ≡ traced-by 2 arcs (origin-pair o) origins
   unfolding traced-by
-  traced-full h = rw (le-ltb arcs 3072 h)
+  traced-full h = rw (le-ltb arcs max-arcs h)
 
 -- A step taken, as the code has it.
 pub step-walked : (b : Sofar) (source number count : ℕ) (s : Step) (w w' : Walk)
@@ -113,7 +119,7 @@ module _ {t u : Transducer} {x : State} {first last to : ℕ} (p : Placed t u x 
   pub placed-left : (first ≤ last) × (last ≤ length (t .arcs))
   placed-left =
       let order : arcs-below (x .left) (t .arcs) ≤ arcs-below (suc (x .left)) (t .arcs) =
-      arcs-below-rises (x .left) (suc (x .left)) (t .arcs) (omega arith) in
+      arcs-below-mono (x .left) (suc (x .left)) (t .arcs) (omega arith) in
       let inside : arcs-below (suc (x .left)) (t .arcs) ≤ length (t .arcs) = arcs-below-length (suc (x .left)) (t .arcs) in
       (omega (arith, p .first-is, p .last-is), omega (arith, p .last-is))
 

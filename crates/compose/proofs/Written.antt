@@ -5,10 +5,11 @@ use mathlib.Core.Logic.{_↔_}
 use Prim.Native.Nat.{_≤_}
 use native.Mathlib.Omega.{arith}
 use lib.ListN.{length}
-use Rattle.transducer.specs.Format.{Transducer, barred, Good, all-labels-good, refusal, decode}
+use Rattle.transducer.specs.Format.{Transducer, barred, Good, refusal, decode}
 use Rattle.transducer.specs.Encode.{encode}
 use Rattle.transducer.specs.Each.{named, plain}
-use Rattle.transducer.proofs.RoundTrip.{good-passed, good-range, refusal-encode, decode-encode}
+use Rattle.transducer.proofs.Good.{good-tests}
+use Rattle.transducer.proofs.RoundTrip.{good-range, refusal-encode, decode-encode}
 use Rattle.explore.specs.Explore.{built-refusal}
 use Rattle.explore.proofs.Member.{mem-in}
 use Rattle.explore.proofs.Built.{Labelled, built-plain, good-built}
@@ -18,17 +19,13 @@ use Rattle.transducer.proofs.Labels.{Unbarred}
 use Rattle.steps.proofs.Labels.{step-unbarred}
 use Rattle.steps.proofs.SameState.{same-state-decides}
 
-pub good-labels : (t : Transducer) → Good t → all-labels-good t ≡ true
-unfolding all-labels-good
-good-labels t g = good-passed t g .labels
-
 pub good-arcs-below : (t : Transducer) → Good t → length (t .arcs) ≤ barred
 good-arcs-below t g = omega (arith, good-range t g .arcs)
 
 module _ (t u : Transducer) (good-t : Good t) (all : named t ≡ true) (good-u : Good u) where
   pub steps-labelled : Labelled (steps t u)
   steps-labelled x s m =
-      let r : Unbarred (s .input) (s .output) = step-unbarred t u (good-labels t good-t) all (good-labels u good-u) x s (mem-in m) in
+      let r : Unbarred (s .input) (s .output) = step-unbarred t u (good-tests t good-t .labels) all (good-tests u good-u .labels) x s (mem-in m) in
       (r .read, r .written)
 
   -- No composed table holds 65,535.

@@ -1,16 +1,14 @@
 -- What composing answers and leaves behind. Assumes nothing: these are definitions.
-use mathlib.Core.Path.{_≡_}
 use mathlib.Core.Bool.{_||_, cond}
-use mathlib.Core.List.{List, []}
+use mathlib.Core.List.{List}
 use Prim.Native.Nat.{ℕ}
 use lib.Dec.{ltb}
-use lib.ListN.{length}
 use Rattle.transducer.specs.declared.Written.{Written}
 use Rattle.transducer.specs.Format.{max-states, max-bytes, max-origins, refusal, decode}
 use Rattle.transducer.specs.Encode.{encode}
 use Rattle.transducer.specs.Each.{any-refusal}
-use Rattle.transducer.specs.Entry.{or-else, unless}
-use Rattle.explore.specs.Explore.{Step, built-refusal, left-behind}
+use Rattle.transducer.specs.Entry.{or-else}
+use Rattle.explore.specs.Explore.{Step, built-refusal, Built-says}
 use Rattle.explore.specs.Walk.{all-origins}
 use Rattle.steps.specs.declared.State.{State}
 use Rattle.steps.specs.declared.Origin.{Origin}
@@ -32,9 +30,7 @@ compose-refusal xs ys a b c =
     (or-else (any-refusal (decode xs))
     (or-else (refusal ys) (or-else (compose-room a b c) (built-refusal (composed (decode xs) (decode ys) .result)))))
 
-pub record Compose-says (left right : List ℕ) (number : ℕ) (r : Written) (a a' b b' c c' : List ℕ) : Type 0 where
-  pub refusal-is : r .refusal ≡ number
-  pub len-is : r .len ≡ unless number (length (encode (composed (decode left) (decode right) .result)))
-  pub table : a' ≡ left-behind number a (encode (composed (decode left) (decode right) .result))
-  pub origins : b' ≡ left-behind number b (origin-pairs (composed (decode left) (decode right) .steps))
-  pub states : c' ≡ left-behind number c []
+-- The composed transducer, the origins of its arcs, and its states, lent only to work in.
+abbrev pub Compose-says : (left right : List ℕ) → (number : ℕ) → Written → (table table' origins origins' states states' : List ℕ) → Type 0
+Compose-says left right number r a a' b b' c c' =
+    Built-says (encode (composed (decode left) (decode right) .result)) (origin-pairs (composed (decode left) (decode right) .steps)) number r a a' b b' c c'

@@ -1,21 +1,22 @@
 -- What is written when the walk is done: the finals of the states met, by their keys. Assumes nothing: these are definitions.
 use mathlib.Core.Path.{_≡_}
-use mathlib.Core.Bool.{Bool, true, _&&_, not}
-use mathlib.Core.List.{List, []}
+use mathlib.Core.Bool.{Bool, true, false, _&&_, not}
+use mathlib.Core.List.{List}
 use Prim.Native.Nat.{ℕ, _≤_, _<_}
 use lib.Dec.{eqb}
 use lib.ListN.{length, getD}
-use Rattle.wire.specs.Bytes.{filled}
 use Rattle.transducer.specs.declared.Final.{Final}
-use Rattle.transducer.specs.declared.Written.{Written}
 use Rattle.transducer.specs.Format.{max-states, max-arcs, max-bytes, max-origins, arcs-at, refusal, decode}
 use Rattle.transducer.specs.Each.{named}
 use Rattle.transducer.specs.Weight.{Weight, plus, weight-of}
 use Rattle.transducer.specs.Leaf.{max-code}
 use Rattle.explore.specs.declared.Walk.{Walk}
-use Rattle.explore.specs.Explore.{finals-from}
-use Rattle.explore.specs.Walk.{Told}
+use Rattle.explore.specs.Explore.{finals-from, built-refusal}
+use Rattle.explore.specs.Walk.{Walk-told}
 use Rattle.steps.specs.Packing.{unpacked, Bounded}
+use Rattle.compose.specs.declared.entry.Attempt.{Attempt}
+use Rattle.compose.specs.Compose.{composed}
+use Rattle.compose.specs.Entry.{Compose-says}
 use Rattle.compose.specs.Walk.{key-walk}
 
 -- Whether the state of a key is final, by the final codes of its parts, and with which weight.
@@ -37,13 +38,6 @@ pub record Finishable (lcodes rcodes states : List ℕ) (count : ℕ) (table : L
   pub left : (s : ℕ) → s < max-states → getD lcodes s 0 ≤ max-code
   pub right : (s : ℕ) → s < max-states → getD rcodes s 0 ≤ max-code
 
--- A refusal once the buffers have been written to.
-pub record Refused-with (number : ℕ) (r : Written) (a a' b b' c c' : List ℕ) : Type 0 where
-  pub answer : r ≡ record { refusal = number; len = 0 }
-  pub table : a' ≡ filled (length a) []
-  pub origins : b' ≡ filled (length b) []
-  pub states : c' ≡ filled (length c) []
-
 -- Two accepted transducers, of which the left one has no arc for any symbol, and buffers that are long enough.
 pub record Composable (left right : List ℕ) (table origins states : ℕ) : Type 0 where
   pub left-accepted : refusal left ≡ 0
@@ -53,7 +47,13 @@ pub record Composable (left right : List ℕ) (table origins states : ℕ) : Typ
   pub origins-long : max-origins ≤ origins
   pub states-long : max-states ≤ states
 
--- The walk is done, and neither 11 nor 12 holds.
-pub record Walked-through (left right : List ℕ) (w : Walk) (table origins states : List ℕ) : Type 0 where
-  pub told : Told 2 (key-walk (decode left) (decode right)) w table origins states
+-- The walk is done, its arcs are held in a buffer, and neither 11 nor 12 holds.
+pub record Walked-through (left right : List ℕ) (w : Walk) (arcs origins states : List ℕ) : Type 0 where
+  pub told : Walk-told 2 (key-walk (decode left) (decode right)) w arcs origins states
   pub few-arcs : w .arcs ≤ max-arcs
+
+-- What an attempt leaves that has room for some finals: the answer, unless it is to be made again, which it is not where there is room for 1,024.
+pub record Attempted (left right : List ℕ) (room : ℕ) (r : Attempt) (a a' b b' c c' : List ℕ) : Type 0 where
+  pub says : r .again ≡ false
+      → Compose-says left right (built-refusal (composed (decode left) (decode right) .result)) (r .written) a a' b b' c c'
+  pub enough : max-states ≤ room → r .again ≡ false

@@ -1,8 +1,9 @@
--- The composition, what the call answers, and what is claimed of it.
+-- What a caller must believe
 pub mod Compose
 pub mod Entry
+-- What is claimed
 pub mod Claim
--- The walk by keys, what its parts promise, and what is written when it is done.
+-- What only inner contracts cite: the walk by keys, what its parts promise, and what is written when it is done
 pub mod Walk
 pub mod Taking
 pub mod Finished

@@ -1,14 +1,17 @@
 // Composing two transducers into lent buffers.
 ghost use mathlib.Core.Path.{_≡_};
-ghost use mathlib.Core.Bool.{true};
-ghost use lib.ListN.{length};
-ghost use Rattle.transducer.specs.Format.{decode};
+ghost use mathlib.Core.Bool.{true, false};
+ghost use Prim.Native.Nat.{_+_, _≤_};
+ghost use lib.ListN.{length, drop};
+ghost use Rattle.transducer.specs.Format.{max-states, max-origins, arcs-at, refusal, decode};
 ghost use Rattle.transducer.specs.Each.{named};
-ghost use Rattle.transducer.specs.Leaf.{Finals-by-state};
-ghost use Rattle.explore.specs.Explore.{built-refusal};
-ghost use Rattle.compose.specs.Compose.{composed};
+ghost use Rattle.transducer.specs.Leaf.{Opened, Finals-by-state};
+ghost use Rattle.explore.specs.Walk.{max-arc-bytes, Walk-says};
+ghost use Rattle.steps.specs.Steps.{first-state};
+ghost use Rattle.steps.specs.Packing.{pack};
 ghost use Rattle.compose.specs.Entry.{Compose-says, compose-refusal};
-ghost use Rattle.compose.specs.Finished.{Composable, Walked-through};
+ghost use Rattle.compose.specs.Walk.{key-walk, Walkable};
+ghost use Rattle.compose.specs.Finished.{Composable, Walked-through, Attempted};
 use crate::finish;
 use crate::walking;
 use explore::Walk;
@@ -16,11 +19,18 @@ use steps::LABEL_BUCKETS;
 use transducer::ARC_BYTES;
 use transducer::FINAL_BYTES;
 use transducer::HEAD_BYTES;
+use transducer::INDEX_LEN;
 use transducer::MAX_ARCS;
 use transducer::MAX_BYTES;
 use transducer::MAX_ORIGINS;
 use transducer::MAX_STATES;
 use transducer::Written;
+
+// What an attempt to compose has come to: an answer, or that it is to be done again, with room for more finals.
+struct Attempt {
+    written: Written,
+    again: bool,
+}
 
 // Composes two transducers: the composed one's bytes, and the origins of its arcs, the left one and the right one in turn. Time grows with the
 // arcs of the two and the arcs composed, and with the left arcs looked at in each composed state.
@@ -58,23 +68,113 @@ pub fn compose(
         return transducer::refused(10);
     }
     let exact = transducer::all_named(right, r.named);
-    compose_into(left, right, exact, table, origins, states)
+    let room = room_for(left, right);
+    let made = compose_into(left, right, exact, room, table, origins, states);
+    if made.again {
+        // There are never more finals than `room_for` says; that is not proved, so they are composed once more with room for 1,024.
+        let whole = compose_into(left, right, exact, MAX_STATES, table, origins, states);
+        return whole.written;
+    }
+    made.written
 }
 
-// Composes two accepted transducers into buffers that are long enough; `exact` only where no right arc is for any symbol.
+// Whether each arc reads a label.
+fn all_read(bytes: &[u8], first: usize, arcs: usize) -> bool
+    requires { ⌜ Opened (now bytes) first × (arcs ≤ length (decode (now bytes) .arcs)) ⌝ }
+{
+    let mut i = 0;
+    while i < arcs {
+        let a = transducer::arc_of(bytes, first, i);
+        i += 1;
+        if a.input == 0 {
+            return false;
+        }
+    }
+    true
+}
+
+// How many finals there is to be room for: one for each pair of finals, two where a right arc reads nothing and there are states of filter state 1, and no
+// more than 1,024.
+fn room_for(left: &[u8], right: &[u8]) -> usize
+    requires { ⌜ (refusal (now left) ≡ 0) × (refusal (now right) ≡ 0) ⌝ }
+    ensures { λ r. ⌜ r ≤ max-states ⌝ }
+{
+    let l = transducer::head_of(left);
+    let r = transducer::head_of(right);
+    let first = HEAD_BYTES + FINAL_BYTES * (r.finals as usize);
+    let pairs = (l.finals as usize) * (r.finals as usize);
+    if MAX_STATES < pairs {
+        return MAX_STATES;
+    }
+    if all_read(right, first, r.arcs as usize) {
+        return pairs;
+    }
+    let twice = 2 * pairs;
+    if MAX_STATES < twice {
+        return MAX_STATES;
+    }
+    twice
+}
+
+// The walk, with the arcs written from a place of the buffer on.
+fn walk_behind(
+    left: &[u8],
+    lfirst: usize,
+    lindex: &[u16; INDEX_LEN],
+    right: &[u8],
+    rfirst: usize,
+    rindex: &[u16; INDEX_LEN],
+    rheads: &[u16; LABEL_BUCKETS],
+    chain: &[u16; MAX_ARCS],
+    again: &[u16; MAX_ARCS],
+    exact: bool,
+    first: u32,
+    from: usize,
+    table: &mut [u8],
+    origins: &mut [u16],
+    states: &mut [u32],
+) -> Walk
+    requires { ⌜ Walkable (now left) lfirst (now lindex) (now right) rfirst (now rindex) (now rheads) (now chain) (now again) exact ⌝ }
+    requires { ⌜ first ≡ pack (first-state (decode (now left)) (decode (now right))) ⌝ }
+    requires { ⌜ (from + max-arc-bytes ≤ length (now table)) × (max-origins ≤ length (now origins)) × (max-states ≤ length (now states)) ⌝ }
+    ensures { λ r. ⌜ Walk-says 2 (key-walk (decode (now (left .entry))) (decode (now (right .entry)))) r
+        (drop from (now (table .entry))) (drop from (now (table .exit)))
+        (now (origins .entry)) (now (origins .exit)) (now (states .entry)) (now (states .exit)) ⌝ }
+{
+    let part = &mut table[from..];
+    walking::walk_all(
+        left,
+        lfirst,
+        lindex,
+        right,
+        rfirst,
+        rindex,
+        rheads,
+        chain,
+        again,
+        exact,
+        first,
+        part,
+        origins,
+        states,
+    )
+}
+
+// Composes two accepted transducers into buffers that are long enough, with the arcs written behind room for so many finals; `exact` only where no right arc
+// is for any symbol.
 fn compose_into(
     left: &[u8],
     right: &[u8],
     exact: bool,
+    room: usize,
     table: &mut [u8],
     origins: &mut [u16],
     states: &mut [u32],
-) -> Written
+) -> Attempt
     requires { ⌜ Composable (now left) (now right) (length (now table)) (length (now origins)) (length (now states))
-        × (exact ≡ true → named (decode (now right)) ≡ true) ⌝ }
-    ensures { λ r. ⌜ Compose-says (now (left .entry)) (now (right .entry))
-        (built-refusal (composed (decode (now (left .entry))) (decode (now (right .entry))) .result))
-        r (now (table .entry)) (now (table .exit)) (now (origins .entry)) (now (origins .exit)) (now (states .entry)) (now (states .exit)) ⌝ }
+        × (exact ≡ true → named (decode (now right)) ≡ true) × (room ≤ max-states) ⌝ }
+    ensures { λ r. ⌜ Attempted (now (left .entry)) (now (right .entry)) room r (now (table .entry)) (now (table .exit))
+        (now (origins .entry)) (now (origins .exit)) (now (states .entry)) (now (states .exit)) ⌝ }
 {
     let l = transducer::head_of(left);
     let r = transducer::head_of(right);
@@ -94,7 +194,8 @@ fn compose_into(
         &mut again,
     );
     let first = steps::pack(l.start, r.start, 0);
-    let w = walking::walk_all(
+    let from = HEAD_BYTES + FINAL_BYTES * room;
+    let w = walk_behind(
         left,
         lfirst,
         &lindex,
@@ -106,59 +207,91 @@ fn compose_into(
         &again,
         exact,
         first,
+        from,
         table,
         origins,
         states,
     );
     if w.full != 0 {
-        return finish::refuse(table, origins, states, 11);
+        return finished(explore::refuse(table, origins, states, 11));
     }
     let arcs = w.arcs;
     if MAX_ARCS < arcs {
-        return finish::refuse(table, origins, states, 12);
+        return finished(explore::refuse(table, origins, states, 12));
     }
     let lcodes = transducer::final_codes(left, l.finals as usize);
     let rcodes = transducer::final_codes(right, r.finals as usize);
-    write_out(left, right, &lcodes, &rcodes, w, table, origins, states)
+    write_out(
+        left,
+        right,
+        &lcodes,
+        &rcodes,
+        w,
+        room,
+        table,
+        origins,
+        states,
+    )
 }
 
-// Writes what the walk has found: the finals, the arcs moved behind them, the head, zeros behind; or refuses with 13.
+// The answer is given.
+fn finished(written: Written) -> Attempt
+    ensures { λ r. ⌜ r ≡ record { written = written; again = false } ⌝ }
+{
+    Attempt {
+        written: written,
+        again: false,
+    }
+}
+
+// Writes what the walk has found: the finals, the arcs behind them, moved where there are fewer finals than there is room for, the head, zeros behind; or
+// refuses with 13. Where there are more finals, they stand where arcs did.
 fn write_out(
     left: &[u8],
     right: &[u8],
     lcodes: &[u32; MAX_STATES],
     rcodes: &[u32; MAX_STATES],
     w: Walk,
+    room: usize,
     table: &mut [u8],
     origins: &mut [u16],
     states: &mut [u32],
-) -> Written
+) -> Attempt
     requires { ⌜ Composable (now left) (now right) (length (now table)) (length (now origins)) (length (now states)) ⌝ }
     requires { ⌜ Finals-by-state (decode (now left)) (now lcodes) × Finals-by-state (decode (now right)) (now rcodes) ⌝ }
-    requires { ⌜ Walked-through (now left) (now right) w (now table) (now origins) (now states) ⌝ }
-    ensures { λ r. ⌜ Compose-says (now (left .entry)) (now (right .entry))
-        (built-refusal (composed (decode (now (left .entry))) (decode (now (right .entry))) .result))
-        r (now (table .entry)) (now (table .exit)) (now (origins .entry)) (now (origins .exit)) (now (states .entry)) (now (states .exit)) ⌝ }
+    requires { ⌜ Walked-through (now left) (now right) w (drop (arcs-at room) (now table)) (now origins) (now states) × (room ≤ max-states) ⌝ }
+    ensures { λ r. ⌜ Attempted (now (left .entry)) (now (right .entry)) room r (now (table .entry)) (now (table .exit))
+        (now (origins .entry)) (now (origins .exit)) (now (states .entry)) (now (states .exit)) ⌝ }
 {
     let count = w.states;
     let arcs = w.arcs;
     let f = finish::put_finals(lcodes, rcodes, states, count, table);
     if w.dear != 0 {
-        return finish::refuse(table, origins, states, 13);
+        return finished(explore::refuse(table, origins, states, 13));
     }
     if f.dear {
-        return finish::refuse(table, origins, states, 13);
+        return finished(explore::refuse(table, origins, states, 13));
     }
     let finals = f.count;
+    if room < finals {
+        return Attempt {
+            written: transducer::refused(0),
+            again: true,
+        };
+    }
     let behind = HEAD_BYTES + FINAL_BYTES * finals;
     let end = behind + ARC_BYTES * arcs;
-    explore::move_arcs(table, behind, arcs);
+    let from = HEAD_BYTES + FINAL_BYTES * room;
+    explore::move_arcs(table, from, behind, arcs);
     transducer::put_head(table, count as u16, arcs as u16, finals as u16, 0);
     wire::clear8(table, end);
     wire::clear16(origins, 2 * arcs);
     wire::clear32(states, 0);
-    Written {
-        refusal: 0,
-        len: end as u32,
+    Attempt {
+        written: Written {
+            refusal: 0,
+            len: end as u32,
+        },
+        again: false,
     }
 }

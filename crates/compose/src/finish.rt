@@ -1,13 +1,12 @@
-// What is left when the walk is done: the finals, or zeros.
+// What is left when the walk is done: the finals.
 ghost use lib.ListN.{take};
 ghost use Rattle.explore.specs.Walk.{Finals-stored};
-ghost use Rattle.compose.specs.Finished.{key-finals, Finishable, Refused-with};
+ghost use Rattle.compose.specs.Finished.{key-finals, Finishable};
 use explore::FinalsPut;
 use transducer::FINAL_BYTES;
 use transducer::Final;
 use transducer::HEAD_BYTES;
 use transducer::MAX_STATES;
-use transducer::Written;
 
 // Writes the finals of `count` states, in order, behind the head.
 pub fn put_finals(
@@ -49,15 +48,4 @@ pub fn put_finals(
         count: finals,
         dear: dear,
     }
-}
-
-// Refuses with 11, 12 or 13: every buffer is all zeros.
-pub fn refuse(table: &mut [u8], origins: &mut [u16], states: &mut [u32], number: u32) -> Written
-    ensures { λ r. ⌜ Refused-with number r (now (table .entry)) (now (table .exit)) (now (origins .entry)) (now (origins .exit))
-        (now (states .entry)) (now (states .exit)) ⌝ }
-{
-    wire::clear8(table, 0);
-    wire::clear16(origins, 0);
-    wire::clear32(states, 0);
-    transducer::refused(number)
 }

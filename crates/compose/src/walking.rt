@@ -3,15 +3,15 @@ ghost use mathlib.Core.Path.{_≡_};
 ghost use mathlib.Core.Bool.{true, false, cond};
 ghost use Prim.Native.Nat.{_≤_, _<_};
 ghost use lib.ListN.{length, getD};
-ghost use Rattle.transducer.specs.Format.{max-states, max-bytes, max-origins, decode};
+ghost use Rattle.transducer.specs.Format.{max-states, max-origins, decode};
 ghost use Rattle.transducer.specs.Leaf.{Opened};
-ghost use Rattle.explore.specs.Walk.{all-taken, state-served, traced-by, Records, Walk-says};
+ghost use Rattle.explore.specs.Walk.{all-taken, state-served, traced-by, max-arc-bytes, Records, Holds, Takes, Walk-says};
 ghost use Rattle.steps.specs.Steps.{first-state, origin-pair};
 ghost use Rattle.steps.specs.Lookup.{Again};
 ghost use Rattle.steps.specs.Packing.{pack, unpacked};
 ghost use Rattle.steps.specs.Runs.{Takeable, In-both};
 ghost use Rattle.compose.specs.Walk.{key-steps, key-walk, Walkable};
-ghost use Rattle.compose.specs.Taking.{run-left, Holds, Takes};
+ghost use Rattle.compose.specs.Taking.{run-left};
 use explore::BUCKETS;
 use explore::Walk;
 use steps::Begin;
@@ -47,7 +47,7 @@ fn record_step(
     s: Step,
     number: usize,
 ) -> Walk
-    requires { ⌜ (number < max-states) × (max-bytes ≤ length (now table)) × (max-origins ≤ length (now origins)) ⌝ }
+    requires { ⌜ (number < max-states) × (max-arc-bytes ≤ length (now table)) × (max-origins ≤ length (now origins)) ⌝ }
     ensures { λ r. ⌜ Records (record { source = source; input = s .input; output = s .output; target = number; weight = s .weight }) w r
         (now (table .entry)) (now (table .exit)) ⌝ }
     ensures { λ _. ⌜ now (origins .exit) ≡ traced-by 2 (w .arcs) (origin-pair (s .origin)) (now (origins .entry)) ⌝ }
@@ -80,8 +80,8 @@ fn take_one(
     links: &mut [u16; MAX_STATES],
 ) -> Walk
     requires { ⌜ Opened (now right) rfirst × Takeable (decode (now right)) r from to × (r .alone ≡ true) ⌝ }
-    requires { ⌜ Holds w (now table) (now origins) (now states) (now heads) (now links) ⌝ }
-    ensures { λ z. ⌜ Takes (all-taken source (run-left (decode (now (right .entry))) r to from)) w z (now (table .entry)) (now (table .exit))
+    requires { ⌜ Holds 2 w (now table) (now origins) (now states) (now heads) (now links) ⌝ }
+    ensures { λ z. ⌜ Takes 2 (all-taken source (run-left (decode (now (right .entry))) r to from)) w z (now (table .entry)) (now (table .exit))
         (now (origins .entry)) (now (origins .exit)) (now (states .entry)) (now (states .exit))
         (now (heads .entry)) (now (heads .exit)) (now (links .entry)) (now (links .exit)) ⌝ }
 {
@@ -126,8 +126,8 @@ fn take_each(
     links: &mut [u16; MAX_STATES],
 ) -> Walk
     requires { ⌜ Opened (now right) rfirst × Again (decode (now right)) 0 (now again) × Takeable (decode (now right)) r from to × (r .alone ≡ false) ⌝ }
-    requires { ⌜ Holds w (now table) (now origins) (now states) (now heads) (now links) ⌝ }
-    ensures { λ z. ⌜ Takes (all-taken source (run-left (decode (now (right .entry))) r to from)) w z (now (table .entry)) (now (table .exit))
+    requires { ⌜ Holds 2 w (now table) (now origins) (now states) (now heads) (now links) ⌝ }
+    ensures { λ z. ⌜ Takes 2 (all-taken source (run-left (decode (now (right .entry))) r to from)) w z (now (table .entry)) (now (table .exit))
         (now (origins .entry)) (now (origins .exit)) (now (states .entry)) (now (states .exit))
         (now (heads .entry)) (now (heads .exit)) (now (links .entry)) (now (links .exit)) ⌝ }
 {
@@ -183,8 +183,8 @@ fn take_run(
     links: &mut [u16; MAX_STATES],
 ) -> Walk
     requires { ⌜ Opened (now right) rfirst × Again (decode (now right)) 0 (now again) × Takeable (decode (now right)) r from to ⌝ }
-    requires { ⌜ Holds w (now table) (now origins) (now states) (now heads) (now links) ⌝ }
-    ensures { λ z. ⌜ Takes (all-taken source (run-left (decode (now (right .entry))) r to from)) w z (now (table .entry)) (now (table .exit))
+    requires { ⌜ Holds 2 w (now table) (now origins) (now states) (now heads) (now links) ⌝ }
+    ensures { λ z. ⌜ Takes 2 (all-taken source (run-left (decode (now (right .entry))) r to from)) w z (now (table .entry)) (now (table .exit))
         (now (origins .entry)) (now (origins .exit)) (now (states .entry)) (now (states .exit))
         (now (heads .entry)) (now (heads .exit)) (now (links .entry)) (now (links .exit)) ⌝ }
 {
@@ -253,8 +253,8 @@ fn serve(
 ) -> Walk
     requires { ⌜ Walkable (now left) lfirst (now lindex) (now right) rfirst (now rindex) (now rheads) (now chain) (now again) exact × (source < w .states) ⌝ }
     requires { ⌜ In-both (decode (now left)) (decode (now right)) (unpacked (getD (now states) source 0)) ⌝ }
-    requires { ⌜ Holds w (now table) (now origins) (now states) (now heads) (now links) ⌝ }
-    ensures { λ z. ⌜ Takes (state-served (key-steps (decode (now (left .entry))) (decode (now (right .entry)))) source) w z
+    requires { ⌜ Holds 2 w (now table) (now origins) (now states) (now heads) (now links) ⌝ }
+    ensures { λ z. ⌜ Takes 2 (state-served (key-steps (decode (now (left .entry))) (decode (now (right .entry)))) source) w z
         (now (table .entry)) (now (table .exit))
         (now (origins .entry)) (now (origins .exit)) (now (states .entry)) (now (states .exit))
         (now (heads .entry)) (now (heads .exit)) (now (links .entry)) (now (links .exit)) ⌝ }
@@ -262,11 +262,13 @@ fn serve(
     let x = steps::unpack(states[source]);
     let p = x.left as usize;
     let q = x.right as usize;
+    let from = rindex[q] as usize;
     let to = rindex[q + 1] as usize;
     let last = lindex[p + 1] as usize;
     let wild = steps::first_any(right, rfirst, rheads, chain, exact, q as u16, to);
     let mut walk = w;
     let mut i = lindex[p] as usize;
+    let only = steps::only_label(right, rfirst, from, wild, to, i, last);
     while i <= last {
         let at = steps::next_run(
             left,
@@ -279,6 +281,7 @@ fn serve(
             rheads,
             chain,
             q as u16,
+            only,
             wild,
             to,
         );
@@ -326,7 +329,7 @@ pub fn walk_all(
 ) -> Walk
     requires { ⌜ Walkable (now left) lfirst (now lindex) (now right) rfirst (now rindex) (now rheads) (now chain) (now again) exact ⌝ }
     requires { ⌜ first ≡ pack (first-state (decode (now left)) (decode (now right))) ⌝ }
-    requires { ⌜ (max-bytes ≤ length (now table)) × (max-origins ≤ length (now origins)) × (max-states ≤ length (now states)) ⌝ }
+    requires { ⌜ (max-arc-bytes ≤ length (now table)) × (max-origins ≤ length (now origins)) × (max-states ≤ length (now states)) ⌝ }
     ensures { λ r. ⌜ Walk-says 2 (key-walk (decode (now (left .entry))) (decode (now (right .entry)))) r (now (table .entry)) (now (table .exit))
         (now (origins .entry)) (now (origins .exit)) (now (states .entry)) (now (states .exit)) ⌝ }
 {

@@ -12,11 +12,12 @@ use Rattle.wire.proofs.Places.{places-same}
 use Rattle.transducer.specs.Format.{Transducer, max-states, decode, refusal}
 use Rattle.transducer.specs.Entry.{or-else, weights-left-in}
 use Rattle.transducer.specs.Weight.{Weight}
-use Rattle.paths.proofs.Ready.{Sized}
+use Rattle.reach.proofs.Sized.{Sized}
 use Rattle.least.specs.Cycles.{anywhere, falling-anywhere}
 use Rattle.least.proofs.Falls.{anywhere-true}
 use Rattle.distance.specs.Distance.{no-path, least-to-come}
-use Rattle.distance.specs.Nearest.{Sizes, cost-at, by-state, cost-told, Distances-say}
+use Rattle.relax.specs.Nearest.{Sizes, cost-at, by-state}
+use Rattle.distance.specs.Ended.{cost-told, Distances-say}
 use Rattle.distance.specs.Entry.{costs-refusal, costs-to-come, Costs-say, cost-or-none}
 use Rattle.distance.proofs.ToCome.{past-none}
 use Rattle.distance.proofs.Settled.{settled-rises}

@@ -15,12 +15,12 @@ use Rattle.transducer.specs.Format.{Transducer, max-states, refusal, decode}
 use Rattle.transducer.specs.Weight.{Weight, no-weight}
 use Rattle.transducer.proofs.Weights.{sums}
 use Rattle.transducer.proofs.Answers.{none-or-else, weights-left-in-none}
-use Rattle.paths.proofs.Ready.{Sized}
+use Rattle.reach.proofs.Sized.{Sized}
 use Rattle.least.specs.Cycles.{Falling, Falls, anywhere, falling-anywhere}
 use Rattle.least.proofs.Falls.{true-anywhere, anywhere-true}
 use Rattle.least.proofs.NoLeast.{no-least}
 use Rattle.distance.specs.Distance.{least-to-come}
-use Rattle.distance.specs.Nearest.{cost-at}
+use Rattle.relax.specs.Nearest.{cost-at}
 use Rattle.distance.specs.Entry.{costs-refusal, costs-to-come, Costs-say}
 use Rattle.distance.specs.Claim.{Least-from, No-least-from, Cell-claim, Costs-claim}
 use Rattle.distance.proofs.ToCome.{cell-claimed}

@@ -13,10 +13,12 @@ use Rattle.transducer.proofs.Runs.{Within}
 use Rattle.reach.specs.Marks.{Marked, Passes}
 use Rattle.reach.specs.Reach.{accessible}
 use Rattle.reach.proofs.Closure.{accessible-passes}
-use Rattle.paths.proofs.Ready.{Sized}
+use Rattle.reach.proofs.Sized.{Sized}
 use Rattle.least.specs.Cycles.{anywhere, Falls}
-use Rattle.distance.specs.Nearest.{Sizes, cost-at, by-state, counted, Cells, Settled, Swept-says, Distances-say}
-use Rattle.distance.specs.Queue.{mark, Drained}
+use Rattle.relax.specs.Nearest.{Sizes, cost-at, by-state, Cells, Settled}
+use Rattle.settle.specs.Swept.{Swept-says}
+use Rattle.distance.specs.Ended.{counted, Distances-say}
+use Rattle.settle.specs.Queue.{mark, Drained}
 use Rattle.distance.proofs.Settled.{distances-least}
 
 -- Those count to which arcs lead from one that does.
@@ -25,7 +27,7 @@ counted-passes true t w = λ i b m. refl
 counted-passes false t w = accessible-passes t w
 
 module _ (t : Transducer) (z : Sized t) (cs : List Weight) (ls : Sizes) where
-  settled-says : {counts : ℕ → Bool} → Cells cs ls → Settled t counts (cost-at cs) (by-state ls) → Distances-say t counts cs ls true
+  settled-says : {counts : ℕ → Bool} → Cells (t .states) cs ls → Settled t counts (cost-at cs) (by-state ls) → Distances-say t counts cs ls true
   settled-says {counts} cells k =
       record { cells = cells; settled = λ _. k; least = λ _. distances-least t z counts (cost-at cs) (by-state ls) k; falls = λ q. clash refl q }
 

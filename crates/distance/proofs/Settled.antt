@@ -18,17 +18,19 @@ use Rattle.reach.specs.Reach.{coaccessible}
 use Rattle.reach.proofs.Reach.{coaccessible-path, path-coaccessible}
 use Rattle.paths.specs.Count.{paths-from}
 use Rattle.paths.proofs.Listed.{in-paths-from, paths-from-has}
-use Rattle.paths.proofs.Ready.{Sized}
+use Rattle.reach.proofs.Sized.{Sized}
 use Rattle.least.specs.Costs.{cost-from}
 use Rattle.least.specs.Cycles.{Falling, falling-among, Falls}
 use Rattle.least.proofs.Costs.{cost-nil, cost-cons}
 use Rattle.least.proofs.Cycles.{falling-rest}
 use Rattle.least.proofs.Falls.{falling-below, passes-along, among-falls}
-use Rattle.distance.specs.Distance.{Size, size-of, no-path, least-of, least-to-come}
-use Rattle.distance.specs.Nearest.{unreached, cost-told, longer, No-worse, cost-by, size-by, own-cost, Reached, Settled}
+use Rattle.relax.specs.Size.{Size, size-of}
+use Rattle.distance.specs.Distance.{no-path, least-of, least-to-come}
+use Rattle.relax.specs.Nearest.{unreached, longer, No-worse, cost-by, size-by, own-cost, Reached, Settled}
+use Rattle.distance.specs.Ended.{cost-told}
 use Rattle.distance.proofs.ToCome.{least-of-most, least-of-in, least-of-above}
-use Rattle.distance.proofs.Nearer.{no-worse-through, no-worse-step, size-nil, size-cons}
-use Rattle.distance.proofs.Bounds.{Bounded, arc-bounded, final-bounded, reached-bounded, cost-by-some}
+use Rattle.relax.proofs.Nearer.{no-worse-through, no-worse-step, size-nil, size-cons}
+use Rattle.relax.proofs.Bounds.{Bounded, arc-bounded, final-bounded, reached-bounded, cost-by-some}
 
 module _ (t : Transducer) (z : Sized t) (counts : ℕ → Bool) (c : ℕ → Weight) (l : ℕ → Size) (k : Settled t counts c l) where
   abbrev pub Marked : ℕ → Type 0

@@ -22,14 +22,14 @@ use Rattle.transducer.specs.Weight.{Weight, At-most, Below, at-most}
 use Rattle.transducer.proofs.Runs.{Accepting, AcceptingBy, accepting-nil, accepting-cons}
 use Rattle.paths.specs.Count.{paths-from}
 use Rattle.paths.proofs.Listed.{in-paths-from, paths-from-has}
-use Rattle.paths.proofs.Ready.{Sized}
+use Rattle.reach.proofs.Sized.{Sized}
 use Rattle.least.specs.Costs.{cost-from}
 use Rattle.least.specs.Cycles.{Falling, falling-anywhere}
 use Rattle.least.proofs.Cycles.{Shorter, shorter}
 use Rattle.least.proofs.Falls.{anywhere-true}
 use Rattle.distance.specs.Distance.{no-path, lesser, least-of, least-to-come}
 use Rattle.distance.specs.Claim.{To-final, Cell-claim}
-use Rattle.distance.proofs.Bounds.{Bounded, cost-bounded}
+use Rattle.relax.proofs.Bounds.{Bounded, cost-bounded}
 
 -- The least cost of a list of paths.
 

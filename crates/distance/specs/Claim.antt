@@ -11,7 +11,7 @@ use Rattle.transducer.specs.Weight.{Weight, At-most, Below}
 use Rattle.least.specs.Costs.{cost-from}
 use Rattle.least.specs.Cycles.{Falling}
 use Rattle.distance.specs.Distance.{no-path}
-use Rattle.distance.specs.Nearest.{cost-at}
+use Rattle.relax.specs.Nearest.{cost-at}
 
 -- A path from a state to a final one.
 pub record To-final (t : Transducer) (s : ℕ) (p : List ℕ) : Type 0 where

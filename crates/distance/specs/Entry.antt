@@ -11,7 +11,8 @@ use Rattle.transducer.specs.Entry.{or-else, weights-left-in}
 use Rattle.transducer.specs.Weight.{Weight}
 use Rattle.least.specs.Cycles.{falling-anywhere}
 use Rattle.distance.specs.Distance.{no-path, least-to-come}
-use Rattle.distance.specs.Nearest.{cost-at, cost-told}
+use Rattle.relax.specs.Nearest.{cost-at}
+use Rattle.distance.specs.Ended.{cost-told}
 
 -- 1 to 8, 10 for fewer than 1,024 cells, then 19 where a final state can be reached from a cycle below zero, whether the start reaches that or not.
 unfoldable pub costs-refusal : List ℕ → (cells : ℕ) → ℕ

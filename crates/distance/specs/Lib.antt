@@ -1,6 +1,4 @@
 pub mod Distance
-pub mod Nearest
-pub mod Begun
-pub mod Queue
+pub mod Ended
 pub mod Entry
 pub mod Claim

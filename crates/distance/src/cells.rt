@@ -5,9 +5,9 @@ ghost use lib.ListN.{length};
 ghost use Rattle.wire.specs.Bytes.{places, signed-filled};
 ghost use Rattle.transducer.specs.Format.{max-states};
 ghost use Rattle.transducer.specs.Weight.{At-most};
-ghost use Rattle.distance.specs.Nearest.{unreached, cost-at, cost-told, least-cost};
+ghost use Rattle.relax.specs.Nearest.{unreached, cost-at, least-cost};
+ghost use Rattle.distance.specs.Ended.{cost-told};
 ghost use Rattle.distance.specs.Entry.{cost-or-none, Copied, Spanned};
-use crate::near::UNREACHED;
 use transducer::MAX_STATES;
 
 // What a cell has where there is no cost.
@@ -17,15 +17,15 @@ const NO_PATH: i64 = 1000000000001;
 fn told(cost: i32) -> i64
     ensures { λ r. ⌜ r ≡ cost-told cost ⌝ }
 {
-    if cost < UNREACHED {
+    if cost < relax::UNREACHED {
         return cost as i64;
     }
     NO_PATH
 }
 
 // Copies the costs of so many states to the first cells.
-fn copy(states: usize, costs: &[i32; MAX_STATES], cells: &mut [i64])
-    requires { ⌜ (states ≤ max-states) × (max-states ≤ length (now cells))
+fn copy(states: usize, costs: &[i32], cells: &mut [i64])
+    requires { ⌜ (states ≤ max-states) × (states ≤ length (now costs)) × (max-states ≤ length (now cells))
         × ((s : ℕ) → At-most least-cost (cost-at (now costs) s)) × ((s : ℕ) → At-most (cost-at (now costs) s) unreached) ⌝ }
     ensures { λ _. ⌜ Copied states (now (costs .entry)) (now (cells .entry)) (now (cells .exit)) ⌝ }
 {
@@ -49,8 +49,8 @@ fn fill(cells: &mut [i64], from: usize, to: usize, cost: i64)
 }
 
 // Puts the costs of so many states into 1,024 cells, none past the last state, and zeros behind the 1,024.
-pub fn put(states: usize, costs: &[i32; MAX_STATES], cells: &mut [i64])
-    requires { ⌜ (states ≤ max-states) × (max-states ≤ length (now cells))
+pub fn put(states: usize, costs: &[i32], cells: &mut [i64])
+    requires { ⌜ (states ≤ max-states) × (states ≤ length (now costs)) × (max-states ≤ length (now cells))
         × ((s : ℕ) → At-most least-cost (cost-at (now costs) s)) × ((s : ℕ) → At-most (cost-at (now costs) s) unreached) ⌝ }
     ensures { λ _. ⌜ now (cells .exit) ≡ signed-filled (length (now (cells .entry))) (places max-states 0 1 (cost-or-none states (now (costs .entry)))) ⌝ }
 {

@@ -1,9 +1,36 @@
 // The least cost still to come from each state.
+ghost use mathlib.Core.Path.{_≡_};
+ghost use Prim.Native.Nat.{ℕ, _≤_};
 ghost use lib.ListN.{length};
+ghost use Rattle.transducer.specs.Format.{max-states, decode};
+ghost use Rattle.transducer.specs.Leaf.{Looked-says};
+ghost use Rattle.transducer.specs.Weight.{no-weight};
+ghost use Rattle.relax.specs.Begun.{Cleared};
 ghost use Rattle.distance.specs.Entry.{Costs-say, costs-refusal};
-use crate::begun;
 use crate::cells;
 use crate::near;
+use transducer::Looked;
+
+// The costs to come of accepted bytes, by lent arrays of zeros for costs and sizes with a cell for each state.
+fn costs_by(
+    table: &[u8],
+    seen: Looked,
+    costs: &mut [i32],
+    lens: &mut [u32],
+    cells: &mut [i64],
+) -> u32
+    requires { ⌜ Looked-says (now table) seen × (seen .refusal ≡ 0) × Cleared no-weight (decode (now table) .states) (now costs)
+        × Cleared {A = ℕ} 0 (decode (now table) .states) (now lens) × (max-states ≤ length (now cells)) ⌝ }
+    ensures { λ r. ⌜ Costs-say (now (table .entry)) (costs-refusal (now (table .entry)) (length (now (cells .entry)))) r
+        (now (cells .entry)) (now (cells .exit)) ⌝ }
+{
+    let shape = relax::begin(table, costs);
+    if !near::distances(table, shape, true, seen, costs, lens) {
+        return 19;
+    }
+    cells::put(shape.states, costs, cells);
+    0
+}
 
 // The least cost still to come from each state, over all paths to a final state, into 1,024 lent cells; 1,000,000,000,001 where there is no such path.
 // Linear in states and arcs where one sweep settles all, at worst states times arcs.
@@ -19,29 +46,12 @@ pub fn costs_to_come(table: &[u8], cells: &mut [i64]) -> u32
     if cells.len() < transducer::MAX_STATES {
         return 10;
     }
-    let mut index = [0u16; transducer::INDEX_LEN];
-    let mut costs = [0i32; transducer::MAX_STATES];
-    let shape = begun::begin(table, &mut index, &mut costs);
-    let plain = near::is_plain(shape.states, seen.writes, seen.least, &costs);
-    let forward = near::by_states(seen.writes, seen.least, seen.up);
-    let mut lens = [0u32; transducer::MAX_STATES];
-    let settled = near::distances(
-        table,
-        shape.first,
-        shape.states,
-        shape.arcs,
-        shape.start,
-        true,
-        &index,
-        plain,
-        forward,
-        seen.least,
-        &mut costs,
-        &mut lens,
-    );
-    if !settled {
-        return 19;
+    if relax::is_small(table) {
+        let mut costs = [0i32; relax::FEW_STATES];
+        let mut lens = [0u32; relax::FEW_STATES];
+        return costs_by(table, seen, &mut costs, &mut lens, cells);
     }
-    cells::put(shape.states, &costs, cells);
-    0
+    let mut costs = [0i32; transducer::MAX_STATES];
+    let mut lens = [0u32; transducer::MAX_STATES];
+    costs_by(table, seen, &mut costs, &mut lens, cells)
 }

@@ -5,7 +5,7 @@ use mathlib.Core.List.{List}
 use Prim.Native.Nat.{ℕ, _≤_, _<_}
 use lib.ListN.{length, getD}
 use Rattle.wire.proofs.Bool.{and-true}
-use Rattle.transducer.specs.Format.{Transducer}
+use Rattle.transducer.specs.Format.{max-states, Transducer}
 use Rattle.transducer.specs.Path.{runs, ends, accepts, is-final, read-by, written-by, arcs-cost, path-cost}
 use Rattle.transducer.specs.Weight.{plus, Weight}
 use Rattle.explore.specs.Explore.{Step, Decides, Built, built}
@@ -55,7 +55,7 @@ module _ {A O : Type 0} (same : A → A → Bool) (steps : A → List (Step A O)
     pub accepts-once : Once steps → (p q : List ℕ) → accepts (b .result) p ≡ true → accepts (b .result) q ≡ true → along b d p ≡ along b d q → p ≡ q
     accepts-once once p q h k e = along-once same steps final weight first d once 0 p q (accepts-runs p h .0) (accepts-runs q k .0) e
 
-    module _ (right : Decides same) (few : length (b .states) ≤ 1024) where
+    module _ (right : Decides same) (few : length (b .states) ≤ max-states) where
       cost : (p : List ℕ) → runs (b .result) 0 p ≡ true → ends (b .result) 0 p < length (b .states)
           → final (getD (b .states) (ends (b .result) 0 p) first) ≡ true
           → path-cost (b .result) p ≡ plus (weights (along b d p)) (weight (getD (b .states) (ends (b .result) 0 p) first))

@@ -1,16 +1,15 @@
 -- The steps of all states and their arcs: which step stands at a place, and that its arc stands at the same place. Assumes nothing.
 use mathlib.Core.Path.{_≡_, refl, ap}
-use mathlib.Core.Bool.{Bool, true}
+use mathlib.Core.Bool.{Bool}
 use mathlib.Core.Logic.{_⊎_, inl, inr}
-use mathlib.Core.List.{List, [], _∷_, _++_, append-assoc}
+use mathlib.Core.List.{List, [], _∷_}
 use Prim.Native.Nat.{ℕ, zero, suc, _+_}
 use native.Mathlib.Nat.{add-zero}
 use native.Mathlib.Omega.{arith}
 use lib.ListN.{length, take, length-append}
 use Rattle.transducer.specs.declared.Arc.{Arc}
-use Rattle.explore.specs.Explore.{Step, there, place, arcs-here, arcs-from, steps-from}
-use Rattle.explore.proofs.Member.{At, Mem, at-eq, at-left, at-right, at-append, mem-here, mem-later}
-use Rattle.explore.proofs.Meeting.{Grows, grows-place}
+use Rattle.explore.specs.Explore.{Step, place, arcs-here, arcs-from, steps-from}
+use Rattle.explore.proofs.Member.{At, at-eq, at-left, at-right, at-append}
 
 -- The arc of a step from the state of number i.
 abbrev pub arc-of : {A O : Type 0} → (same : A → A → Bool) → (all : List A) → (i : ℕ) → Step A O → Arc
@@ -22,11 +21,6 @@ unfoldable pub before : {A O : Type 0} → (steps : A → List (Step A O)) → L
 before steps xs k = length (steps-from steps (take k xs))
 
 module _ {A O : Type 0} (steps : A → List (Step A O)) where
-  pub steps-from-append : (xs ys : List A) → steps-from steps (xs ++ ys) ≡ steps-from steps xs ++ steps-from steps ys
-  unfolding steps-from
-  steps-from-append [] ys = refl
-  steps-from-append (x ∷ xs) ys = rw (steps-from-append xs ys, append-assoc)
-
   before-zero : (xs : List A) → before steps xs 0 ≡ 0
   unfolding before steps-from
   before-zero xs = refl
@@ -90,11 +84,6 @@ module _ {A O : Type 0} (same : A → A → Bool) (all : List A) where
   length-arcs-here i [] = refl
   length-arcs-here i (s ∷ ss) = ap suc (length-arcs-here i ss)
 
-  pub arcs-here-append : (i : ℕ) (ss ts : List (Step A O)) → arcs-here same all i (ss ++ ts) ≡ arcs-here same all i ss ++ arcs-here same all i ts
-  unfolding arcs-here
-  arcs-here-append i [] ts = refl
-  arcs-here-append i (s ∷ ss) ts = ap (λ (l : List Arc). arc-of same all i s ∷ l) (arcs-here-append i ss ts)
-
   pub arcs-here-at : (i : ℕ) (ss : List (Step A O)) (l : ℕ) (s : Step A O) → At ss l s → At (arcs-here same all i ss) l (arc-of same all i s)
   unfolding arcs-here
   arcs-here-at i [] l s h = absurd h
@@ -106,14 +95,6 @@ module _ {A O : Type 0} (same : A → A → Bool) (all : List A) where
     unfolding arcs-from steps-from
     length-arcs-from i [] = refl
     length-arcs-from i (x ∷ xs) = simp (length-append, length-arcs-here i (steps x), length-arcs-from (suc i) xs)
-
-    pub arcs-from-append : (i : ℕ) (xs ys : List A)
-        → arcs-from same steps all i (xs ++ ys) ≡ arcs-from same steps all i xs ++ arcs-from same steps all (i + length xs) ys
-    unfolding arcs-from
-    arcs-from-append i [] ys = rw add-zero
-    arcs-from-append i (x ∷ xs) ys =
-        let e : suc i + length xs ≡ i + suc (length xs) = omega arith in
-        rw (arcs-from-append (suc i) xs ys, e, append-assoc)
 
     -- The arc of a step stands where the step does.
     pub arcs-from-at : (i : ℕ) (xs : List A) (k : ℕ) (x : A) (l : ℕ) (s : Step A O) → At xs k x → At (steps x) l s
@@ -134,11 +115,3 @@ module _ {A O : Type 0} (same : A → A → Bool) (all : List A) where
         (at-eq (arcs-from same steps all i (y ∷ ys)) (arc-of same all (suc i + k) s) e
         (at-right (arcs-here same all i (steps y)) (arcs-from same steps all (suc i) ys) (before steps ys k + l) (arc-of same all (suc i + k) s)
         (arcs-from-at (suc i) ys k x l s h m)))
-
--- Targets that are met already are numbered alike in the end.
-pub arcs-here-grows : {A O : Type 0} (same : A → A → Bool) {xs all : List A} (i : ℕ) (ss : List (Step A O)) → Grows xs all
-    → ((s : Step A O) → Mem s ss → there same (s .target) xs ≡ true) → arcs-here same all i ss ≡ arcs-here same xs i ss
-unfolding arcs-here
-arcs-here-grows same i [] g h = refl
-arcs-here-grows same i (s ∷ ss) g h =
-    rw (grows-place same (s .target) g (h s (mem-here s ss)), arcs-here-grows same i ss g (λ t m. h t (mem-later s m)))

@@ -9,6 +9,7 @@ use native.Mathlib.Omega.{arith}
 use lib.Dec.{ltb, leb}
 use lib.ListN.{length, getD}
 use borrow.Author.Tests.{ltb-true, ltb-false, lt-ltb, le-ltb, leb-true, le-leb}
+use Rattle.transducer.specs.Format.{max-arcs, max-states}
 use Rattle.wire.specs.Bytes.{every}
 use Rattle.wire.proofs.Places.{every-append}
 use Rattle.wire.proofs.Bool.{and-true, true-and, by-test, passed-last, not-raised}
@@ -28,7 +29,8 @@ use Rattle.transducer.specs.Format.{
   Good,
 }
 use Rattle.transducer.specs.Each.{plain}
-use Rattle.transducer.proofs.GoodParts.{good-parts}
+use Rattle.transducer.proofs.Good.{good-tests}
+use Rattle.transducer.proofs.RoundTrip.{good-range}
 use Rattle.transducer.proofs.Labels.{unbarred-good}
 use Rattle.transducer.specs.Weight.{Weight}
 use Rattle.explore.specs.Explore.{Step, Decides, Built, targets, built, built-refusal, place, arcs-here, arcs-from}
@@ -84,40 +86,40 @@ module _ {A O : Type 0} (same : A → A → Bool) (all : List A) where
 
 -- What it says that none of 11, 12 and 13 is given.
 pub record Unrefused (t : Transducer) : Type 0 where
-  pub few-states : t .states ≤ 1024
-  pub few-arcs : length (t .arcs) ≤ 3072
+  pub few-states : t .states ≤ max-states
+  pub few-arcs : length (t .arcs) ≤ max-arcs
   pub light : weights-good t ≡ true
 
 pub unrefused : (t : Transducer) → built-refusal t ≡ 0 → Unrefused t
 unfolding built-refusal
 unrefused t h =
-    let states = not-raised (ltb 1024 (t .states)) 10 (cond (ltb 3072 (length (t .arcs))) 12 (cond (weights-good t) 0 13)) h in
-    let arcs = not-raised (ltb 3072 (length (t .arcs))) 11 (cond (weights-good t) 0 13) (states .1) in
+    let states = not-raised (ltb max-states (t .states)) 10 (cond (ltb max-arcs (length (t .arcs))) 12 (cond (weights-good t) 0 13)) h in
+    let arcs = not-raised (ltb max-arcs (length (t .arcs))) 11 (cond (weights-good t) 0 13) (states .1) in
     record {
-      few-states = ltb-false 1024 (t .states) (states .0);
-      few-arcs = ltb-false 3072 (length (t .arcs)) (arcs .0);
+      few-states = ltb-false max-states (t .states) (states .0);
+      few-arcs = ltb-false max-arcs (length (t .arcs)) (arcs .0);
       light = passed-last (weights-good t) 12 (arcs .1);
     }
 
 pub not-refused : (t : Transducer) → Unrefused t → built-refusal t ≡ 0
 unfolding built-refusal
-not-refused t u = rw (le-ltb 1024 (t .states) (u .few-states), le-ltb 3072 (length (t .arcs)) (u .few-arcs), u .light)
+not-refused t u = rw (le-ltb max-states (t .states) (u .few-states), le-ltb max-arcs (length (t .arcs)) (u .few-arcs), u .light)
 
-pub over-11 : (t : Transducer) → (built-refusal t ≡ 11) ↔ (1024 < t .states)
+pub over-11 : (t : Transducer) → (built-refusal t ≡ 11) ↔ (max-states < t .states)
 unfolding built-refusal
 over-11 t = (
-  λ h. by-test (ltb 1024 (t .states)) (λ e. ltb-true 1024 (t .states) e) (λ e. absurd (other (rw e at h))),
-  λ l. rw (lt-ltb 1024 (t .states) l),
+  λ h. by-test (ltb max-states (t .states)) (λ e. ltb-true max-states (t .states) e) (λ e. absurd (other (rw e at h))),
+  λ l. rw (lt-ltb max-states (t .states) l),
 )
   where
-    other : _≡_ {A = ℕ} (cond (ltb 3072 (length (t .arcs))) 12 (cond (weights-good t) 0 13)) 11 → ⊥
+    other : _≡_ {A = ℕ} (cond (ltb max-arcs (length (t .arcs))) 12 (cond (weights-good t) 0 13)) 11 → ⊥
     other h =
-        by-test (ltb 3072 (length (t .arcs))) (λ e. let z : _≡_ {A = ℕ} 12 11 = rw e at h in omega arith)
+        by-test (ltb max-arcs (length (t .arcs))) (λ e. let z : _≡_ {A = ℕ} 12 11 = rw e at h in omega arith)
         (λ e. by-test (weights-good t) (λ w. let z : _≡_ {A = ℕ} 0 11 = rw (e, w) at h in omega arith)
         (λ w. let z : _≡_ {A = ℕ} 13 11 = rw (e, w) at h in omega arith))
 
 pub good-unrefused : (t : Transducer) → Good t → Unrefused t
-good-unrefused t g = let p = good-parts t g in record { few-states = p .few-states; few-arcs = p .few-arcs; light = p .weights-are }
+good-unrefused t g = let r = good-range t g in record { few-states = r .states; few-arcs = r .arcs; light = good-tests t g .weights }
 
 module _ {A O : Type 0} (same : A → A → Bool) (steps : A → List (Step A O)) (final : A → Bool) (weight : A → Weight) (first : A) where
   abbrev b : Built A O
@@ -141,7 +143,7 @@ module _ {A O : Type 0} (same : A → A → Bool) (steps : A → List (Step A O)
       (λ k x s q m. unbarred-good (s .input) (s .output) (record { read = h x s m .0; written = h x s m .1 }))
 
   module _ (right : Decides same) where
-    pub built-states-good : length (b .states) ≤ 1024 → states-good (b .result) ≡ true
+    pub built-states-good : length (b .states) ≤ max-states → states-good (b .result) ≡ true
     unfolding built states-good targets
     built-states-good few =
         true-and (every (λ f. ltb (f .state) n) (b .result .finals)) (every (λ a. ltb (a .source) n && ltb (a .target) n) (b .result .arcs))
@@ -166,7 +168,7 @@ module _ {A O : Type 0} (same : A → A → Bool) (steps : A → List (Step A O)
     built-good labelled h =
         let u : Unrefused (b .result) = unrefused (b .result) h in
         let n : b .result .states ≡ length (b .states) = built-states same steps final weight first in
-        let few : length (b .states) ≤ 1024 = omega (arith, u .few-states) in
+        let few : length (b .states) ≤ max-states = omega (arith, u .few-states) in
         let some : 1 ≤ length (b .states) = built-some same steps final weight first in
         let finals : length (b .result .finals) ≤ length (b .states) = length-finals same steps final weight first in
         let start : b .result .start ≡ 0 = built-start same steps final weight first in
@@ -174,15 +176,15 @@ module _ {A O : Type 0} (same : A → A → Bool) (steps : A → List (Step A O)
           head =
               rw (
                 le-leb 1 (b .result .states) (omega arith),
-                le-leb (b .result .states) 1024 (u .few-states),
-                le-leb (length (b .result .arcs)) 3072 (u .few-arcs),
+                le-leb (b .result .states) max-states (u .few-states),
+                le-leb (length (b .result .arcs)) max-arcs (u .few-arcs),
                 le-leb (length (b .result .finals)) (b .result .states) (omega arith),
                 lt-ltb (b .result .start) (b .result .states) (omega arith),
               );
           content = rw (built-states-good few, built-order, built-labels labelled, u .light);
         }
 
-    pub unrefused-few : built-refusal (b .result) ≡ 0 → length (b .states) ≤ 1024
+    pub unrefused-few : built-refusal (b .result) ≡ 0 → length (b .states) ≤ max-states
     unrefused-few h = omega (arith, unrefused (b .result) h .few-states, built-states same steps final weight first)
 
     -- What is built is good exactly where it is not refused.

@@ -11,7 +11,8 @@ use lib.Dec.{eqb}
 use lib.ListN.{length, getD, set, replicate, length-append, length-set, length-replicate, getD-replicate, List·getD-append}
 use lib.Seq.{take-suc-set, getD-take, getD-set-same, getD-set-other, getD-append-seam}
 use Rattle.explore.specs.Explore.{Decides, there}
-use Rattle.explore.specs.Chain.{bucket-of, last-in, Once, Chained}
+use Rattle.transducer.specs.Format.{max-states}
+use Rattle.explore.specs.Chain.{buckets, bucket-of, last-in, Once, Chained}
 use Rattle.wire.proofs.Bool.{by-test}
 use Rattle.explore.proofs.Member.{at-length, at-getD, getD-at}
 use Rattle.explore.proofs.Distinct.{Distinct, distinct-snoc, distinct-at, at-distinct}
@@ -19,7 +20,7 @@ use Rattle.explore.proofs.Distinct.{Distinct, distinct-snoc, distinct-a
 pub eqb-decides : Decides eqb
 eqb-decides = record { sound = eqb-true; complete = λ x. eq-eqb x x refl }
 
-pub bucket-of-lt : (key : ℕ) → bucket-of key < 1024
+pub bucket-of-lt : (key : ℕ) → bucket-of key < buckets
 unfolding bucket-of
 bucket-of-lt key = omega arith
 
@@ -87,8 +88,8 @@ stored-at {xs} {states} chained i l =
     sym (getD-take (length xs) states i 0 l) ∙ ap (λ (ys : List ℕ). getD ys i 0) (chained .stored)
 
 -- No key is stored yet.
-pub chained-first : (states heads links : List ℕ) → 1024 ≤ length states → length heads ≡ 1024 → length links ≡ 1024
-    → ((b : ℕ) → b < 1024 → getD heads b 0 ≡ 0) → Chained [] states heads links
+pub chained-first : (states heads links : List ℕ) → max-states ≤ length states → length heads ≡ buckets → length links ≡ max-states
+    → ((b : ℕ) → b < buckets → getD heads b 0 ≡ 0) → Chained [] states heads links
 unfolding last-in Once
 chained-first states heads links room heads-long links-long zeros =
     record {
@@ -102,10 +103,10 @@ chained-first states heads links room heads-long links-long zeros =
       links-are = λ i l. absurd (not-suc-le-zero l);
     }
 
-pub chained-zeros : (states : List ℕ) → 1024 ≤ length states → Chained [] states (replicate 1024 0) (replicate 1024 0)
+pub chained-zeros : (states : List ℕ) → max-states ≤ length states → Chained [] states (replicate buckets 0) (replicate max-states 0)
 chained-zeros states room =
-    chained-first states (replicate 1024 0) (replicate 1024 0) room (length-replicate {A = ℕ} 1024 0) (length-replicate {A = ℕ} 1024 0)
-    (λ b l. getD-replicate 1024 b 0 0 l)
+    chained-first states (replicate buckets 0) (replicate max-states 0) room (length-replicate {A = ℕ} buckets 0) (length-replicate {A = ℕ} max-states 0)
+    (λ b l. getD-replicate buckets b 0 0 l)
 
 -- A new key is stored, in front of the chain of its bucket.
 module _ (xs : List ℕ) (key : ℕ) where
@@ -157,12 +158,12 @@ module _ (xs : List ℕ) (key : ℕ) where
           rw (List·getD-append xs (key ∷ []) 0 i less, last-in-append (bucket-of (getD xs i 0)) i xs (key ∷ []) (omega arith))
           (getD-set-other links (length xs) i head 0 ne ∙ are less)
 
-  chained-snoc : (states heads links : List ℕ) → length xs < 1024 → there eqb key xs ≡ false → Chained xs states heads links
+  chained-snoc : (states heads links : List ℕ) → length xs < max-states → there eqb key xs ≡ false → Chained xs states heads links
       → Chained (xs ++ (key ∷ [])) (set states (length xs) key) (set heads (bucket-of key) (length xs + 1))
       (set links (length xs) (getD heads (bucket-of key) 0))
   chained-snoc states heads links less new chained =
       let head = getD heads (bucket-of key) 0 in
-      let bound : bucket-of key < 1024 = bucket-of-lt key in
+      let bound : bucket-of key < buckets = bucket-of-lt key in
       record {
         stored = rw (length-snoc, take-suc-set states (length xs) key (omega (arith, chained .room)), chained .stored);
         few = rw length-snoc less;
@@ -177,7 +178,7 @@ module _ (xs : List ℕ) (key : ℕ) where
       }
 
 -- The same in the words of the code: a number for the length, and one for the bucket.
-pub chained-next : (xs states heads links : List ℕ) (count b key : ℕ) → length xs ≡ count → b ≡ bucket-of key → count < 1024
+pub chained-next : (xs states heads links : List ℕ) (count b key : ℕ) → length xs ≡ count → b ≡ bucket-of key → count < max-states
     → there eqb key xs ≡ false → Chained xs states heads links
     → Chained (xs ++ (key ∷ [])) (set states count key) (set heads b (count + 1)) (set links count (getD heads b 0))
 chained-next xs states heads links count b key long is less new chained =

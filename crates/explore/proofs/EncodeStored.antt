@@ -8,7 +8,7 @@ use native.Mathlib.Omega.{arith}
 use lib.ListN.{length, take, drop, length-append, length-drop}
 use lib.Seq.{sets, sets-eq, length-sets, drop-drop}
 use Rattle.wire.specs.Bytes.{filled, cleared}
-use Rattle.transducer.specs.Format.{Transducer}
+use Rattle.transducer.specs.Format.{arcs-at, Transducer}
 use Rattle.transducer.specs.Encode.{head-record, final-records, arc-records, encode}
 use Rattle.transducer.proofs.Encode.{sets-then, length-head-record, length-final-records, length-arc-records}
 use Rattle.explore.proofs.Writing.{drop-sets}
@@ -35,8 +35,8 @@ sets-before out head rest k long fits =
     left ∙ sym (append-assoc head rest (drop (length rest) (drop k out))) ∙ sym right
 
 -- The finals, the arcs behind them, and the head last.
-pub encode-stored : (t : Transducer) (out : List ℕ) {o1 o2 o3 : List ℕ} → 12 + 10 * length (t .finals) + 16 * length (t .arcs) ≤ length out
-    → o1 ≡ sets out 12 (final-records (t .finals)) → o2 ≡ sets o1 (12 + 10 * length (t .finals)) (arc-records (t .arcs))
+pub encode-stored : (t : Transducer) (out : List ℕ) {o1 o2 o3 : List ℕ} → arcs-at (length (t .finals)) + 16 * length (t .arcs) ≤ length out
+    → o1 ≡ sets out 12 (final-records (t .finals)) → o2 ≡ sets o1 (arcs-at (length (t .finals))) (arc-records (t .arcs))
     → o3 ≡ sets o2 0 (head-record (t .states) (length (t .arcs)) (length (t .finals)) (t .start)) → o3 ≡ sets out 0 (encode t)
 unfolding encode
 encode-stored t out fits h1 h2 h3 =

@@ -12,7 +12,7 @@ use lib.Seq.{drop-cons}
 use borrow.Author.Tests.{eq-eqb, ne-eqb, leb-true, leb-false}
 use Rattle.wire.specs.Bytes.{every}
 use Rattle.transducer.specs.declared.Arc.{Arc}
-use Rattle.transducer.specs.Format.{weight-good}
+use Rattle.transducer.specs.Format.{max-states, weight-good}
 use Rattle.transducer.specs.Weight.{Weight}
 use Rattle.explore.specs.Explore.{Decides, Step, there, place, met, served, numbered, targets, Built, built, arcs-here, arcs-from, steps-from}
 use Rattle.explore.specs.Walk.{Keyed, keyed, all-origins, Sofar, with-key, taken, all-taken, state-served, served-from, begun, explored}
@@ -309,7 +309,7 @@ module _ {A O : Type 0} {same : A → A → Bool} {steps : A → List (Step A O)
 
     pub explored-mirrors : Mirrors pack Within (explored next (pack first)) (made .states)
     unfolding explored built numbered
-    explored-mirrors = served-mirrors 1025 0 (begun (pack first)) (first ∷ []) begun-mirrors
+    explored-mirrors = served-mirrors (suc max-states) 0 (begun (pack first)) (first ∷ []) begun-mirrors
 
     pub explored-keys : explored next (pack first) .keys ≡ map pack (made .states)
     explored-keys = explored-mirrors .keys-are
@@ -324,13 +324,13 @@ module _ {A O : Type 0} {same : A → A → Bool} {steps : A → List (Step A O)
       explored-mirrors .within (getD (made .states) i d) (mem-getD (made .states) i d l),
     )
 
-    pub explored-over : (1024 < length (explored next (pack first) .keys)) ↔ (1024 < length (made .states))
+    pub explored-over : (max-states < length (explored next (pack first) .keys)) ↔ (max-states < length (made .states))
     explored-over = (λ h. omega (arith, explored-length), λ h. omega (arith, explored-length))
 
-    module _ (few : length (made .states) ≤ 1024) where
+    module _ (few : length (made .states) ≤ max-states) where
       explored-serves : Serves same steps os (begun (pack first)) 0 (made .states) (explored next (pack first))
       unfolding explored built numbered begun
-      explored-serves = served-serves 1025 0 (begun (pack first)) (first ∷ []) begun-mirrors (omega arith) (omega arith)
+      explored-serves = served-serves (suc max-states) 0 (begun (pack first)) (first ∷ []) begun-mirrors (omega arith) (omega arith)
 
       pub explored-arcs : explored next (pack first) .arcs ≡ made .result .arcs
       unfolding built begun

@@ -5,25 +5,16 @@ use mathlib.Core.List.{List, [], _∷_, _++_}
 use Prim.Native.Nat.{ℕ, zero, suc, _+_, _≤_, _<_}
 use native.Mathlib.Nat.{add-zero}
 use native.Mathlib.Omega.{arith}
-use lib.Dec.{eqb, ltb}
+use lib.Dec.{ltb}
 use lib.ListN.{length}
 use borrow.Author.Tests.{eq-eqb, ne-eqb, lt-ltb, le-leb}
 use Rattle.wire.specs.Bytes.{every}
-use Rattle.transducer.specs.declared.Final.{Final}
 use Rattle.transducer.specs.Format.{finals-rise}
 use Rattle.transducer.specs.Path.{is-final, final-weight}
-use Rattle.transducer.specs.Weight.{Weight, no-weight}
+use Rattle.transducer.specs.Weight.{Weight}
 use Rattle.explore.specs.Explore.{finals-from}
-use Rattle.wire.proofs.Bool.{by-test, or-false}
+use Rattle.wire.proofs.Bool.{by-test}
 use Rattle.explore.proofs.Member.{At}
-
--- A state that is not final has no final weight.
-pub not-final-weight : (fs : List Final) (s : ℕ) → is-final fs s ≡ false → final-weight fs s ≡ no-weight
-unfolding is-final final-weight
-not-final-weight [] s h = refl
-not-final-weight (f ∷ fs) s h =
-    let e = or-false (eqb (f .state) s) (is-final fs s) h in
-    rw (e .0, not-final-weight fs s (e .1))
 
 module _ {A : Type 0} (final : A → Bool) (weight : A → Weight) where
   pub finals-from-append : (i : ℕ) (xs ys : List A)

@@ -15,7 +15,6 @@ pub mod Trails
 pub mod Accepting
 -- When it can be written, and what is left behind where it cannot.
 pub mod Built
-pub mod ArcsFit
 pub mod Numbered
 pub mod LeftBehind
 -- The index of stored keys, and the search in it.
@@ -31,6 +30,5 @@ pub mod Walking
 pub mod PutFinals
 pub mod EncodeStored
 pub mod MovedArcs
+pub mod LentPart
 pub mod WalkTold
--- Names passed on to crates that still look for them here.
-pub mod Cases

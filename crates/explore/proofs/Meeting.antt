@@ -5,8 +5,7 @@ use mathlib.Core.Logic.{_⊎_, inl, inr, ⊎-elim}
 use mathlib.Core.List.{List, [], _∷_, _++_, append-assoc, append-nil}
 use Prim.Native.Nat.{ℕ, _≤_, _<_}
 use native.Mathlib.Omega.{arith}
-use lib.ListN.{length, getD, take, length-append, List·getD-append}
-use lib.Seq.{take-append-seam}
+use lib.ListN.{length, getD, length-append, List·getD-append}
 use Rattle.explore.specs.Explore.{Decides, there, place, met}
 use Rattle.wire.proofs.Bool.{by-test}
 use Rattle.explore.proofs.Member.{
@@ -47,9 +46,6 @@ module _ {A : Type 0} where
   pub grows-length : {xs zs : List A} → Grows xs zs → length xs ≤ length zs
   grows-length {xs} {zs} g = rw (g .whole, length-append) (omega arith)
 
-  pub grows-take : {xs zs : List A} → Grows xs zs → take (length xs) zs ≡ xs
-  grows-take {xs} {zs} g = rw (g .whole) (take-append-seam xs (g .added))
-
   pub grows-getD : {xs zs : List A} (i : ℕ) (d : A) → Grows xs zs → i < length xs → getD zs i d ≡ getD xs i d
   grows-getD {xs} {zs} i d g l = rw (g .whole) (List·getD-append xs (g .added) d i l)
 
@@ -89,10 +85,6 @@ module _ {A : Type 0} (same : A → A → Bool) where
 
   pub met-length : (ys xs : List A) → length xs ≤ length (met same ys xs)
   met-length ys xs = grows-length (met-grows ys xs)
-
-  -- A front part of the targets meets a front part of the states.
-  pub met-append-length : (ys zs xs : List A) → length (met same ys xs) ≤ length (met same (ys ++ zs) xs)
-  met-append-length ys zs xs = rw (met-append ys zs xs) (met-length zs (met same ys xs))
 
   pub met-mem : {x : A} (ys xs : List A) → Mem x (met same ys xs) → Mem x xs ⊎ Mem x ys
   unfolding met

@@ -4,6 +4,7 @@ use mathlib.Core.Bool.{Bool}
 use mathlib.Core.List.{List, _∷_}
 use Prim.Native.Nat.{ℕ, _≤_, _<_}
 use lib.ListN.{length, getD}
+use Rattle.transducer.specs.Format.{max-states}
 use Rattle.explore.specs.Explore.{Step, Decides, Built, place, targets, numbered, built, built-refusal}
 use Rattle.explore.proofs.Member.{At, Mem, at-length, at-getD, getD-at, mem-getD}
 use Rattle.explore.proofs.Distinct.{distinct-at}
@@ -35,7 +36,7 @@ module _ {A O : Type 0} (same : A → A → Bool) (steps : A → List (Step A O)
   abbrev b : Built A O
   b = built same steps final weight first
 
-  pub built-numbered : length (b .states) ≤ 1024 → Numbered same steps first (b .states) (first ∷ targets (b .steps))
+  pub built-numbered : length (b .states) ≤ max-states → Numbered same steps first (b .states) (first ∷ targets (b .steps))
   unfolding built
   built-numbered few =
       record {

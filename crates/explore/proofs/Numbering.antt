@@ -27,7 +27,7 @@ pub data Reach {A : Type 0} (next : A → List A) (first : A) : A → Type 0 whe
 pub record More {A : Type 0} (same : A → A → Bool) (next : A → List A) (first : A) : Type 0 where
   pub found : List A
   pub distinct : Distinct same found
-  pub many : 1024 < length found
+  pub many : max-states < length found
   pub reached : (x : A) → Mem x found → Reach next first x
 
 module _ {A : Type 0} (same : A → A → Bool) (next : A → List A) (first : A) where
@@ -91,42 +91,42 @@ module _ {A : Type 0} {same : A → A → Bool} (right : Decides same) (next : A
   unfolding numbered there
   numbered-distinct = served-distinct right next first (suc max-states) 0 (first ∷ []) (refl, tt)
 
-  pub numbered-closed : length (numbered same next first) ≤ 1024 → (x y : A) → Mem x (numbered same next first) → Mem y (next x)
+  pub numbered-closed : length (numbered same next first) ≤ max-states → (x y : A) → Mem x (numbered same next first) → Mem y (next x)
       → Mem y (numbered same next first)
   unfolding numbered
   numbered-closed few x y m n =
       served-closed (suc max-states) 0 (first ∷ []) (omega arith) (λ i z w b. absurd (not-suc-le-zero b)) (omega arith)
       (m .number) x y (at-length (numbered same next first) (m .number) x (m .stands)) (m .stands) n
 
-  pub numbered-all : length (numbered same next first) ≤ 1024 → (x : A) → Reach next first x → Mem x (numbered same next first)
+  pub numbered-all : length (numbered same next first) ≤ max-states → (x : A) → Reach next first x → Mem x (numbered same next first)
   numbered-all few x reach-first = rw (numbered-first same next first first) at (mem-getD (numbered same next first) 0 first (numbered-some same next first))
   numbered-all few x (reach-next {x = w} r n) = numbered-closed few w x (numbered-all few w r) n
 
   -- More than 1,024 states are numbered exactly where more than 1,024 are reached.
-  pub numbered-over : 1024 < length (numbered same next first)
-      → (ys : List A) × Distinct same ys × (length ys ≡ 1025) × ((x : A) → Mem x ys → Reach next first x)
+  pub numbered-over : max-states < length (numbered same next first)
+      → (ys : List A) × Distinct same ys × (length ys ≡ suc max-states) × ((x : A) → Mem x ys → Reach next first x)
   numbered-over over =
       let xs : List A = numbered same next first in (
-        take 1025 xs,
-        distinct-take right 1025 xs numbered-distinct,
-        length-take-le 1025 xs over,
-        λ x m. numbered-reached same next first x (mem-take 1025 xs m),
+        take (suc max-states) xs,
+        distinct-take right (suc max-states) xs numbered-distinct,
+        length-take-le (suc max-states) xs over,
+        λ x m. numbered-reached same next first x (mem-take (suc max-states) xs m),
       )
 
-  pub reached-over : (ys : List A) → Distinct same ys → ((x : A) → Mem x ys → Reach next first x) → 1024 < length ys
-      → 1024 < length (numbered same next first)
+  pub reached-over : (ys : List A) → Distinct same ys → ((x : A) → Mem x ys → Reach next first x) → max-states < length ys
+      → max-states < length (numbered same next first)
   reached-over ys d h over =
       let xs : List A = numbered same next first in
-      by-test (leb (length xs) 1024)
-      (λ e. let few : length xs ≤ 1024 = leb-true (length xs) 1024 e in
+      by-test (leb (length xs) max-states)
+      (λ e. let few : length xs ≤ max-states = leb-true (length xs) max-states e in
       let long : length ys ≤ length xs = distinct-length right ys xs d (λ x m. numbered-all few x (h x m)) in
       omega arith)
-      (λ e. leb-false (length xs) 1024 e)
+      (λ e. leb-false (length xs) max-states e)
 
-  pub numbered-more : (1024 < length (numbered same next first)) ↔ More same next first
+  pub numbered-more : (max-states < length (numbered same next first)) ↔ More same next first
   numbered-more = (
     λ over. let r = numbered-over over in
-        let long : 1024 < length (r .0) = omega (arith, r .2) in
+        let long : max-states < length (r .0) = omega (arith, r .2) in
         record { found = r .0; distinct = r .1; many = long; reached = r .3 },
     λ m. reached-over (m .found) (m .distinct) (m .reached) (m .many),
   )

@@ -1,38 +1,18 @@
 -- One arc of what is built and the step that it comes from. Assumes nothing.
 use mathlib.Core.Path.{_≡_, refl, sym, ap, subst, _∙_}
-use mathlib.Core.Bool.{Bool, true, _&&_}
-use mathlib.Core.List.{List, _∷_}
+use mathlib.Core.Bool.{Bool}
+use mathlib.Core.List.{List}
 use Prim.Native.Nat.{ℕ, _+_, _≤_, _<_}
 use native.Mathlib.Nat.{zero-add}
-use lib.Dec.{ltb, eqb}
 use lib.ListN.{length, getD}
-use borrow.Author.Tests.{ltb-true, lt-ltb, eqb-true, eq-eqb}
-use Rattle.wire.proofs.Bool.{and-true}
 use Rattle.transducer.specs.declared.Arc.{Arc}
-use Rattle.transducer.specs.Format.{Transducer}
-use Rattle.transducer.specs.Path.{no-arc, arc, runs}
+use Rattle.transducer.specs.Format.{max-states}
+use Rattle.transducer.specs.Path.{no-arc, arc}
 use Rattle.transducer.specs.Weight.{Weight}
 use Rattle.explore.specs.Explore.{Step, Decides, Built, targets, built, place}
 use Rattle.explore.proofs.Member.{At, Mem, at-length, at-getD, getD-at, mem-getD, mem-map, mem-there, place-getD}
 use Rattle.explore.proofs.Numbering.{numbered-closed}
 use Rattle.explore.proofs.Arcs.{arc-of, before, steps-from-at, Placed, placed, arcs-from-at}
-
--- A path that begins with arc j.
-pub record First (t : Transducer) (s j : ℕ) (p : List ℕ) : Type 0 where
-  pub below : j < length (t .arcs)
-  pub leaves : arc t j .source ≡ s
-  pub rest : runs t (arc t j .target) p ≡ true
-
-pub runs-first : (t : Transducer) (s j : ℕ) (p : List ℕ) → runs t s (j ∷ p) ≡ true → First t s j p
-unfolding runs
-runs-first t s j p h =
-    let both = and-true (ltb j (length (t .arcs)) && eqb (arc t j .source) s) (runs t (arc t j .target) p) h in
-    let one = and-true (ltb j (length (t .arcs))) (eqb (arc t j .source) s) (both .0) in
-    record { below = ltb-true j (length (t .arcs)) (one .0); leaves = eqb-true (arc t j .source) s (one .1); rest = both .1 }
-
-pub first-runs : (t : Transducer) (s j : ℕ) (p : List ℕ) → First t s j p → runs t s (j ∷ p) ≡ true
-unfolding runs
-first-runs t s j p f = rw (lt-ltb j (length (t .arcs)) (f .below), eq-eqb (arc t j .source) s (f .leaves), f .rest)
 
 -- Arc j leaves state i by step s, the nth of that state.
 pub record By-step {A O : Type 0} (same : A → A → Bool) (steps : A → List (Step A O)) (first : A) (b : Built A O) (i j nth : ℕ) (s : Step A O) : Type 0 where
@@ -76,7 +56,7 @@ module _ {A O : Type 0} (same : A → A → Bool) (steps : A → List (Step A O)
       let q : r .source ≡ i = ap (λ (a : Arc). a .source) (sym (one .arc-is)) ∙ leaves in
       (r .nth, subst (λ (k : ℕ). By-step same steps first b k j (r .nth) s) q one)
 
-  module _ (right : Decides same) (few : length (b .states) ≤ 1024) where
+  module _ (right : Decides same) (few : length (b .states) ≤ max-states) where
     -- The target of a step has a number.
     pub step-target : (i nth : ℕ) (s : Step A O) → i < length (b .states) → At (steps (getD (b .states) i first)) nth s → Mem (s .target) (b .states)
     unfolding built targets

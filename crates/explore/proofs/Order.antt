@@ -66,7 +66,7 @@ module _ {A : Type 0} (same : A → A → Bool) (next : A → List A) (first : A
       rw b (served-so-far fuel (suc i) ys (omega arith) (so-far-next i xs more e) (omega arith)))
 
   -- Serving all of them in turn meets them, in this order, and no others.
-  pub numbered-met : length (numbered same next first) ≤ 1024
+  pub numbered-met : length (numbered same next first) ≤ max-states
       → numbered same next first ≡ met same (next-from next (numbered same next first)) (first ∷ [])
   unfolding numbered met next-from
   numbered-met few =
@@ -117,7 +117,7 @@ module _ {A : Type 0} {same : A → A → Bool} (right : Decides same) where
       rw e (rw append-assoc at (met-order ys (xs ++ (y ∷ [])) (distinct-snoc right xs y w e) d i j less k)))
 
   -- The state of a lower number is first met before that of a higher one.
-  pub numbered-order : (next : A → List A) (first : A) → length (numbered same next first) ≤ 1024 → (d : A) (i j : ℕ) → i < j
+  pub numbered-order : (next : A → List A) (first : A) → length (numbered same next first) ≤ max-states → (d : A) (i j : ℕ) → i < j
       → j < length (numbered same next first)
       → place same (getD (numbered same next first) i d) (first ∷ next-from next (numbered same next first))
       < place same (getD (numbered same next first) j d) (first ∷ next-from next (numbered same next first))
@@ -129,7 +129,7 @@ module _ {A : Type 0} {same : A → A → Bool} (right : Decides same) where
       (met-order (next-from next xs) (first ∷ []) (refl, tt) d i j less)
 
 -- Each numbered state is met.
-pub numbered-is-met : {A : Type 0} (same : A → A → Bool) (next : A → List A) (first : A) → length (numbered same next first) ≤ 1024 → (x : A)
+pub numbered-is-met : {A : Type 0} (same : A → A → Bool) (next : A → List A) (first : A) → length (numbered same next first) ≤ max-states → (x : A)
     → Mem x (numbered same next first) → Mem x (first ∷ next-from next (numbered same next first))
 numbered-is-met {A} same next first few x m =
     let ys : List A = next-from next (numbered same next first) in
@@ -141,11 +141,11 @@ module _ {A O : Type 0} {same : A → A → Bool} (right : Decides same) (steps 
   b = built same steps final weight first
 
   -- What is met, in order: the first state, then where each arc leads.
-  pub built-is-met : length (b .states) ≤ 1024 → (x : A) → Mem x (b .states) → Mem x (first ∷ targets (b .steps))
+  pub built-is-met : length (b .states) ≤ max-states → (x : A) → Mem x (b .states) → Mem x (first ∷ targets (b .steps))
   unfolding built
   built-is-met few x m = rw (targets-from steps (b .states)) (numbered-is-met same (λ x. targets (steps x)) first few x m)
 
-  pub built-first-met : length (b .states) ≤ 1024 → (d : A) (i j : ℕ) → i < j → j < length (b .states)
+  pub built-first-met : length (b .states) ≤ max-states → (d : A) (i j : ℕ) → i < j → j < length (b .states)
       → place same (getD (b .states) i d) (first ∷ targets (b .steps)) < place same (getD (b .states) j d) (first ∷ targets (b .steps))
   unfolding built
   built-first-met few d i j less l =

@@ -13,7 +13,7 @@ use lib.Seq.{sets, length-sets, take-append-le}
 use mir.Val.{boolByte}
 use borrow.Author.Tests.{ltb-true, ltb-false}
 use Rattle.transducer.specs.declared.Arc.{Arc}
-use Rattle.transducer.specs.Format.{weight-good}
+use Rattle.transducer.specs.Format.{max-arcs, max-states, weight-good}
 use Rattle.transducer.specs.Encode.{arc-record}
 use Rattle.explore.specs.declared.Walk.{Walk}
 use Rattle.explore.specs.Explore.{there, place}
@@ -49,14 +49,14 @@ module _ (xs : List ℕ) (key count number : ℕ) (long : length xs ≡ count) (
 -- What a search leaves that stores a new key where it ends: the key's number, the keys with it, and the walk, of which only the states change.
 pub record Key-kept (key : ℕ) (xs : List ℕ) (number : ℕ) (w w' : Walk) (states heads links : List ℕ) : Type 0 where
   pub number-is : number ≡ place eqb key xs
-  pub small : number < 1024
+  pub small : number < max-states
   pub chained : Chained (with-key key xs) states heads links
   pub counted : w' .states ≡ length (with-key key xs)
   pub rest-stays : w' ≡ record { states = w' .states; arcs = w .arcs; dear = w .dear; full = w .full }
 
-module _ (key : ℕ) {xs : List ℕ} {w w' : Walk} {number : ℕ} {s s' h h' l l' : List ℕ} (long : length xs ≡ w .states) (few : length xs ≤ 1024)
+module _ (key : ℕ) {xs : List ℕ} {w w' : Walk} {number : ℕ} {s s' h h' l l' : List ℕ} (long : length xs ≡ w .states) (few : length xs ≤ max-states)
     (states : s' ≡ s) (heads : h' ≡ h) (links : l' ≡ l) where
-  pub kept-new : place eqb key xs ≡ length xs → (w .states ≡ 1024 → ⊥) → Chained (xs ++ (key ∷ [])) s h l → number ≡ w .states
+  pub kept-new : place eqb key xs ≡ length xs → (w .states ≡ max-states → ⊥) → Chained (xs ++ (key ∷ [])) s h l → number ≡ w .states
       → w' ≡ record { states = w .states + 1; arcs = w .arcs; dear = w .dear; full = w .full } → Key-kept key xs number w w' s' h' l'
   unfolding with-key
   kept-new none room chained is walk =
@@ -110,27 +110,27 @@ module _ (as' : List Arc) (dear : Bool) (w w' : Walk) (table : List ℕ) (a : Ar
   more-dear : w' .dear ≡ bitOr (w .dear) (boolByte (not light)) → w' .dear ≡ flag (dear || not light)
   more-dear e = e ∙ ap (λ (d : ℕ). bitOr d (boolByte (not light))) (held .dear-is) ∙ or-flag dear (not light)
 
-  pub arcs-held-next : (table' : List ℕ) → w .arcs < 3072 → w' .arcs ≡ w .arcs + 1 → w' .dear ≡ bitOr (w .dear) (boolByte (not light))
-      → table' ≡ sets table (10252 + 16 * w .arcs) (arc-record a)
+  pub arcs-held-next : (table' : List ℕ) → w .arcs < max-arcs → w' .arcs ≡ w .arcs + 1 → w' .dear ≡ bitOr (w .dear) (boolByte (not light))
+      → table' ≡ sets table (16 * w .arcs) (arc-record a)
       → Arcs-held (as' ++ (a ∷ [])) (dear || not light) w' table'
   arcs-held-next table' less counts dears t =
       let long : length as' ≡ w .arcs = omega (arith, held .arcs-are) in
       record {
         arcs-are = omega (arith, length-append as' (a ∷ []));
         dear-is = more-dear dears;
-        table-long = rw (t, length-sets table (10252 + 16 * w .arcs) (arc-record a)) (held .table-long);
-        written = rw t (written-next 10252 (w .arcs) as' a table long less (held .table-long) (held .written));
+        table-long = rw (t, length-sets table (16 * w .arcs) (arc-record a)) (held .table-long);
+        written = rw t (written-next (w .arcs) as' a table long less (held .table-long) (held .written));
       }
 
-  pub arcs-held-full : 3072 ≤ w .arcs → w' .arcs ≡ 3073 → w' .dear ≡ bitOr (w .dear) (boolByte (not light))
+  pub arcs-held-full : max-arcs ≤ w .arcs → w' .arcs ≡ max-arcs + 1 → w' .dear ≡ bitOr (w .dear) (boolByte (not light))
       → Arcs-held (as' ++ (a ∷ [])) (dear || not light) w' table
   arcs-held-full full counts dears =
-      let long : 3072 ≤ length as' = omega (arith, held .arcs-are) in
+      let long : max-arcs ≤ length as' = omega (arith, held .arcs-are) in
       record {
         arcs-are = omega (arith, length-append as' (a ∷ []));
         dear-is = more-dear dears;
         table-long = held .table-long;
-        written = written-full 10252 as' a table long (held .written);
+        written = written-full as' a table long (held .written);
       }
 
 -- Its origins written
@@ -139,12 +139,12 @@ module _ (width count : ℕ) (os vs origins : List ℕ) (held : Origins-held wid
   paired-next : length (os ++ vs) ≡ width * suc count
   paired-next = length-append os vs ∙ (rw (held .paired, wide, mul-suc width count))
 
-  pub origins-held-next : count < 3072 → Origins-held width (suc count) (os ++ vs) (sets origins (width * count) vs)
+  pub origins-held-next : count < max-arcs → Origins-held width (suc count) (os ++ vs) (sets origins (width * count) vs)
   origins-held-next less =
-      let n : min count 3072 ≡ count = omega arith in
-      let n' : min (suc count) 3072 ≡ suc count = omega arith in
+      let n : min count max-arcs ≡ count = omega arith in
+      let n' : min (suc count) max-arcs ≡ suc count = omega arith in
       let e : width * suc count ≡ width * count + length vs = mul-suc width count ∙ ap (λ (k : ℕ). width * count + k) (sym wide) in
-      let inside : width * suc count ≤ width * 3072 = mul-le-mul-left width less in
+      let inside : width * suc count ≤ width * max-arcs = mul-le-mul-left width less in
       let room : width * count + length vs ≤ length origins = omega (arith, held .origins-long) in
       record {
         origins-long = rw (length-sets origins (width * count) vs) (held .origins-long);
@@ -152,16 +152,16 @@ module _ (width count : ℕ) (os vs origins : List ℕ) (held : Origins-held wid
         traced = rw (n', e) (front-next os origins (width * count) vs (held .paired) room (rw n at (held .traced)));
       }
 
-  pub origins-held-full : 3072 ≤ count → Origins-held width (suc count) (os ++ vs) origins
+  pub origins-held-full : max-arcs ≤ count → Origins-held width (suc count) (os ++ vs) origins
   origins-held-full full =
-      let n : min count 3072 ≡ 3072 = omega arith in
-      let n' : min (suc count) 3072 ≡ 3072 = omega arith in
-      let inside : width * 3072 ≤ width * count = mul-le-mul-left width full in
-      let short : width * 3072 ≤ length os = omega (arith, held .paired) in
+      let n : min count max-arcs ≡ max-arcs = omega arith in
+      let n' : min (suc count) max-arcs ≡ max-arcs = omega arith in
+      let inside : width * max-arcs ≤ width * count = mul-le-mul-left width full in
+      let short : width * max-arcs ≤ length os = omega (arith, held .paired) in
       record {
         origins-long = held .origins-long;
         paired = paired-next;
-        traced = rw (n', take-append-le (width * 3072) os vs short) (rw n at (held .traced));
+        traced = rw (n', take-append-le (width * max-arcs) os vs short) (rw n at (held .traced));
       }
 
 -- An arc and its origins recorded, the origins where there is room for the arc.
@@ -177,9 +177,9 @@ recorded-more width as' os vs dear w w' table table' origins origins' a held rec
 
     both : Origins-held width (suc (length as')) (os ++ vs) (traced-by width (w .arcs) vs origins)
     both =
-        by-test (ltb (w .arcs) 3072)
-        (λ e. let l : w .arcs < 3072 = ltb-true (w .arcs) 3072 e in
+        by-test (ltb (w .arcs) max-arcs)
+        (λ e. let l : w .arcs < max-arcs = ltb-true (w .arcs) max-arcs e in
         let same : w .arcs ≡ length as' = omega (arith, held .arcs-held .arcs-are) in
         rw (e, same) (origins-held-next width (length as') os vs origins (held .origins-held) wide (omega arith)))
-        (λ e. let l : 3072 ≤ w .arcs = ltb-false (w .arcs) 3072 e in
+        (λ e. let l : max-arcs ≤ w .arcs = ltb-false (w .arcs) max-arcs e in
         rw e (origins-held-full width (length as') os vs origins (held .origins-held) wide (omega (arith, held .arcs-held .arcs-are))))

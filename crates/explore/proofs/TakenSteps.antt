@@ -1,5 +1,4 @@
--- Laws of `taken`, `all-taken` and `served-from`: what is built only grows, no key stands twice, and one state is served after the other.
--- Assumes nothing.
+-- Laws of `taken`, `all-taken` and `served-from`: what is built only grows, and one state is served after the other. Assumes nothing.
 use mathlib.Core.Path.{_≡_, refl, sym, ap, _∙_}
 use mathlib.Core.Bool.{Bool, true, false, _||_, not}
 use mathlib.Core.List.{List, [], _∷_, _++_, map}
@@ -7,19 +6,17 @@ use Prim.Native.Nat.{ℕ, zero, suc, _+_, _*_, _-_, _≤_, _<_}
 use native.Mathlib.Nat.{add-zero, mul-suc}
 use native.Mathlib.Omega.{arith}
 use lib.Dec.{leb, eqb}
-use lib.ListN.{length, getD, take, length-append}
+use lib.ListN.{length, getD, length-append}
 use borrow.Author.Tests.{le-leb, lt-leb, eq-eqb}
 use Rattle.wire.specs.Bytes.{every}
 use Rattle.wire.proofs.Bool.{by-test}
 use Rattle.transducer.specs.declared.Arc.{Arc}
-use Rattle.transducer.specs.Format.{weight-good}
+use Rattle.transducer.specs.Format.{max-states, weight-good}
 use Rattle.explore.specs.Explore.{there, place, met}
-use Rattle.explore.specs.Chain.{Once}
 use Rattle.explore.specs.Walk.{Keyed, Sofar, with-key, taken, all-taken, state-served, served-from, begun, explored}
 use Rattle.wire.proofs.Places.{not-every-snoc}
 use Rattle.explore.proofs.Member.{Mem, mem-here, mem-later, not-there-place, place-right}
-use Rattle.explore.proofs.Meeting.{Grows, grows-same, grows-append, grows-trans, grows-length, grows-take, met-grows, met-distinct}
-use Rattle.explore.proofs.Chain.{eqb-decides, once-distinct, distinct-once}
+use Rattle.explore.proofs.Meeting.{Grows, grows-same, grows-trans, grows-length, met-grows}
 
 -- One step
 
@@ -91,37 +88,23 @@ taken-keys source (s ∷ ss) b = taken-keys source ss (taken source s b)
 pub keys-grow : (source : ℕ) (ss : List Keyed) (b : Sofar) → Grows (b .keys) (all-taken source ss b .keys)
 keys-grow source ss b = rw (taken-keys source ss b) (met-grows eqb (map (λ s. s .target) ss) (b .keys))
 
-pub keys-take : (source : ℕ) (ss : List Keyed) (b : Sofar) → take (length (b .keys)) (all-taken source ss b .keys) ≡ b .keys
-keys-take source ss b = grows-take (keys-grow source ss b)
-
 pub keys-length : (source : ℕ) (ss : List Keyed) (b : Sofar) → length (b .keys) ≤ length (all-taken source ss b .keys)
 keys-length source ss b = grows-length (keys-grow source ss b)
 
-pub keys-over : (source : ℕ) (ss : List Keyed) (b : Sofar) → 1024 < length (b .keys) → 1024 < length (all-taken source ss b .keys)
+pub keys-over : (source : ℕ) (ss : List Keyed) (b : Sofar) → max-states < length (b .keys) → max-states < length (all-taken source ss b .keys)
 keys-over source ss b over = omega (arith, keys-length source ss b)
 
 -- More than 1,024 keys once some of the steps are taken: more than 1,024 once all are.
-pub part-over : (source : ℕ) (ss ts : List Keyed) (b : Sofar) → 1024 < length (all-taken source ss b .keys)
-    → 1024 < length (all-taken source (ss ++ ts) b .keys)
+pub part-over : (source : ℕ) (ss ts : List Keyed) (b : Sofar) → max-states < length (all-taken source ss b .keys)
+    → max-states < length (all-taken source (ss ++ ts) b .keys)
 part-over source ss ts b over = rw (all-taken-append source ss ts b) (keys-over source ts (all-taken source ss b) over)
 
 -- A new key where 1,024 stand already.
-pub new-over : (source : ℕ) (s : Keyed) (ss : List Keyed) (b : Sofar) → 1024 ≤ length (b .keys) → there eqb (s .target) (b .keys) ≡ false
-    → 1024 < length (all-taken source (s ∷ ss) b .keys)
+pub new-over : (source : ℕ) (s : Keyed) (ss : List Keyed) (b : Sofar) → max-states ≤ length (b .keys) → there eqb (s .target) (b .keys) ≡ false
+    → max-states < length (all-taken source (s ∷ ss) b .keys)
 unfolding all-taken
 new-over source s ss b full new =
     keys-over source ss (taken source s b) (rw (taken-new source s b new, length-append (b .keys) (s .target ∷ [])) (omega arith))
-
-pub keys-once : (source : ℕ) (ss : List Keyed) (b : Sofar) → Once (b .keys) → Once (all-taken source ss b .keys)
-keys-once source ss b once =
-    rw (taken-keys source ss b)
-    (distinct-once (met eqb (map (λ s. s .target) ss) (b .keys))
-    (met-distinct eqb-decides (map (λ s. s .target) ss) (b .keys) (once-distinct (b .keys) once)))
-
-pub length-arcs : (source : ℕ) (ss : List Keyed) (b : Sofar) → length (all-taken source ss b .arcs) ≡ length (b .arcs) + length ss
-unfolding all-taken taken
-length-arcs source [] b = omega arith
-length-arcs source (s ∷ ss) b = length-arcs source ss (taken source s b) ∙ (rw length-append (omega arith))
 
 -- Each step has `width` origins.
 abbrev pub Wide : (width : ℕ) → List Keyed → Type 0
@@ -134,19 +117,6 @@ length-origins width source [] b wide = omega arith
 length-origins width source (s ∷ ss) b wide =
     length-origins width source ss (taken source s b) (λ r m. wide r (mem-later s m))
     ∙ (rw (length-append (b .origins) (s .origins), wide s (mem-here s ss), mul-suc width (length ss)) (omega arith))
-
-pub arcs-grow : (source : ℕ) (ss : List Keyed) (b : Sofar) → Grows (b .arcs) (all-taken source ss b .arcs)
-unfolding all-taken taken
-arcs-grow source [] b = grows-same (b .arcs)
-arcs-grow source (s ∷ ss) b =
-    grows-trans (grows-append (b .arcs) (arc-of-keyed source s (place eqb (s .target) (taken source s b .keys)) ∷ []))
-    (arcs-grow source ss (taken source s b))
-
-pub origins-grow : (source : ℕ) (ss : List Keyed) (b : Sofar) → Grows (b .origins) (all-taken source ss b .origins)
-unfolding all-taken taken
-origins-grow source [] b = grows-same (b .origins)
-origins-grow source (s ∷ ss) b =
-    grows-trans (grows-append (b .origins) (s .origins)) (origins-grow source ss (taken source s b))
 
 -- A weight is out of range exactly where that of some arc is.
 
@@ -166,10 +136,6 @@ taken-dear source (s ∷ ss) b h = taken-dear source ss (taken source s b) one
         ap (λ (d : Bool). d || not (weight-good (s .weight))) h ∙ not-every-snoc (λ a. weight-good (a .weight)) (b .arcs) a
 
 -- The beginning
-
-pub begun-once : (first : ℕ) → Once (begun first .keys)
-unfolding begun there
-begun-once first = distinct-once (first ∷ []) (refl, tt)
 
 pub begun-dear : (first : ℕ) → Dear-right (begun first)
 unfolding begun every
@@ -198,48 +164,37 @@ module _ (next : ℕ → List Keyed) where
 
   -- What is there in the end, where the states of the numbers below i are served and b is built so far.
   unfoldable pub served-on : (i : ℕ) → Sofar → Sofar
-  served-on i b = served-from next (1025 - i) i b
+  served-on i b = served-from next (suc max-states - i) i b
 
   pub explored-on : (first : ℕ) → explored next first ≡ served-on 0 (begun first)
   unfolding explored served-on
   explored-on first = refl
 
-  pub served-on-step : (i : ℕ) (b : Sofar) → i < length (b .keys) → i ≤ 1024 → served-on i b ≡ served-on (suc i) (state-served next i b)
+  pub served-on-step : (i : ℕ) (b : Sofar) → i < length (b .keys) → i ≤ max-states → served-on i b ≡ served-on (suc i) (state-served next i b)
   unfolding served-on
   served-on-step i b l small =
-      let e : 1025 - i ≡ suc (1025 - suc i) = omega arith in
-      rw e (served-from-step (1025 - suc i) i b l)
+      let e : suc max-states - i ≡ suc (suc max-states - suc i) = omega arith in
+      rw e (served-from-step (suc max-states - suc i) i b l)
 
   pub served-on-rest : (i : ℕ) (b : Sofar) → length (b .keys) ≤ i → served-on i b ≡ b
   unfolding served-on
-  served-on-rest i b l = served-from-rest (1025 - i) i b l
+  served-on-rest i b l = served-from-rest (suc max-states - i) i b l
 
   pub served-on-grows : (i : ℕ) (b : Sofar) → Grows (b .keys) (served-on i b .keys)
   unfolding served-on state-served
   served-on-grows i b =
       served-keeps (λ c. Grows (b .keys) (c .keys))
-      (λ k c g. grows-trans g (keys-grow k (next (getD (c .keys) k 0)) c)) (1025 - i) i b (grows-same (b .keys))
-
-  pub served-on-once : (i : ℕ) (b : Sofar) → Once (b .keys) → Once (served-on i b .keys)
-  unfolding served-on state-served
-  served-on-once i b once =
-      served-keeps (λ c. Once (c .keys)) (λ k c o. keys-once k (next (getD (c .keys) k 0)) c o) (1025 - i) i b once
+      (λ k c g. grows-trans g (keys-grow k (next (getD (c .keys) k 0)) c)) (suc max-states - i) i b (grows-same (b .keys))
 
   pub served-on-dear : (i : ℕ) (b : Sofar) → Dear-right b → Dear-right (served-on i b)
   unfolding served-on state-served
   served-on-dear i b right =
-      served-keeps (λ c. Dear-right c) (λ k c r. taken-dear k (next (getD (c .keys) k 0)) c r) (1025 - i) i b right
+      served-keeps (λ c. Dear-right c) (λ k c r. taken-dear k (next (getD (c .keys) k 0)) c r) (suc max-states - i) i b right
 
   -- More than 1,024 keys now, or once some steps of the state served are taken: more than 1,024 in the end.
-  pub served-on-over : (i : ℕ) (b : Sofar) → 1024 < length (b .keys) → 1024 < length (served-on i b .keys)
+  pub served-on-over : (i : ℕ) (b : Sofar) → max-states < length (b .keys) → max-states < length (served-on i b .keys)
   served-on-over i b over = omega (arith, grows-length (served-on-grows i b))
 
-  pub served-on-state : (i : ℕ) (b : Sofar) → i < length (b .keys) → i ≤ 1024 → 1024 < length (state-served next i b .keys)
-      → 1024 < length (served-on i b .keys)
+  pub served-on-state : (i : ℕ) (b : Sofar) → i < length (b .keys) → i ≤ max-states → max-states < length (state-served next i b .keys)
+      → max-states < length (served-on i b .keys)
   served-on-state i b l small over = rw (served-on-step i b l small) (served-on-over (suc i) (state-served next i b) over)
-
-  pub served-on-part : (i : ℕ) (b : Sofar) (ss ts : List Keyed) → i < length (b .keys) → i ≤ 1024
-      → next (getD (b .keys) i 0) ≡ ss ++ ts → 1024 < length (all-taken i ss b .keys)
-      → 1024 < length (served-on i b .keys)
-  unfolding state-served
-  served-on-part i b ss ts l small e over = served-on-state i b l small (rw e (part-over i ss ts b over))

@@ -5,14 +5,16 @@ use mathlib.Core.List.{List, [], _∷_, map, head-eq-of-cons-eq, tail-eq-of-cons
 use Prim.Native.Nat.{ℕ, _+_, _≤_, _<_}
 use native.Mathlib.Omega.{arith}
 use lib.ListN.{length, getD}
+use Rattle.transducer.specs.Format.{max-states}
 use Rattle.transducer.specs.declared.Arc.{Arc}
 use Rattle.transducer.specs.Path.{arc, runs, ends, non-empty, read-by, written-by, arcs-cost}
 use Rattle.transducer.specs.Weight.{no-weight, plus, Weight}
+use Rattle.transducer.proofs.Paths.{Runs, runs-cons, cons-runs}
 use Rattle.explore.specs.Explore.{Step, Decides, Built, built}
 use Rattle.explore.proofs.Member.{At, Mem, at-getD, getD-at}
 use Rattle.explore.proofs.Arcs.{before}
 use Rattle.explore.proofs.Parts.{length-steps}
-use Rattle.explore.proofs.OneArc.{First, runs-first, first-runs, By-step, step-arc, arc-step, arc-lands}
+use Rattle.explore.proofs.OneArc.{By-step, step-arc, arc-step, arc-lands}
 
 -- The steps of ss lead from x to y.
 abbrev pub Trail : {A O : Type 0} → (steps : A → List (Step A O)) → (x : A) → (ss : List (Step A O)) → (y : A) → Type 0
@@ -40,17 +42,12 @@ along b d p = map (λ j. getD (b .steps) j d) p
 abbrev pub Once : {A O : Type 0} → (steps : A → List (Step A O)) → Type 0
 Once {A} {O} steps = (x : A) (k l : ℕ) (s : Step A O) → At (steps x) k s → At (steps x) l s → k ≡ l
 
--- A trail has one end.
-pub trail-end : {A O : Type 0} (steps : A → List (Step A O)) (x : A) (ss : List (Step A O)) (y z : A) → Trail steps x ss y → Trail steps x ss z → y ≡ z
-trail-end steps x [] y z t u = sym t ∙ u
-trail-end steps x (s ∷ ss) y z t u = trail-end steps (s .target) ss y z (t .1) (u .1)
-
 module _ {A O : Type 0} (same : A → A → Bool) (steps : A → List (Step A O)) (final : A → Bool) (weight : A → Weight) (first : A) (d : Step A O) where
   abbrev b : Built A O
   b = built same steps final weight first
 
   -- The first arc of a path, by its step.
-  first-step : (i j : ℕ) (p : List ℕ) → First (b .result) i j p → (nth : ℕ) × By-step same steps first b i j nth (getD (b .steps) j d)
+  first-step : (i j : ℕ) (p : List ℕ) → Runs (b .result) i j p → (nth : ℕ) × By-step same steps first b i j nth (getD (b .steps) j d)
   first-step i j p f =
       arc-step same steps final weight first i j (getD (b .steps) j d) (f .leaves)
       (getD-at (b .steps) j d (omega (arith, f .below, length-steps same steps final weight first)))
@@ -60,7 +57,7 @@ module _ {A O : Type 0} (same : A → A → Bool) (steps : A → List (Step A O)
   unfolding read-by inputs
   read-along i [] h = refl
   read-along i (j ∷ p) h =
-      let f = runs-first (b .result) i j p h in
+      let f = runs-cons (b .result) i j p h in
       let e : arc (b .result) j .input ≡ getD (b .steps) j d .input = ap (λ (a : Arc). a .input) (first-step i j p f .1 .arc-is) in
       rw (e, read-along (arc (b .result) j .target) p (f .rest))
 
@@ -68,7 +65,7 @@ module _ {A O : Type 0} (same : A → A → Bool) (steps : A → List (Step A O)
   unfolding written-by outputs
   written-along i [] h = refl
   written-along i (j ∷ p) h =
-      let f = runs-first (b .result) i j p h in
+      let f = runs-cons (b .result) i j p h in
       let e : arc (b .result) j .output ≡ getD (b .steps) j d .output = ap (λ (a : Arc). a .output) (first-step i j p f .1 .arc-is) in
       rw (e, written-along (arc (b .result) j .target) p (f .rest))
 
@@ -76,7 +73,7 @@ module _ {A O : Type 0} (same : A → A → Bool) (steps : A → List (Step A O)
   unfolding arcs-cost weights
   cost-along i [] h = refl
   cost-along i (j ∷ p) h =
-      let f = runs-first (b .result) i j p h in
+      let f = runs-cons (b .result) i j p h in
       let e : arc (b .result) j .weight ≡ getD (b .steps) j d .weight = ap (λ (a : Arc). a .weight) (first-step i j p f .1 .arc-is) in
       rw (e, cost-along (arc (b .result) j .target) p (f .rest))
 
@@ -87,8 +84,8 @@ module _ {A O : Type 0} (same : A → A → Bool) (steps : A → List (Step A O)
   along-once once i [] (j ∷ q) h k e = absurd (nil≢cons e)
   along-once once i (j ∷ p) [] h k e = absurd (cons≢nil e)
   along-once once i (j ∷ p) (l ∷ q) h k e =
-      let f = runs-first (b .result) i j p h in
-      let g = runs-first (b .result) i l q k in
+      let f = runs-cons (b .result) i j p h in
+      let g = runs-cons (b .result) i l q k in
       let s : Step A O = getD (b .steps) j d in
       let head : getD (b .steps) l d ≡ s = sym (head-eq-of-cons-eq e) in
       let r = first-step i j p f in
@@ -98,13 +95,13 @@ module _ {A O : Type 0} (same : A → A → Bool) (steps : A → List (Step A O)
       let same-arc : j ≡ l = r .1 .number ∙ ap (λ (n : ℕ). before steps (b .states) i + n) nth ∙ sym (u .1 .number) in
       rw (same-arc, along-once once (arc (b .result) j .target) p q (f .rest) (rw same-arc (g .rest)) (tail-eq-of-cons-eq e))
 
-  module _ (right : Decides same) (few : length (b .states) ≤ 1024) where
+  module _ (right : Decides same) (few : length (b .states) ≤ max-states) where
     pub path-trail : (i : ℕ) (p : List ℕ) → i < length (b .states) → runs (b .result) i p ≡ true → (ends (b .result) i p < length (b .states))
         × Trail steps (getD (b .states) i first) (along b d p) (getD (b .states) (ends (b .result) i p) first)
     unfolding ends
     path-trail i [] l h = (l, refl)
     path-trail i (j ∷ p) l h =
-        let f = runs-first (b .result) i j p h in
+        let f = runs-cons (b .result) i j p h in
         let r = first-step i j p f in
         let lands = arc-lands same steps final weight first right few i j (r .0) (getD (b .steps) j d) l (r .1) in
         let more = path-trail (arc (b .result) j .target) p (lands .0) (f .rest) in
@@ -123,7 +120,7 @@ module _ {A O : Type 0} (same : A → A → Bool) (steps : A → List (Step A O)
         let leaves : arc (b .result) j .source ≡ i = ap (λ (a : Arc). a .source) (r .arc-is) in
         let step : getD (b .steps) j d ≡ s = at-getD (b .steps) j s d (r .step-is) in (
           j ∷ more .0,
-          first-runs (b .result) i j (more .0) (record { below = r .below; leaves = leaves; rest = more .1 }),
+          cons-runs (b .result) i j (more .0) (record { below = r .below; leaves = leaves; rest = more .1 }),
           rw (step, more .2),
           more .3,
         )

@@ -9,15 +9,14 @@ use lib.ListN.{length, getD, take, drop, length-append}
 use lib.Seq.{sets, take-all, getD-take}
 use Rattle.wire.specs.Bytes.{every, filled, cleared}
 use Rattle.transducer.specs.declared.Arc.{Arc}
-use Rattle.transducer.specs.Format.{Transducer, weight-good}
+use Rattle.transducer.specs.Format.{arcs-at, max-arcs, max-states, Transducer, weight-good}
 use Rattle.transducer.specs.Encode.{head-record, final-records, arc-records, encode}
 use Rattle.transducer.proofs.Encode.{length-final-records, length-encode, cleared-sets}
 use Rattle.transducer.specs.Weight.{Weight}
 use Rattle.explore.specs.declared.Walk.{Walk}
 use Rattle.explore.specs.Explore.{Step, Built, built, built-refusal, finals-from}
-use Rattle.explore.specs.Walk.{Keyed, all-origins, explored, flag, Told, stored-arcs}
-use Rattle.explore.proofs.ArcsFit.{Weighing, built-fits}
-use Rattle.explore.proofs.Built.{Labelled, over-11}
+use Rattle.explore.specs.Walk.{Keyed, all-origins, explored, flag, Walk-told}
+use Rattle.explore.proofs.Built.{over-11}
 use Rattle.explore.proofs.EncodeStored.{encode-stored, filled-front}
 use Rattle.explore.proofs.ExploredKeys.{
   Keying,
@@ -31,7 +30,7 @@ use Rattle.explore.proofs.ExploredKeys.{
 }
 use Rattle.explore.proofs.LeftBehind.{dear-arcs, dear-finals, none-dear, built-12, built-13, built-0}
 use Rattle.explore.proofs.Member.{Mem, mem-here, mem-later}
-use Rattle.explore.proofs.MovedArcs.{drop-sets-before, stored-arcs-are}
+use Rattle.explore.proofs.MovedArcs.{drop-sets-before}
 use Rattle.explore.proofs.Parts.{built-start, built-states, length-steps, length-finals}
 use Rattle.explore.proofs.Recording.{flag-true, flag-false}
 use Rattle.explore.proofs.Walking.{Key-of}
@@ -69,26 +68,26 @@ module _ {A O : Type 0} {same : A → A → Bool} {steps : A → List (Step A O)
   z-states : z .states ≡ length (made .states)
   z-states = built-states same steps final weight first
 
-  pub told-11 : 1024 < length (explored next (pack first) .keys) → built-refusal z ≡ 11
+  pub told-11 : max-states < length (explored next (pack first) .keys) → built-refusal z ≡ 11
   told-11 over = over-11 z .1 (omega (arith, explored-length k final weight, z-states))
 
-  module _ {width : ℕ} {w : Walk} {table origins states : List ℕ} (told : Told width (explored next (pack first)) w table origins states) where
-    pub told-few : length (made .states) ≤ 1024
+  module _ {width : ℕ} {w : Walk} {table origins states : List ℕ} (told : Walk-told width (explored next (pack first)) w table origins states) where
+    pub told-few : length (made .states) ≤ max-states
     told-few = omega (arith, explored-length k final weight, told .few)
 
-    few-states : z .states ≤ 1024
+    few-states : z .states ≤ max-states
     few-states = omega (arith, z-states, told-few)
 
     pub told-states : w .states ≡ z .states
     told-states = told .states-are ∙ explored-length k final weight ∙ sym z-states
 
-    pub told-arcs : w .arcs ≡ min (length (z .arcs)) 3073
-    told-arcs = told .recorded .arcs-held .arcs-are ∙ ap (λ (as' : List Arc). min (length as') 3073) (explored-arcs k final weight told-few)
+    pub told-arcs : w .arcs ≡ min (length (z .arcs)) (max-arcs + 1)
+    told-arcs = told .recorded .arcs-held .arcs-are ∙ ap (λ (as' : List Arc). min (length as') (max-arcs + 1)) (explored-arcs k final weight told-few)
 
     pub told-dear : w .dear ≡ flag (not (every (λ a. weight-good (a .weight)) (z .arcs)))
     told-dear = told .recorded .arcs-held .dear-is ∙ ap flag (explored-dear k final weight told-few)
 
-    pub told-finals : length (z .finals) ≤ 1024
+    pub told-finals : length (z .finals) ≤ max-states
     told-finals = omega (arith, length-finals same steps final weight first, told-few)
 
     -- The keys that stand in the buffer of states.
@@ -119,10 +118,10 @@ module _ {A O : Type 0} {same : A → A → Bool} {steps : A → List (Step A O)
         ∙ finals-from-keys pack final final' weight weight' 0 (made .states)
         (λ x m. f-is x (explored-mirrors k final weight .within x m)) (λ x m e. w-is x (explored-mirrors k final weight .within x m) e)
 
-    pub told-12 : 3072 < w .arcs → built-refusal z ≡ 12
+    pub told-12 : max-arcs < w .arcs → built-refusal z ≡ 12
     told-12 over = built-12 z few-states (omega (arith, told-arcs))
 
-    module _ (few-arcs : w .arcs ≤ 3072) where
+    module _ (few-arcs : w .arcs ≤ max-arcs) where
       pub arcs-long : length (z .arcs) ≡ w .arcs
       arcs-long = omega (arith, told-arcs)
 
@@ -135,44 +134,47 @@ module _ {A O : Type 0} {same : A → A → Bool} {steps : A → List (Step A O)
       pub told-0 : w .dear ≡ 0 → not (every (λ f. weight-good (f .weight)) (z .finals)) ≡ false → built-refusal z ≡ 0
       told-0 cheap light = built-0 z few-states (omega (arith, arcs-long)) (none-dear z (flag-false _ (sym told-dear ∙ cheap)) light)
 
-      -- The arcs stand where they were written, once the finals are stored in front of them.
-      pub arcs-stored : Labelled steps → Weighing steps → (t1 : List ℕ) → t1 ≡ sets table 12 (final-records (z .finals))
-          → stored-arcs t1 (w .arcs) ≡ z .arcs
-      arcs-stored labelled light t1 finals =
-          let behind : drop 10252 t1 ≡ drop 10252 table =
-          ap (λ (l : List ℕ). drop 10252 l) finals
-          ∙ drop-sets-before 10252 table 12 (final-records (z .finals)) (omega (arith, length-final-records (z .finals), told-finals)) in
+      -- What stands at the front of the buffer for arcs.
+      pub arcs-there : take (16 * w .arcs) table ≡ arc-records (z .arcs)
+      arcs-there =
           let is : explored next (pack first) .arcs ≡ z .arcs = explored-arcs k final weight told-few in
-          let m : 16 * min (length (explored next (pack first) .arcs)) 3072 ≡ 16 * w .arcs = omega (arith, ap length is, arcs-long) in
-          let stands : take (16 * w .arcs) (drop 10252 t1) ≡ arc-records (z .arcs) =
-          ap (λ (l : List ℕ). take (16 * w .arcs) l) behind
-          ∙ ap (λ (n : ℕ). take n (drop 10252 table)) (sym m)
+          let m : 16 * min (length (explored next (pack first) .arcs)) max-arcs ≡ 16 * w .arcs = omega (arith, ap length is, arcs-long) in
+          ap (λ (n : ℕ). take n table) (sym m)
           ∙ told .recorded .arcs-held .written
-          ∙ ap (λ (as' : List Arc). arc-records (take 3072 as')) is
-          ∙ ap arc-records (take-all 3072 (z .arcs) (omega (arith, arcs-long))) in
-          stored-arcs-are t1 (w .arcs) (z .arcs) arcs-long stands
-          (λ i d l. built-fits same steps final weight first (k .decides) told-few labelled light i d l)
+          ∙ ap (λ (as' : List Arc). arc-records (take max-arcs as')) is
+          ∙ ap arc-records (take-all max-arcs (z .arcs) (omega (arith, arcs-long)))
 
-      pub length-written : (f : ℕ) → f ≡ length (z .finals) → length (encode z) ≡ 12 + 10 * f + 16 * w .arcs
+      pub length-written : (f : ℕ) → f ≡ length (z .finals) → length (encode z) ≡ arcs-at f + 16 * w .arcs
       length-written f is = length-encode z ∙ omega (arith, is, arcs-long)
 
-      -- The finals, the arcs moved behind them, the head and zeros behind are the transducer's bytes.
-      pub table-written : Labelled steps → Weighing steps → (f : ℕ) (t1 t2 t3 t4 : List ℕ) → f ≡ length (z .finals)
-          → 12 + 10 * f + 16 * w .arcs ≤ length table → t1 ≡ sets table 12 (final-records (z .finals))
-          → t2 ≡ sets t1 (12 + 10 * f) (arc-records (stored-arcs t1 (w .arcs)))
-          → t3 ≡ sets t2 0 (head-record (w .states) (w .arcs) f 0)
-          → t4 ≡ cleared (12 + 10 * f + 16 * w .arcs) t3
-          → t4 ≡ filled (length table) (encode z)
-      table-written labelled light f t1 t2 t3 t4 f-is room finals moved headed clear =
-          let wa : w .arcs ≡ length (z .arcs) = sym arcs-long in
-          let arcs' : t2 ≡ sets t1 (12 + 10 * length (z .finals)) (arc-records (z .arcs)) =
-          moved
-          ∙ ap (λ (n : ℕ). sets t1 (12 + 10 * n) (arc-records (stored-arcs t1 (w .arcs)))) f-is
-          ∙ ap (λ (as' : List Arc). sets t1 (12 + 10 * length (z .finals)) (arc-records as')) (arcs-stored labelled light t1 finals) in
-          let head' : t3 ≡ sets t2 0 (head-record (z .states) (length (z .arcs)) (length (z .finals)) (z .start)) =
-          headed ∙ (rw (told-states, wa, f-is, built-start same steps final weight first)) in
-          cleared-sets (encode z) table (12 + 10 * f + 16 * w .arcs) (length-written f f-is) room
-          (encode-stored z table (omega (arith, f-is, wa)) finals arcs' head') clear
+      -- That buffer is the part from a place on of one that the finals are stored in, in front of it.
+      module _ (whole : List ℕ) (from : ℕ) (lent : drop from whole ≡ table) (room : arcs-at (length (z .finals)) ≤ from) where
+        -- The arcs stand where they were written.
+        pub arcs-stand : (t1 : List ℕ) → t1 ≡ sets whole 12 (final-records (z .finals)) → take (16 * w .arcs) (drop from t1) ≡ arc-records (z .arcs)
+        arcs-stand t1 finals =
+            let behind : drop from t1 ≡ table =
+            ap (λ (l : List ℕ). drop from l) finals
+            ∙ drop-sets-before from whole 12 (final-records (z .finals)) (omega (arith, length-final-records (z .finals)))
+            ∙ lent in
+            ap (λ (l : List ℕ). take (16 * w .arcs) l) behind ∙ arcs-there
+
+        -- The finals, the arcs moved behind them, the head and zeros behind are the transducer's bytes.
+        pub table-written : (f : ℕ) (t1 t2 t3 t4 : List ℕ) → f ≡ length (z .finals)
+            → arcs-at f + 16 * w .arcs ≤ length whole → t1 ≡ sets whole 12 (final-records (z .finals))
+            → t2 ≡ sets t1 (arcs-at f) (take (16 * w .arcs) (drop from t1))
+            → t3 ≡ sets t2 0 (head-record (w .states) (w .arcs) f 0)
+            → t4 ≡ cleared (arcs-at f + 16 * w .arcs) t3
+            → t4 ≡ filled (length whole) (encode z)
+        table-written f t1 t2 t3 t4 f-is fits finals moved headed clear =
+            let wa : w .arcs ≡ length (z .arcs) = sym arcs-long in
+            let arcs' : t2 ≡ sets t1 (arcs-at (length (z .finals))) (arc-records (z .arcs)) =
+            moved
+            ∙ ap (λ (n : ℕ). sets t1 (arcs-at n) (take (16 * w .arcs) (drop from t1))) f-is
+            ∙ ap (λ (l : List ℕ). sets t1 (arcs-at (length (z .finals))) l) (arcs-stand t1 finals) in
+            let head' : t3 ≡ sets t2 0 (head-record (z .states) (length (z .arcs)) (length (z .finals)) (z .start)) =
+            headed ∙ (rw (told-states, wa, f-is, built-start same steps final weight first)) in
+            cleared-sets (encode z) whole (arcs-at f + 16 * w .arcs) (length-written f f-is) fits
+            (encode-stored z whole (omega (arith, f-is, wa)) finals arcs' head') clear
 
       -- The origins of the arcs, with zeros behind.
       module _ (wide : (o : O) → length (os o) ≡ width) where
@@ -184,7 +186,7 @@ module _ {A O : Type 0} {same : A → A → Bool} {steps : A → List (Step A O)
         origins-traced : take (width * w .arcs) origins ≡ all-origins os (made .steps)
         origins-traced =
             let is : explored next (pack first) .arcs ≡ z .arcs = explored-arcs k final weight told-few in
-            let m : min (length (explored next (pack first) .arcs)) 3072 ≡ w .arcs = omega (arith, ap length is, arcs-long) in
+            let m : min (length (explored next (pack first) .arcs)) max-arcs ≡ w .arcs = omega (arith, ap length is, arcs-long) in
             (rw m at (told .recorded .origins-held .traced))
             ∙ ap (λ (l : List ℕ). take (width * w .arcs) l) (explored-origins k final weight told-few)
             ∙ take-all (width * w .arcs) (all-origins os (made .steps)) (omega (arith, origins-long))

@@ -9,6 +9,7 @@ use native.Mathlib.Numerals.{add-one}
 use native.Mathlib.Omega.{arith}
 use lib.Dec.{eqb}
 use lib.ListN.{length, getD}
+use Rattle.transducer.specs.Format.{max-arcs, max-states}
 use Rattle.transducer.specs.declared.Arc.{Arc}
 use Rattle.transducer.specs.Encode.{arc-records}
 use Rattle.explore.specs.declared.Walk.{Walk}
@@ -24,12 +25,13 @@ use Rattle.explore.specs.Walk.{
   begun,
   explored,
   flag,
+  max-arc-bytes,
   Recorded,
   traced-by,
   Records,
   Walked,
   Went,
-  Told,
+  Walk-told,
 }
 use Rattle.explore.proofs.Member.{mem-getD}
 use Rattle.explore.proofs.Chain.{stored-at}
@@ -86,7 +88,7 @@ pub went-done : {width : ℕ} {b : Sofar} {w : Walk} {table origins states heads
     → Went width b w table origins states heads links
 went-done k = record { done = λ h. k; full = λ h. absurd (h (k .not-full)) }
 
-pub went-full : {width : ℕ} {b : Sofar} {w : Walk} {table origins states heads links : List ℕ} → (w .full ≡ 0 → ⊥) → 1024 < length (b .keys)
+pub went-full : {width : ℕ} {b : Sofar} {w : Walk} {table origins states heads links : List ℕ} → (w .full ≡ 0 → ⊥) → max-states < length (b .keys)
     → Went width b w table origins states heads links
 went-full e over = record { done = λ h. absurd (e h); full = λ h. over }
 
@@ -134,15 +136,15 @@ module _ {width source : ℕ} {rest : List Keyed} {goal : Sofar} {w : Walk} {tab
         }
 
     -- The target of the next step is one state too many.
-    pub taking-over : (number : ℕ) → number ≡ place eqb (s .target) (g .sofar .keys) → number ≡ 1024 → 1024 < length (goal .keys)
+    pub taking-over : (number : ℕ) → number ≡ place eqb (s .target) (g .sofar .keys) → number ≡ max-states → max-states < length (goal .keys)
     taking-over number is full =
-        let few : length (g .sofar .keys) ≤ 1024 = g .walked .chained .few in
+        let few : length (g .sofar .keys) ≤ max-states = g .walked .chained .few in
         let low : place eqb (s .target) (g .sofar .keys) ≤ length (g .sofar .keys) = place-le (s .target) (g .sofar .keys) in
         let new : there eqb (s .target) (g .sofar .keys) ≡ false = place-new (s .target) (g .sofar .keys) (omega arith) in
-        let over : 1024 < length (all-taken source (s ∷ more) (g .sofar) .keys) = new-over source s more (g .sofar) (omega arith) new in
+        let over : max-states < length (all-taken source (s ∷ more) (g .sofar) .keys) = new-over source s more (g .sofar) (omega arith) new in
         let same : all-taken source (s ∷ more) (g .sofar) ≡ goal =
         sym (ap (λ (ss : List Keyed). all-taken source ss (g .sofar)) are) ∙ g .leads in
-        subst (λ (z : Sofar). 1024 < length (z .keys)) same over
+        subst (λ (z : Sofar). max-states < length (z .keys)) same over
 
   -- The first of the steps that are left are taken, by a part of the walk.
   module _ (ss more : List Keyed) (are : rest ≡ ss ++ more) (w' : Walk) (table' origins' states' heads' links' : List ℕ)
@@ -156,9 +158,9 @@ module _ {width source : ℕ} {rest : List Keyed} {goal : Sofar} {w : Walk} {tab
 
     pub taking-full : (w' .full ≡ 0 → ⊥) → Went width goal w' table' origins' states' heads' links'
     taking-full e =
-        let over : 1024 < length (all-taken source (ss ++ more) (g .sofar) .keys) = part-over source ss more (g .sofar) (went .full e) in
+        let over : max-states < length (all-taken source (ss ++ more) (g .sofar) .keys) = part-over source ss more (g .sofar) (went .full e) in
         let same : all-taken source (ss ++ more) (g .sofar) ≡ goal = all-taken-append source ss more (g .sofar) ∙ then-more in
-        went-full e (subst (λ (z : Sofar). 1024 < length (z .keys)) same over)
+        went-full e (subst (λ (z : Sofar). max-states < length (z .keys)) same over)
 
 -- The whole walk, with the states of numbers below s served
 
@@ -177,8 +179,8 @@ pub record Key-of {A : Type 0} (pack : A → ℕ) (Within : A → Type 0) (key :
 
 module _ {A O : Type 0} {same : A → A → Bool} {steps : A → List (Step A O)} {first : A} {pack : A → ℕ} {os : O → List ℕ} {next : ℕ → List Keyed}
     {Within : A → Type 0} (k : Keying same steps first pack os next Within) (width : ℕ) where
-  pub walking-first : (key : ℕ) (table origins states heads links : List ℕ) → key ≡ pack first → 59404 ≤ length table
-      → width * 3072 ≤ length origins → Chained ([] ++ (key ∷ [])) states heads links
+  pub walking-first : (key : ℕ) (table origins states heads links : List ℕ) → key ≡ pack first → max-arc-bytes ≤ length table
+      → width * max-arcs ≤ length origins → Chained ([] ++ (key ∷ [])) states heads links
       → Walking pack Within width next (pack first) 0 (record { states = 1; arcs = 0; dear = 0; full = 0 }) table origins states heads links
   unfolding begun arc-records flag
   walking-first key table origins states heads links is table-long origins-long chained =
@@ -202,19 +204,19 @@ module _ {A O : Type 0} {same : A → A → Bool} {steps : A → List (Step A O)
 
   module _ {s : ℕ} {w : Walk} {table origins states heads links : List ℕ}
       (g : Walking pack Within width next (pack first) s w table origins states heads links) where
-    pub walking-stop : w .states ≤ s → Told width (explored next (pack first)) w table origins states
+    pub walking-stop : w .states ≤ s → Walk-told width (explored next (pack first)) w table origins states
     walking-stop end =
         let h = g .walked in
         let same : g .sofar ≡ explored next (pack first) =
         sym (served-on-rest next s (g .sofar) (omega (arith, h .states-are))) ∙ g .leads in
-        subst (λ (z : Sofar). Told width z w table origins states) same
+        subst (λ (z : Sofar). Walk-told width z w table origins states) same
         (record { few = h .chained .few; states-are = h .states-are; recorded = h .recorded; stored = h .chained .stored })
 
     module _ (l : s < w .states) where
       inside-keys : s < length (g .sofar .keys)
       inside-keys = omega (arith, g .walked .states-are)
 
-      pub walking-small : s < 1024
+      pub walking-small : s < max-states
       walking-small = omega (arith, inside-keys, g .walked .chained .few)
 
       pub walking-state : Key-of pack Within (getD states s 0)
@@ -232,7 +234,7 @@ module _ {A O : Type 0} {same : A → A → Bool} {steps : A → List (Step A O)
           (went : Went width (state-served next s (g .sofar)) w' table' origins' states' heads' links') where
         pub walking-next : w' .full ≡ 0 → Walking pack Within width next (pack first) (s + 1) w' table' origins' states' heads' links'
         walking-next e =
-            let small : s < 1024 = walking-small in
+            let small : s < max-states = walking-small in
             let step : served-on next s (g .sofar) ≡ served-on next (suc s) (state-served next s (g .sofar)) =
             served-on-step next s (g .sofar) inside-keys (omega arith) in
             record {
@@ -242,8 +244,8 @@ module _ {A O : Type 0} {same : A → A → Bool} {steps : A → List (Step A O)
               leads = rw (add-one s) (sym step ∙ g .leads);
             }
 
-        pub walking-full : (w' .full ≡ 0 → ⊥) → 1024 < length (explored next (pack first) .keys)
+        pub walking-full : (w' .full ≡ 0 → ⊥) → max-states < length (explored next (pack first) .keys)
         walking-full e =
-            let small : s < 1024 = walking-small in
-            subst (λ (z : Sofar). 1024 < length (z .keys)) (g .leads)
+            let small : s < max-states = walking-small in
+            subst (λ (z : Sofar). max-states < length (z .keys)) (g .leads)
             (served-on-state next s (g .sofar) inside-keys (omega arith) (went .full e))

@@ -4,11 +4,13 @@ use mathlib.Core.List.{List, [], _∷_, _++_, append-nil}
 use Prim.Native.Nat.{ℕ, suc, _+_, _*_, _≤_, _<_, min}
 use native.Mathlib.Nat.{add-suc}
 use native.Mathlib.Omega.{arith}
-use lib.ListN.{length, set, take, drop, length-append, length-drop}
+use lib.ListN.{length, set, take, drop, length-append}
 use lib.Seq.{sets, sets-eq, take-all, take-append-le, take-at, drop-set-add, length-take-le}
+use Rattle.transducer.specs.Format.{max-arcs}
 use Rattle.transducer.specs.declared.Arc.{Arc}
 use Rattle.transducer.specs.Encode.{arc-record, arc-records}
 use Rattle.transducer.proofs.Encode.{length-arc-record, arc-records-append}
+use Rattle.explore.specs.Walk.{max-arc-bytes}
 
 -- What stands before the elements stored, and they behind it.
 pub take-sets : (xs : List ℕ) (k : ℕ) (vs : List ℕ) → k + length vs ≤ length xs → take (k + length vs) (sets xs k vs) ≡ take k xs ++ vs
@@ -32,27 +34,26 @@ front-next os xs n vs long fits is =
     let whole : take (n + length vs) (os ++ vs) ≡ os ++ vs = take-all (n + length vs) (os ++ vs) (simp length-append (omega arith)) in
     rw (whole, take-sets xs n vs fits, is, all)
 
--- The records of arcs from `base` on: one more is written, or the 3,072 that are written stay.
-pub written-next : (base count : ℕ) (as' : List Arc) (a : Arc) (table : List ℕ) → length as' ≡ count → count < 3072 → base + 49152 ≤ length table
-    → take (16 * min (length as') 3072) (drop base table) ≡ arc-records (take 3072 as')
-    → take (16 * min (length (as' ++ (a ∷ []))) 3072) (drop base (sets table (base + 16 * count) (arc-record a)))
-    ≡ arc-records (take 3072 (as' ++ (a ∷ [])))
+-- The records of arcs from the front on: one more is written, or the 3,072 that are written stay.
+pub written-next : (count : ℕ) (as' : List Arc) (a : Arc) (table : List ℕ) → length as' ≡ count → count < max-arcs → max-arc-bytes ≤ length table
+    → take (16 * min (length as') max-arcs) table ≡ arc-records (take max-arcs as')
+    → take (16 * min (length (as' ++ (a ∷ []))) max-arcs) (sets table (16 * count) (arc-record a))
+    ≡ arc-records (take max-arcs (as' ++ (a ∷ [])))
 unfolding arc-records
-written-next base count as' a table long less fits is =
-    let n : 16 * min (length as') 3072 ≡ 16 * count = omega arith in
-    let e : 16 * min (length (as' ++ (a ∷ []))) 3072 ≡ 16 * count + length (arc-record a) =
+written-next count as' a table long less fits is =
+    let n : 16 * min (length as') max-arcs ≡ 16 * count = omega arith in
+    let e : 16 * min (length (as' ++ (a ∷ []))) max-arcs ≡ 16 * count + length (arc-record a) =
     omega (arith, length-append as' (a ∷ []), length-arc-record a) in
-    let all : take 3072 as' ≡ as' = take-all 3072 as' (omega arith) in
-    let whole : take 3072 (as' ++ (a ∷ [])) ≡ as' ++ (a ∷ []) = take-all 3072 (as' ++ (a ∷ [])) (simp length-append (omega arith)) in
+    let all : take max-arcs as' ≡ as' = take-all max-arcs as' (omega arith) in
+    let whole : take max-arcs (as' ++ (a ∷ [])) ≡ as' ++ (a ∷ []) = take-all max-arcs (as' ++ (a ∷ [])) (simp length-append (omega arith)) in
     let one : arc-records (a ∷ []) ≡ arc-record a = append-nil (arc-record a) in
-    let stands : take (16 * count) (drop base table) ≡ arc-records as' = rw (← n) (is ∙ ap arc-records all) in
-    let room : 16 * count + length (arc-record a) ≤ length (drop base table) = omega (arith, length-drop base table, length-arc-record a) in
-    rw (e, whole, drop-sets base table (16 * count) (arc-record a), arc-records-append as' (a ∷ []), one, ← stands)
-    (take-sets (drop base table) (16 * count) (arc-record a) room)
+    let stands : take (16 * count) table ≡ arc-records as' = rw (← n) (is ∙ ap arc-records all) in
+    let room : 16 * count + length (arc-record a) ≤ length table = omega (arith, length-arc-record a) in
+    rw (e, whole, arc-records-append as' (a ∷ []), one, ← stands) (take-sets table (16 * count) (arc-record a) room)
 
-pub written-full : (base : ℕ) (as' : List Arc) (a : Arc) (table : List ℕ) → 3072 ≤ length as'
-    → take (16 * min (length as') 3072) (drop base table) ≡ arc-records (take 3072 as')
-    → take (16 * min (length (as' ++ (a ∷ []))) 3072) (drop base table) ≡ arc-records (take 3072 (as' ++ (a ∷ [])))
-written-full base as' a table full is =
-    let e : min (length (as' ++ (a ∷ []))) 3072 ≡ min (length as') 3072 = omega (arith, length-append as' (a ∷ [])) in
-    rw (e, take-append-le 3072 as' (a ∷ []) full) is
+pub written-full : (as' : List Arc) (a : Arc) (table : List ℕ) → max-arcs ≤ length as'
+    → take (16 * min (length as') max-arcs) table ≡ arc-records (take max-arcs as')
+    → take (16 * min (length (as' ++ (a ∷ []))) max-arcs) table ≡ arc-records (take max-arcs (as' ++ (a ∷ [])))
+written-full as' a table full is =
+    let e : min (length (as' ++ (a ∷ []))) max-arcs ≡ min (length as') max-arcs = omega (arith, length-append as' (a ∷ [])) in
+    rw (e, take-append-le max-arcs as' (a ∷ []) full) is

@@ -9,8 +9,10 @@ use lib.ListN.{length, getD}
 use Rattle.wire.specs.Bytes.{filled}
 use Rattle.transducer.specs.declared.Arc.{Arc}
 use Rattle.transducer.specs.declared.Final.{Final}
+use Rattle.transducer.specs.declared.Written.{Written}
 use Rattle.transducer.specs.Format.{Transducer, max-states, max-arcs, weights-good}
 use Rattle.transducer.specs.Weight.{Weight}
+use Rattle.transducer.specs.Entry.{unless}
 
 -- A test that two states are the same is right.
 pub record Decides {A : Type 0} (same : A → A → Bool) : Type 0 where
@@ -102,3 +104,11 @@ keeps number = leb number 10 || ltb 13 number
 unfoldable pub left-behind : (number : ℕ) → (before written : List ℕ) → List ℕ
 left-behind number before written =
     cond (eqb number 0) (filled (length before) written) (cond (keeps number) before (filled (length before) []))
+
+-- What a call answers that builds a transducer into a lent buffer, with the origins of its arcs in another and a third lent only to work in.
+pub record Built-says (bytes traced : List ℕ) (number : ℕ) (r : Written) (a a' b b' c c' : List ℕ) : Type 0 where
+  pub refusal-is : r .refusal ≡ number
+  pub len-is : r .len ≡ unless number (length bytes)
+  pub table : a' ≡ left-behind number a bytes
+  pub origins : b' ≡ left-behind number b traced
+  pub work : c' ≡ left-behind number c []

@@ -5,12 +5,13 @@ use mathlib.Core.Bool.{Bool, false, _||_, not, cond}
 use mathlib.Core.List.{List, [], _∷_, _++_}
 use Prim.Native.Nat.{ℕ, zero, suc, _+_, _*_, _≤_, _<_, min}
 use lib.Dec.{ltb, leb, eqb}
-use lib.ListN.{length, getD, take, drop}
+use lib.ListN.{length, getD, take}
 use lib.Seq.{sets}
-use Rattle.wire.specs.Bytes.{every, places}
+use Rattle.wire.specs.Bytes.{every, filled}
 use Rattle.transducer.specs.declared.Arc.{Arc}
 use Rattle.transducer.specs.declared.Final.{Final}
-use Rattle.transducer.specs.Format.{max-states, max-arcs, max-bytes, head-bytes, arc-bytes, arcs-at, weight-good, arc-at}
+use Rattle.transducer.specs.declared.Written.{Written}
+use Rattle.transducer.specs.Format.{max-states, max-arcs, head-bytes, arc-bytes, weight-good}
 use Rattle.transducer.specs.Encode.{final-records, arc-records}
 use Rattle.transducer.specs.Weight.{Weight}
 use Rattle.explore.specs.declared.FinalsPut.{FinalsPut}
@@ -83,12 +84,16 @@ explored next first = served-from next (max-states + 1) 0 (begun first)
 unfoldable pub flag : Bool → ℕ
 flag b = cond b 1 0
 
--- How a buffer holds the arcs: their records from 10,252 on (behind room for 1,024 finals), at most 3,072 of them.
+-- The bytes of 3,072 arcs.
+abbrev pub max-arc-bytes : ℕ
+max-arc-bytes = arc-bytes * max-arcs
+
+-- How a buffer for arcs alone holds them: their records from the front on, at most 3,072 of them.
 pub record Arcs-held (as' : List Arc) (dear : Bool) (w : Walk) (table : List ℕ) : Type 0 where
   pub arcs-are : w .arcs ≡ min (length as') (max-arcs + 1)
   pub dear-is : w .dear ≡ flag dear
-  pub table-long : max-bytes ≤ length table
-  pub written : take (arc-bytes * min (length as') max-arcs) (drop (arcs-at max-states) table) ≡ arc-records (take max-arcs as')
+  pub table-long : max-arc-bytes ≤ length table
+  pub written : take (arc-bytes * min (length as') max-arcs) table ≡ arc-records (take max-arcs as')
 
 -- How a buffer holds the origins of `count` arcs, `width` for each: those of the first 3,072 arcs from the front on.
 pub record Origins-held (width count : ℕ) (os origins : List ℕ) : Type 0 where
@@ -123,8 +128,18 @@ pub record Went (width : ℕ) (after : Sofar) (w : Walk) (table origins states h
   pub done : w .full ≡ 0 → Walked width after w table origins states heads links
   pub full : (w .full ≡ 0 → ⊥) → max-states < length (after .keys)
 
+-- What the parts of a walk share. Something has been built, and the walk and its buffers hold it.
+abbrev pub Holds : (width : ℕ) → Walk → (table origins states heads links : List ℕ) → Type 0
+Holds width w table origins states heads links = (b : Sofar) × Walked width b w table origins states heads links
+
+-- Whatever was built and held before, what `add` makes of it is built then, or the walk is full.
+abbrev pub Takes : (width : ℕ) → (add : Sofar → Sofar) → (before after : Walk)
+    → (table table' origins origins' states states' heads heads' links links' : List ℕ) → Type 0
+Takes width add w w' table table' origins origins' states states' heads heads' links links' =
+    (b : Sofar) → Walked width b w table origins states heads links → Went width (add b) w' table' origins' states' heads' links'
+
 -- What the whole walk tells and leaves behind: 11 exactly where more than 1,024 states are met.
-pub record Told (width : ℕ) (b : Sofar) (w : Walk) (table origins states : List ℕ) : Type 0 where
+pub record Walk-told (width : ℕ) (b : Sofar) (w : Walk) (table origins states : List ℕ) : Type 0 where
   pub few : length (b .keys) ≤ max-states
   pub states-are : w .states ≡ length (b .keys)
   pub recorded : Recorded width (b .arcs) (b .origins) (b .dear) w table origins
@@ -132,20 +147,20 @@ pub record Told (width : ℕ) (b : Sofar) (w : Walk) (table origins states : Lis
 
 pub record Walk-says (width : ℕ) (b : Sofar) (w : Walk) (table table' origins origins' states states' : List ℕ) : Type 0 where
   pub full : (w .full ≡ 0 → ⊥) → max-states < length (b .keys)
-  pub done : w .full ≡ 0 → Told width b w table' origins' states'
+  pub done : w .full ≡ 0 → Walk-told width b w table' origins' states'
   pub table-kept : length table' ≡ length table
   pub origins-kept : length origins' ≡ length origins
   pub states-kept : length states' ≡ length states
-
--- The arcs whose records stand from 10,252 on.
-unfoldable pub stored-arc : List ℕ → (i : ℕ) → Arc
-stored-arc table i = arc-at table (arcs-at max-states + arc-bytes * i)
-
-unfoldable pub stored-arcs : List ℕ → (count : ℕ) → List Arc
-stored-arcs table count = places count 0 1 (stored-arc table)
 
 -- Some finals, written from 12 on.
 pub record Finals-stored (fs : List Final) (r : FinalsPut) (table table' : List ℕ) : Type 0 where
   pub count-is : r .count ≡ length fs
   pub dear-is : r .dear ≡ not (every (λ f. weight-good (f .weight)) fs)
   pub stored : table' ≡ sets table head-bytes (final-records fs)
+
+-- A refusal once the buffers have been written to: each is all zeros.
+pub record Refused-with (number : ℕ) (r : Written) (a a' b b' c c' : List ℕ) : Type 0 where
+  pub answer : r ≡ record { refusal = number; len = 0 }
+  pub table : a' ≡ filled (length a) []
+  pub origins : b' ≡ filled (length b) []
+  pub states : c' ≡ filled (length c) []

@@ -4,22 +4,19 @@ ghost use mathlib.Core.Bool.{false};
 ghost use mathlib.Core.List.{List, [], _∷_, _++_};
 ghost use Prim.Native.Nat.{ℕ, _+_, _*_, _≤_, _<_};
 ghost use lib.Dec.{eqb};
-ghost use lib.ListN.{length};
+ghost use lib.ListN.{length, take, drop};
 ghost use lib.Seq.{sets};
-ghost use Rattle.transducer.specs.Format.{max-states, max-bytes, arcs-at, arc-bytes};
-ghost use Rattle.transducer.specs.Encode.{arc-records};
+ghost use Rattle.transducer.specs.Format.{max-states, arc-bytes};
 ghost use Rattle.explore.specs.Explore.{there, place};
 ghost use Rattle.explore.specs.Chain.{buckets, bucket-of, Chained};
-ghost use Rattle.explore.specs.Walk.{with-key, Records, stored-arcs};
+ghost use Rattle.explore.specs.Walk.{with-key, max-arc-bytes, Records, Refused-with};
 use transducer::Arc;
 pub use transducer::MAX_ARCS;
 use transducer::MAX_STATES;
-
-// Where the arcs are written until the number of finals is known: behind room for 1,024 finals.
-const ARCS_AT: usize = transducer::HEAD_BYTES + transducer::FINAL_BYTES * MAX_STATES;
+use transducer::Written;
 
 // Stored states stand in chains by bucket.
-pub const BUCKETS: usize = 1024;
+pub const BUCKETS: usize = 4096;
 
 const BUCKET_MASK: usize = BUCKETS - 1;
 
@@ -27,7 +24,7 @@ const BUCKET_MASK: usize = BUCKETS - 1;
 pub fn bucket(key: u32) -> usize
     ensures { λ r. ⌜ (r ≡ bucket-of key) × (r < buckets) ⌝ }
 {
-    (((key as u64) * 2654435761) >> 22) as usize & BUCKET_MASK
+    (((key as u64) * 2654435761) >> 20) as usize & BUCKET_MASK
 }
 
 // Stores a new key under the next number, in front of the chain of its bucket.
@@ -111,15 +108,15 @@ pub struct FinalsPut {
     pub dear: bool,
 }
 
-// Writes an arc's record where there is room for it, and tells how far the walk has come with it.
+// Writes an arc's record behind those before it, where there is room for it, and tells how far the walk has come with it.
 pub fn record_arc(table: &mut [u8], w: Walk, arc: Arc) -> Walk
-    requires { ⌜ max-bytes ≤ length (now table) ⌝ }
+    requires { ⌜ max-arc-bytes ≤ length (now table) ⌝ }
     ensures { λ r. ⌜ Records arc w r (now (table .entry)) (now (table .exit)) ⌝ }
 {
     let dear = w.dear | (!transducer::weight_ok(arc.weight)) as u32;
     let arcs = w.arcs;
     if arcs < MAX_ARCS {
-        transducer::put_arc(table, ARCS_AT + transducer::ARC_BYTES * arcs, arc);
+        transducer::put_arc(table, transducer::ARC_BYTES * arcs, arc);
         return Walk {
             states: w.states,
             arcs: arcs + 1,
@@ -135,15 +132,50 @@ pub fn record_arc(table: &mut [u8], w: Walk, arc: Arc) -> Walk
     }
 }
 
-// Moves the arcs' records to their place behind the finals.
-pub fn move_arcs(table: &mut [u8], first: usize, arcs: usize)
-    requires { ⌜ (first ≤ arcs-at max-states) × (arcs-at max-states + arc-bytes * arcs ≤ length (now table)) ⌝ }
-    ensures { λ _. ⌜ now (table .exit) ≡ sets (now (table .entry)) first (arc-records (stored-arcs (now (table .entry)) arcs)) ⌝ }
+// Moves the 16 bytes of a record. All are read before any is written, so that they go as one.
+fn move_record(table: &mut [u8], from: usize, to: usize)
+    requires { ⌜ (from + arc-bytes ≤ length (now table)) × (to + arc-bytes ≤ length (now table)) ⌝ }
+    ensures { λ _. ⌜ now (table .exit) ≡ sets (now (table .entry)) to (take arc-bytes (drop from (now (table .entry)))) ⌝ }
 {
+    let mut record = [0u8; transducer::ARC_BYTES];
+    let mut k = 0;
+    while k < transducer::ARC_BYTES {
+        record[k] = table[from + k];
+        k += 1;
+    }
+    let mut n = 0;
+    while n < transducer::ARC_BYTES {
+        table[to + n] = record[n];
+        n += 1;
+    }
+}
+
+// Moves the arcs' records to their place behind the finals; nothing is moved where they stand there.
+pub fn move_arcs(table: &mut [u8], from: usize, first: usize, arcs: usize)
+    requires { ⌜ (first ≤ from) × (from + arc-bytes * arcs ≤ length (now table)) ⌝ }
+    ensures { λ _. ⌜ now (table .exit) ≡ sets (now (table .entry)) first (take (arc-bytes * arcs) (drop from (now (table .entry)))) ⌝ }
+{
+    if first == from {
+        return;
+    }
     let mut j = 0;
     while j < arcs {
-        let a = transducer::load_arc(table, ARCS_AT + transducer::ARC_BYTES * j);
-        transducer::put_arc(table, first + transducer::ARC_BYTES * j, a);
+        move_record(
+            table,
+            from + transducer::ARC_BYTES * j,
+            first + transducer::ARC_BYTES * j,
+        );
         j += 1;
     }
+}
+
+// Refuses with 11, 12 or 13: every buffer is all zeros.
+pub fn refuse(table: &mut [u8], origins: &mut [u16], states: &mut [u32], number: u32) -> Written
+    ensures { λ r. ⌜ Refused-with number r (now (table .entry)) (now (table .exit)) (now (origins .entry)) (now (origins .exit))
+        (now (states .entry)) (now (states .exit)) ⌝ }
+{
+    wire::clear8(table, 0);
+    wire::clear16(origins, 0);
+    wire::clear32(states, 0);
+    transducer::refused(number)
 }

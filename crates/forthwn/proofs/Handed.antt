@@ -6,7 +6,7 @@ use native.Mathlib.Omega.{arith}
 use mir.Syntax.{w64}
 use mir.Val.{SFits, toZ, ofZ}
 use mir.Facts.{toZ-ofZ, toZ-pos}
-use Rattle.paths.specs.declared.Told.{Told}
+use Rattle.tell.specs.declared.Told.{Told}
 use Rattle.forthwn.specs.Answer.{told}
 
 pub handed : (r : Told) → SFits w64 (r .cost) → r .arcs < 4294967296 → r .labels < 4294967296

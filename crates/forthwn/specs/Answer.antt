@@ -6,7 +6,7 @@ use Rattle.transducer.specs.declared.Header.{Header}
 use Rattle.transducer.specs.declared.Written.{Written}
 use Rattle.transducer.specs.Weight.{Weight, no-weight, magnitude}
 use Rattle.paths.specs.declared.Counted.{Counted}
-use Rattle.paths.specs.declared.Told.{Told}
+use Rattle.tell.specs.declared.Told.{Told}
 use Rattle.listing.specs.declared.Listed.{Listed}
 
 -- The head's numbers in their order: states, arcs, finals, start.

@@ -22,8 +22,7 @@ pub extern "C" fn forthwn_refusal(bytes: &[u8]) -> u32
     transducer::refusal(bytes)
 }
 
-// Reads a transducer into four lent buffers, and its states, arcs, finals and start into `head`. Linear in the
-// bytes.
+// Reads a transducer into four lent buffers, and its states, arcs, finals and start into `head`. Linear in the bytes and in what is lent.
 #[no_mangle]
 pub extern "C" fn forthwn_read(
     bytes: &[u8],
@@ -45,7 +44,8 @@ pub extern "C" fn forthwn_read(
     answer.refusal
 }
 
-// Writes a transducer from its four numbers and four runs into a lent buffer, and the number of bytes into `len`. Linear in the bytes written.
+// Writes a transducer from its four numbers and four runs into a lent buffer, and the number of bytes into `len`. Linear in the bytes
+// written and in what is lent.
 #[no_mangle]
 pub extern "C" fn forthwn_write(
     n: u32,

@@ -63,19 +63,19 @@ arc-steps-has cs t x i a s (of-symbol h within fit made) =
     rw (ne-eqb (a .input) 0 h, lt-ltb (x .position) (length cs) within, fit) (first made)
 
 -- A step of a lattice state, and the arc that it is made of.
-pub record Move (cs : List ℕ) (t : Transducer) (x : State) (s : Step State ℕ) : Type 0 where
+pub record Arc-step (cs : List ℕ) (t : Transducer) (x : State) (s : Step State ℕ) : Type 0 where
   pub number : ℕ
   pub below : number < length (t .arcs)
   pub leaves : arc t number .source ≡ x .state
   pub made : OfArc cs t x number (arc t number) s
 
-pub step-move : (cs : List ℕ) (t : Transducer) (x : State) (s : Step State ℕ) → Mem s (steps cs t x) → Move cs t x s
+pub step-move : (cs : List ℕ) (t : Transducer) (x : State) (s : Step State ℕ) → Mem s (steps cs t x) → Arc-step cs t x s
 unfolding steps
 step-move cs t x s m =
     let r : FromArc t (x .state) (arc-steps cs t x) s = in-each-arc t (x .state) (arc-steps cs t x) s m in
     record { number = r .number; below = r .below; leaves = r .leaves; made = in-arc-steps cs t x (r .number) (arc t (r .number)) s (r .given) }
 
-pub move-step : (cs : List ℕ) (t : Transducer) (x : State) (s : Step State ℕ) → Move cs t x s → Mem s (steps cs t x)
+pub move-step : (cs : List ℕ) (t : Transducer) (x : State) (s : Step State ℕ) → Arc-step cs t x s → Mem s (steps cs t x)
 unfolding steps
 move-step cs t x s m =
     each-arc-has t (x .state) (arc-steps cs t x) s (m .number) (m .below) (m .leaves)
@@ -96,8 +96,8 @@ made-same cs t x i a s s' (of-symbol h w r made) (of-symbol h' w' r' made') = ma
 pub same-origin : (cs : List ℕ) (t : Transducer) (x : State) (s s' : Step State ℕ) → Mem s (steps cs t x) → Mem s' (steps cs t x) → s .origin ≡ s' .origin
     → s ≡ s'
 same-origin cs t x s s' m m' e =
-    let r : Move cs t x s = step-move cs t x s m in
-    let r' : Move cs t x s' = step-move cs t x s' m' in
+    let r : Arc-step cs t x s = step-move cs t x s m in
+    let r' : Arc-step cs t x s' = step-move cs t x s' m' in
     let o : s .origin ≡ r .number = made-origin cs t x (r .number) (arc t (r .number)) s (r .made) in
     let o' : s' .origin ≡ r' .number = made-origin cs t x (r' .number) (arc t (r' .number)) s' (r' .made) in
     let same : r' .number ≡ r .number = sym o' ∙ sym e ∙ o in
@@ -144,7 +144,7 @@ pub step-unbarred : (cs : List ℕ) (t : Transducer) (x : State) (s : Step State
 unfolding empty-step symbol-step step
 step-unbarred cs t x s string labels m = on (r .made)
   where
-    r : Move cs t x s
+    r : Arc-step cs t x s
     r = step-move cs t x s m
 
     writes : (c : ℕ) → c < any → passed c (arc t (r .number)) < any

@@ -23,7 +23,7 @@ use Rattle.explore.proofs.Member.{mem-in, in-mem}
 use Rattle.explore.proofs.Trails.{Trail, inputs, outputs, weights}
 use Rattle.lattice.specs.declared.State.{State}
 use Rattle.lattice.specs.Apply.{step, steps, final-state, first-state}
-use Rattle.lattice.proofs.AppliedSteps.{empty-step, symbol-step, OfArc, of-empty, of-symbol, Move, step-move, move-step, same-origin}
+use Rattle.lattice.proofs.AppliedSteps.{empty-step, symbol-step, OfArc, of-empty, of-symbol, Arc-step, step-move, move-step, same-origin}
 
 -- The arcs that the steps come from, in order.
 unfoldable pub numbers : {A : Type 0} → List (Step A ℕ) → List ℕ
@@ -98,7 +98,7 @@ leads-step cs t x s ss y i below leaves (of-symbol h here fit made) = rw made (l
 pub trail-leads : (cs : List ℕ) (t : Transducer) (x : State) (ss : List (Step State ℕ)) (y : State) → Trail (steps cs t) x ss y → Trail-path cs t x ss y
 trail-leads cs t x [] y h = leads-none cs t x y h
 trail-leads cs t x (s ∷ ss) y h =
-    let m : Move cs t x s = step-move cs t x s (mem-in (h .0)) in
+    let m : Arc-step cs t x s = step-move cs t x s (mem-in (h .0)) in
     leads-step cs t x s ss y (m .number) (m .below) (m .leaves) (m .made) (trail-leads cs t (s .target) ss y (h .1))
 
 -- Every path that fits what is left of the string has a trail

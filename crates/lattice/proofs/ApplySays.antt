@@ -1,11 +1,10 @@
 -- The answers of applying: which refusal it is, and what is said and left behind; one law for each answer, in the order of the tests.
 -- Assumes nothing.
-use mathlib.Core.Path.{_≡_, refl, sym, ap, _∙_}
+use mathlib.Core.Path.{_≡_, sym, _∙_}
 use mathlib.Core.Bool.{Bool, true, false}
 use mathlib.Core.List.{List, []}
 use Prim.Native.Nat.{ℕ, _≤_, _<_}
 use native.Mathlib.Omega.{arith}
-use lib.Dec.{eqb}
 use lib.ListN.{length}
 use borrow.Author.Tests.{lt-ltb, le-ltb, ne-eqb}
 use Rattle.wire.specs.Bytes.{filled}
@@ -16,13 +15,13 @@ use Rattle.transducer.specs.Each.{named}
 use Rattle.transducer.specs.Entry.{or-else, unless}
 use Rattle.transducer.proofs.Most.{refusal-most}
 use Rattle.explore.specs.Explore.{built-refusal}
-use Rattle.explore.proofs.LeftBehind.{early-keeps, behind-kept, behind-zeroed, behind-written}
+use Rattle.explore.proofs.LeftBehind.{early-keeps, says-kept, behind-written}
 use Rattle.lattice.specs.Apply.{string-good, applied}
 use Rattle.lattice.specs.ApplyEntry.{apply-room, apply-refusal, Apply-says}
-use Rattle.lattice.specs.Applying.{Apply-asks, Refused-with}
+use Rattle.lattice.specs.Applying.{Apply-asks}
 use Rattle.lattice.specs.Lattice.{lattice, lattice-origins}
 
--- Apply-says, by how the buffers are left
+-- Apply-says on success
 
 module _ (cs bs : List ℕ) (number : ℕ) where
   abbrev bytes-left : List ℕ
@@ -30,34 +29,6 @@ module _ (cs bs : List ℕ) (number : ℕ) where
 
   abbrev origins-left : List ℕ
   origins-left = lattice-origins cs (decode bs)
-
-  says-early : (k : ℕ) (a b c : List ℕ) → number ≡ k → (k ≡ 0 → ⊥) → k ≤ 10
-      → (r : Written) → r ≡ record { refusal = k; len = 0 } → Apply-says cs bs number r a a b b c c
-  unfolding unless
-  says-early k a b c is bad small r h =
-      rw (is, h)
-      (record {
-        refusal-is = refl;
-        len-is = rw (ne-eqb k 0 bad);
-        table = sym (behind-kept a bytes-left k bad (early-keeps k small));
-        origins = sym (behind-kept b origins-left k bad (early-keeps k small));
-        pairs = sym (behind-kept c [] k bad (early-keeps k small));
-      })
-
-  -- Of the buffer of pairs, written to before, only the length counts.
-  pub says-zeroed : (k : ℕ) (r : Written) (a a' b b' c c₀ c' : List ℕ) → number ≡ k → 10 < k → k < 14 → length c ≡ length c₀
-      → Refused-with k r a a' b b' c c' → Apply-says cs bs number r a a' b b' c₀ c'
-  unfolding unless
-  says-zeroed k r a a' b b' c c₀ c' is high low long z =
-      let no : eqb k 0 ≡ false = ne-eqb k 0 (omega arith) in
-      rw is
-      (record {
-        refusal-is = ap (λ (r : Written). r .refusal) (z .answer);
-        len-is = ap (λ (r : Written). r .len) (z .answer) ∙ (rw no);
-        table = z .table ∙ sym (behind-zeroed a bytes-left k high low);
-        origins = z .origins ∙ sym (behind-zeroed b origins-left k high low);
-        pairs = z .pairs ∙ (rw long (sym (behind-zeroed c₀ [] k high low)));
-      })
 
   pub says-written : (len : ℕ) (a a' b b' c c₀ c' : List ℕ) → number ≡ 0 → length c ≡ length c₀ → len ≡ length bytes-left
       → a' ≡ filled (length a) bytes-left → b' ≡ filled (length b) origins-left → c' ≡ filled (length c) []
@@ -69,7 +40,7 @@ module _ (cs bs : List ℕ) (number : ℕ) where
         len-is = rw is l;
         table = x ∙ sym (behind-written a bytes-left number is);
         origins = y ∙ sym (behind-written b origins-left number is);
-        pairs = z ∙ (rw long (sym (behind-written c₀ [] number is)));
+        work = z ∙ (rw long (sym (behind-written c₀ [] number is)));
       }
 
 -- The answers before anything is written
@@ -83,20 +54,17 @@ module _ (cs bs a b c : List ℕ) where
 
   pub says-bytes : (k : ℕ) → k ≡ refusal bs → (k ≡ 0 → ⊥) → Refused k
   unfolding apply-refusal or-else
-  says-bytes k is bad = says-early cs bs number k a b c (rw (← is, ne-eqb k 0 bad)) bad (omega (arith, refusal-most bs))
+  says-bytes k is bad = says-kept _ _ number k a b c (rw (← is, ne-eqb k 0 bad)) bad (early-keeps k (omega (arith, refusal-most bs)))
 
-  module _ (k : ℕ) (is : k ≡ refusal bs) (ok : k ≡ 0) where
-    accepted : refusal bs ≡ 0
-    accepted = sym is ∙ ok
-
+  module _ (accepted : refusal bs ≡ 0) where
     pub says-string : false ≡ string-good cs → Refused 9
     unfolding apply-refusal or-else
-    says-string bad = says-early cs bs number 9 a b c (rw (accepted, ← bad)) (omega arith) (omega arith)
+    says-string bad = says-kept _ _ number 9 a b c (rw (accepted, ← bad)) (omega arith) (early-keeps 9 (omega arith))
 
     module _ (string : true ≡ string-good cs) where
       short : apply-room (length a) (length b) (length c) ≡ 10 → Refused 10
       unfolding apply-refusal or-else
-      short h = says-early cs bs number 10 a b c (rw (accepted, ← string, h)) (omega arith) (omega arith)
+      short h = says-kept _ _ number 10 a b c (rw (accepted, ← string, h)) (omega arith) (early-keeps 10 (omega arith))
 
       pub says-table : length a < max-bytes → Refused 10
       unfolding apply-room

@@ -1,14 +1,13 @@
 -- The walk by keys finds the lattice before trimming: its keys are those of the lattice's states, and where these are at most 1,024 its arcs and
 -- origins are the lattice's. Assumes nothing.
 use mathlib.Core.Path.{_≡_, refl, ap, _∙_}
-use mathlib.Core.Logic.{_↔_}
 use mathlib.Core.List.{List, [], _∷_, map}
 use Prim.Native.Nat.{ℕ, _≤_, _<_}
 use lib.ListN.{length, getD}
 use Rattle.transducer.specs.Format.{max-states, Transducer, Good}
 use Rattle.explore.specs.Explore.{Step}
 use Rattle.explore.specs.Walk.{all-origins}
-use Rattle.explore.proofs.ExploredKeys.{explored-keys, explored-length, explored-key, explored-over, explored-arcs, explored-origins}
+use Rattle.explore.proofs.ExploredKeys.{explored-keys, explored-length, explored-key, explored-arcs, explored-origins}
 use Rattle.lattice.specs.declared.State.{State}
 use Rattle.lattice.specs.Apply.{final-state, applied}
 use Rattle.lattice.specs.Applying.{one, found, State-in}
@@ -30,10 +29,6 @@ module _ (cs : List ℕ) (t : Transducer) (good : Good t) where
   pub found-length : length (found cs t .keys) ≡ length (applied cs t .states)
   unfolding applied
   found-length = explored-length (keying cs t good) (final-state cs t) (state-weight t)
-
-  pub found-over : (max-states < length (found cs t .keys)) ↔ (max-states < length (applied cs t .states))
-  unfolding applied
-  found-over = explored-over (keying cs t good) (final-state cs t) (state-weight t)
 
   -- The key of each state by number, which is one of the lattice's.
   pub found-key : (i : ℕ) (d : State) → i < length (applied cs t .states)

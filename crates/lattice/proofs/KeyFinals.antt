@@ -18,7 +18,7 @@ use Rattle.transducer.specs.Leaf.{Finals-by-state, final-code, max-code}
 use Rattle.transducer.specs.Weight.{Weight, weight-of}
 use Rattle.transducer.specs.Path.{is-final, final-weight}
 use Rattle.transducer.proofs.Finals.{final-code-some, weight-final-code}
-use Rattle.transducer.proofs.RoundTrip.{good-passed}
+use Rattle.transducer.proofs.Good.{good-tests, finals-light}
 use Rattle.explore.specs.Explore.{finals-from}
 use Rattle.explore.proofs.Finals.{finals-from-append}
 use Rattle.explore.proofs.PutFinals.{Finishing, finishing-first, finishing-none, finishing-more, finishing-stop}
@@ -190,4 +190,4 @@ module _ (cs : List ℕ) (t : Transducer) (good : Good t) (codes : List ℕ) (by
   unfolding final-state
   pack-weight x w f =
       let two = and-true (eqb (x .position) (length cs)) (is-final (t .finals) (x .state)) f in
-      rw (code-pack x w, two .0) (weight-final-code (t .finals) (x .state) (good-passed t good .final-weights) (two .1))
+      rw (code-pack x w, two .0) (weight-final-code (t .finals) (x .state) (finals-light t (good-tests t good)) (two .1))

@@ -14,7 +14,7 @@ use Rattle.lattice.specs.declared.State.{State}
 use Rattle.lattice.specs.Apply.{same-state, step, steps, first-state}
 use Rattle.lattice.specs.Applying.{one, next, State-in}
 use Rattle.lattice.specs.Pack.{pack, unpacked}
-use Rattle.lattice.proofs.AppliedSteps.{empty-step, symbol-step, OfArc, of-empty, of-symbol, Move, step-move}
+use Rattle.lattice.proofs.AppliedSteps.{empty-step, symbol-step, OfArc, of-empty, of-symbol, Arc-step, step-move}
 use Rattle.lattice.proofs.Pack.{unpacked-pack, pack-injective}
 use Rattle.lattice.proofs.SameState.{same-state-decides}
 
@@ -29,7 +29,7 @@ module _ (cs : List ℕ) (t : Transducer) (good : Good t) where
   unfolding empty-step symbol-step step
   step-in x s w m = on (r .made)
     where
-      r : Move cs t x s
+      r : Arc-step cs t x s
       r = step-move cs t x s (mem-in m)
 
       low : arc t (r .number) .target < t .states

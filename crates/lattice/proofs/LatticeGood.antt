@@ -14,7 +14,7 @@ use Rattle.wire.proofs.Places.{every-getD}
 use Rattle.transducer.specs.Format.{max-states, max-arcs, Transducer, Good, weight-good, weights-good, refusal, decode}
 use Rattle.transducer.specs.Encode.{encode}
 use Rattle.transducer.specs.Path.{arc, no-arc, final-weight}
-use Rattle.transducer.proofs.GoodParts.{good-parts}
+use Rattle.transducer.proofs.Good.{good-tests}
 use Rattle.transducer.proofs.Labels.{Unbarred}
 use Rattle.transducer.proofs.RoundTrip.{refusal-encode, decode-encode}
 use Rattle.transducer.specs.Each.{plain}
@@ -26,7 +26,7 @@ use Rattle.explore.proofs.Built.{Labelled, every-arc, built-plain, good-built}
 use Rattle.lattice.specs.declared.State.{State}
 use Rattle.lattice.specs.Apply.{string-good, same-state, step, steps, final-state, applied, first-state}
 use Rattle.lattice.specs.Lattice.{lattice}
-use Rattle.lattice.proofs.AppliedSteps.{empty-step, symbol-step, OfArc, of-empty, of-symbol, Move, step-move, step-unbarred}
+use Rattle.lattice.proofs.AppliedSteps.{empty-step, symbol-step, OfArc, of-empty, of-symbol, Arc-step, step-move, step-unbarred}
 use Rattle.lattice.proofs.SameState.{same-state-decides}
 use Rattle.trim.proofs.TrimmedGood.{trimmed-good, trimmed-plain}
 
@@ -48,7 +48,7 @@ step-light : (cs : List ℕ) (t : Transducer) (x : State) (s : Step State ℕ) �
 unfolding empty-step symbol-step step arc
 step-light cs t x s light m = on (r .made)
   where
-    r : Move cs t x s
+    r : Arc-step cs t x s
     r = step-move cs t x s (mem-in m)
 
     a : weight-good (arc t (r .number) .weight) ≡ true
@@ -62,7 +62,7 @@ pub applied-light : (cs : List ℕ) (t : Transducer) → Good t → weights-good
 unfolding applied built weights-good
 applied-light cs t g =
     let z : Transducer = applied cs t .result in
-    let w : weights-good t ≡ true = good-parts t g .weights-are in
+    let w : weights-good t ≡ true = good-tests t g .weights in
     let two = and-true (every (λ f. weight-good (f .weight)) (t .finals)) (every (λ a. weight-good (a .weight)) (t .arcs)) w in
     true-and (every (λ f. weight-good (f .weight)) (z .finals)) (every (λ a. weight-good (a .weight)) (z .arcs))
     (finals-light (final-state cs t) (state-weight t) 0 (applied cs t .states) (λ x. final-weight-good (t .finals) (x .state) (two .0)))
@@ -87,7 +87,7 @@ never-13 cs t g h = on (ltb max-states (z .states)) (ltb max-arcs (length (z .ar
 module _ (cs : List ℕ) (t : Transducer) (good : Good t) (string : string-good cs ≡ true) where
   pub steps-labelled : Labelled (steps cs t)
   steps-labelled x s m =
-      let r : Unbarred (s .input) (s .output) = step-unbarred cs t x s string (good-parts t good .labels-are) (mem-in m) in
+      let r : Unbarred (s .input) (s .output) = step-unbarred cs t x s string (good-tests t good .labels) (mem-in m) in
       (r .read, r .written)
 
   applied-plain : plain (applied cs t .result) ≡ true

@@ -62,14 +62,14 @@ module _ (cs : List ℕ) (t : Transducer) (fine : built-refusal (applied cs t .r
   through-numbers (i ∷ p) = ap₂ _∷_ (List·getD-map (λ s. s .origin) (applied cs t .steps) i no-step) (through-numbers p)
 
   -- The steps of an accepting path.
-  record Steps-of (p : List ℕ) : Type 0 where
+  record Lattice-steps (p : List ℕ) : Type 0 where
     last : State
     accepting : Accepting (steps cs t) (final-state cs t) (first-state t) (taken p) last
     reads : read-by (applied cs t .result) p ≡ inputs (taken p)
     writes : written-by (applied cs t .result) p ≡ outputs (taken p)
     costs : path-cost (applied cs t .result) p ≡ plus (weights (taken p)) (state-weight t last)
 
-  steps-of : (p : List ℕ) → accepts (applied cs t .result) p ≡ true → Steps-of p
+  steps-of : (p : List ℕ) → accepts (applied cs t .result) p ≡ true → Lattice-steps p
   unfolding applied
   steps-of p h =
       let r = accepts-trail same-state (steps cs t) (final-state cs t) (state-weight t) (first-state t) no-step same-state-decides few p h in
@@ -83,7 +83,7 @@ module _ (cs : List ℕ) (t : Transducer) (fine : built-refusal (applied cs t .r
 
   applied-leads : (p : List ℕ) → accepts (applied cs t .result) p ≡ true → Reads-as cs t (applied cs t .result) p (through arc-origins p)
   applied-leads p h =
-      let r : Steps-of p = steps-of p h in
+      let r : Lattice-steps p = steps-of p h in
       let a : Accepted cs t (taken p) (r .last) = trail-accepted cs t (taken p) (r .last) (r .accepting .trail) (r .accepting .final-end) in
       rw (through-numbers p)
       (record {
@@ -98,8 +98,8 @@ module _ (cs : List ℕ) (t : Transducer) (fine : built-refusal (applied cs t .r
       → through arc-origins p ≡ through arc-origins q → p ≡ q
   unfolding applied
   applied-never-two p q h k e =
-      let r : Steps-of p = steps-of p h in
-      let s : Steps-of q = steps-of q k in
+      let r : Lattice-steps p = steps-of p h in
+      let s : Lattice-steps q = steps-of q k in
       let same : taken p ≡ taken q =
       never-two cs t (first-state t) (taken p) (taken q) (r .last) (s .last) (r .accepting .trail) (s .accepting .trail)
       (sym (through-numbers p) ∙ e ∙ through-numbers q) in

@@ -20,5 +20,5 @@ pub mod KeyFinals
 pub mod Tracing
 -- What the calls leave and answer
 pub mod Closing
-pub mod AppliedWritten
 pub mod ApplySays
+pub mod AppliedWritten

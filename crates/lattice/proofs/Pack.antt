@@ -10,8 +10,8 @@ use Rattle.lattice.specs.Pack.{pack, unpacked}
 pub unpacked-pack : (x : State) → x .state < max-states → unpacked (pack x) ≡ x
 unfolding pack unpacked
 unpacked-pack x l =
-    let high : (x .position * 1024 + x .state) / 1024 ≡ x .position = div-eq-of-lt-le 1024 (omega arith) (omega arith) in
-    let low : (x .position * 1024 + x .state) % 1024 ≡ x .state = mul-add-mod-self-right (x .position) 1024 (x .state) ∙ mod-eq-of-lt l in
+    let high : (x .position * max-states + x .state) / max-states ≡ x .position = div-eq-of-lt-le max-states (omega arith) (omega arith) in
+    let low : (x .position * max-states + x .state) % max-states ≡ x .state = mul-add-mod-self-right (x .position) max-states (x .state) ∙ mod-eq-of-lt l in
     rw (high, low)
 
 -- Whatever the number, the state unpacked is a state's number.

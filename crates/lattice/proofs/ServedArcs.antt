@@ -15,10 +15,11 @@ use Rattle.transducer.specs.Path.{arc}
 use Rattle.transducer.specs.Each.{fits, passed}
 use Rattle.transducer.specs.Leaf.{arcs-below, Indexed, Leaving}
 use Rattle.transducer.proofs.Fits.{fits-empty, reads-fits, passed-output}
-use Rattle.transducer.proofs.GoodParts.{good-parts}
+use Rattle.transducer.proofs.Good.{good-tests}
 use Rattle.transducer.proofs.Labels.{arc-unbarred}
 use Rattle.transducer.proofs.Leaving.{state-leaving}
-use Rattle.transducer.proofs.Ranges.{from-to, map-from-to, each-arc-range, arcs-below-length}
+use Rattle.transducer.proofs.Ranges.{from-to, map-from-to, each-arc-range}
+use Rattle.transducer.proofs.Index.{arcs-below-length}
 use Rattle.explore.specs.declared.Walk.{Walk}
 use Rattle.explore.specs.Explore.{place}
 use Rattle.explore.specs.Walk.{Keyed, keyed, Sofar, taken, all-taken, state-served, traced-by, Walked, Went}
@@ -103,7 +104,7 @@ module _ (cs : List ℕ) (t : Transducer) (x : State) (good : Good t) (i : ℕ) 
     (read written : ℕ) (from : read ≡ a .input) (same : written ≡ a .output) where
   own-output : a .input < any → written ≡ passed read a
   own-output l =
-      let r = arc-unbarred t i (good-parts t good .labels-are) below (rw is at l) in
+      let r = arc-unbarred t i (good-tests t good .labels) below (rw is at l) in
       let short : a .output < any = rw is (r .written) in
       same ∙ sym (passed-output read a short)
 

@@ -6,10 +6,8 @@ use mathlib.Core.List.{List, [], _∷_, map}
 use Prim.Native.Nat.{ℕ, _+_, _≤_, _<_}
 use lib.Dec.{eqb}
 use lib.ListN.{length, getD, take, drop}
-use Rattle.wire.specs.Bytes.{filled}
 use Rattle.transducer.specs.declared.Arc.{Arc}
 use Rattle.transducer.specs.declared.Final.{Final}
-use Rattle.transducer.specs.declared.Written.{Written}
 use Rattle.transducer.specs.Format.{Transducer, max-states, max-arcs, max-bytes, arcs-at, refusal, decode}
 use Rattle.transducer.specs.Encode.{encode}
 use Rattle.transducer.specs.Each.{named}
@@ -65,12 +63,12 @@ closed codes last b =
     record { states = length (b .keys); start = 0; finals = key-finals codes last (b .keys); arcs = b .arcs }
 
 -- Where the walk writes the arcs: behind room for the head and as many finals as there can be.
-abbrev pub arcs-from : ℕ
-arcs-from = arcs-at max-states
+abbrev pub arcs-place : ℕ
+arcs-place = arcs-at max-states
 
 -- Its bytes stand from a place on, where there are at most 3,072 arcs.
 pub record Closes (t : Transducer) (from : ℕ) (table table' : List ℕ) : Type 0 where
-  pub begins : from + arcs-at (length (t .finals)) ≡ arcs-from
+  pub begins : from + arcs-at (length (t .finals)) ≡ arcs-place
   pub kept : length table' ≡ length table
   pub stands : take (length (encode t)) (drop from table') ≡ encode t
 
@@ -82,10 +80,3 @@ pub record Apply-asks (cs bs : List ℕ) (exact : Bool) (lattice origins pairs :
   pub lattice-long : max-bytes ≤ lattice
   pub origins-long : max-arcs ≤ origins
   pub pairs-long : max-states ≤ pairs
-
--- A refusal once the buffers have been written to.
-pub record Refused-with (number : ℕ) (r : Written) (a a' b b' c c' : List ℕ) : Type 0 where
-  pub answer : r ≡ record { refusal = number; len = 0 }
-  pub table : a' ≡ filled (length a) []
-  pub origins : b' ≡ filled (length b) []
-  pub pairs : c' ≡ filled (length c) []

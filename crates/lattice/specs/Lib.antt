@@ -1,4 +1,4 @@
--- What a caller must believe
+-- What a caller must believe, and what is claimed (`Lattice.Reads-one-to-one`)
 pub mod Apply
 pub mod Lattice
 pub mod ApplyEntry

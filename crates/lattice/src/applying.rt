@@ -4,18 +4,19 @@ ghost use mathlib.Core.Bool.{cond};
 ghost use mathlib.Core.List.{List, map};
 ghost use Prim.Native.Nat.{ℕ, _≤_, _<_};
 ghost use lib.Dec.{ltb, eqb};
-ghost use lib.ListN.{length, getD, take};
+ghost use lib.ListN.{length, getD, take, drop};
 ghost use lib.Seq.{sets};
 ghost use Rattle.transducer.specs.Format.{max-states, max-arcs, max-bytes, head-bytes, arcs-at, decode};
 ghost use Rattle.transducer.specs.Encode.{final-records};
 ghost use Rattle.explore.specs.Explore.{built-refusal};
-ghost use Rattle.explore.specs.Walk.{Sofar, taken, state-served, Walked, Went, Walk-says, Told};
+ghost use Rattle.explore.specs.Walk.{Sofar, taken, state-served, max-arc-bytes, Holds, Takes, Walk-says, Walk-told};
 ghost use Rattle.lattice.specs.Apply.{string-good, applied};
 ghost use Rattle.lattice.specs.ApplyEntry.{Apply-says, apply-refusal};
 ghost use Rattle.lattice.specs.Pack.{unpacked};
 ghost use Rattle.lattice.specs.Applying.{next, arc-keyed, found, Applicable, State-in, key-code, key-finals, Small-codes, closed, Closes};
-ghost use Rattle.lattice.specs.Applying.{Apply-asks, Refused-with};
+ghost use Rattle.lattice.specs.Applying.{arcs-place, Apply-asks};
 use crate::packing;
+use explore::BUCKETS;
 use explore::Walk;
 use transducer::ARC_BYTES;
 use transducer::Arc;
@@ -28,7 +29,7 @@ use transducer::MAX_SYMBOLS;
 use transducer::Written;
 
 // Where the walk writes the arcs: behind room for the head and as many finals as there can be.
-const ARCS_FROM: usize = MAX_BYTES - ARC_BYTES * MAX_ARCS;
+const ARCS_PLACE: usize = MAX_BYTES - ARC_BYTES * MAX_ARCS;
 
 // Whether a string has at most 64 symbols, none of them empty or barred.
 fn string_ok(string: &[u16]) -> bool
@@ -77,14 +78,14 @@ fn take_step(
     table: &mut [u8],
     origins: &mut [u16],
     states: &mut [u32],
-    heads: &mut [u16; MAX_STATES],
+    heads: &mut [u16; BUCKETS],
     links: &mut [u16; MAX_STATES],
 ) -> Walk
     requires { ⌜ i < max-arcs ⌝ }
-    requires { ⌜ ((b : Sofar) × Walked 1 b w (now table) (now origins) (now states) (now heads) (now links)) ⌝ }
-    ensures { λ z. ⌜ ((b : Sofar) → Walked 1 b w (now (table .entry)) (now (origins .entry)) (now (states .entry)) (now (heads .entry)) (now (links .entry)) →
-        Went 1 (taken (a .source) (arc-keyed a i key) b) z
-        (now (table .exit)) (now (origins .exit)) (now (states .exit)) (now (heads .exit)) (now (links .exit))) ⌝ }
+    requires { ⌜ Holds 1 w (now table) (now origins) (now states) (now heads) (now links) ⌝ }
+    ensures { λ z. ⌜ Takes 1 (taken (a .source) (arc-keyed a i key)) w z (now (table .entry)) (now (table .exit))
+        (now (origins .entry)) (now (origins .exit)) (now (states .entry)) (now (states .exit))
+        (now (heads .entry)) (now (heads .exit)) (now (links .entry)) (now (links .exit)) ⌝ }
 {
     let count = w.states;
     let number = explore::find(states, heads, links, count, key);
@@ -121,15 +122,15 @@ fn serve(
     table: &mut [u8],
     origins: &mut [u16],
     states: &mut [u32],
-    heads: &mut [u16; MAX_STATES],
+    heads: &mut [u16; BUCKETS],
     links: &mut [u16; MAX_STATES],
 ) -> Walk
     requires { ⌜ Applicable (now string) (now bytes) exact first (now index) × (source < w .states)
         × State-in (now string) (decode (now bytes)) (unpacked (getD (now states) source 0)) ⌝ }
-    requires { ⌜ ((b : Sofar) × Walked 1 b w (now table) (now origins) (now states) (now heads) (now links)) ⌝ }
-    ensures { λ z. ⌜ ((b : Sofar) → Walked 1 b w (now (table .entry)) (now (origins .entry)) (now (states .entry)) (now (heads .entry)) (now (links .entry)) →
-        Went 1 (state-served (next (now (string .entry)) (decode (now (bytes .entry)))) source b) z
-        (now (table .exit)) (now (origins .exit)) (now (states .exit)) (now (heads .exit)) (now (links .exit))) ⌝ }
+    requires { ⌜ Holds 1 w (now table) (now origins) (now states) (now heads) (now links) ⌝ }
+    ensures { λ z. ⌜ Takes 1 (state-served (next (now (string .entry)) (decode (now (bytes .entry)))) source) w z
+        (now (table .entry)) (now (table .exit)) (now (origins .entry)) (now (origins .exit)) (now (states .entry)) (now (states .exit))
+        (now (heads .entry)) (now (heads .exit)) (now (links .entry)) (now (links .exit)) ⌝ }
 {
     let key = states[source];
     let x = packing::unpack(key);
@@ -186,11 +187,11 @@ fn walk_all(
     states: &mut [u32],
 ) -> Walk
     requires { ⌜ Applicable (now string) (now bytes) exact first (now index) × (start ≡ decode (now bytes) .start) ⌝ }
-    requires { ⌜ (max-bytes ≤ length (now table)) × (max-arcs ≤ length (now origins)) × (max-states ≤ length (now states)) ⌝ }
+    requires { ⌜ (max-arc-bytes ≤ length (now table)) × (max-arcs ≤ length (now origins)) × (max-states ≤ length (now states)) ⌝ }
     ensures { λ r. ⌜ Walk-says 1 (found (now (string .entry)) (decode (now (bytes .entry)))) r (now (table .entry)) (now (table .exit))
         (now (origins .entry)) (now (origins .exit)) (now (states .entry)) (now (states .exit)) ⌝ }
 {
-    let mut heads = [0u16; MAX_STATES];
+    let mut heads = [0u16; BUCKETS];
     let mut links = [0u16; MAX_STATES];
     let first_key = packing::pack(0, start);
     explore::insert(states, &mut heads, &mut links, 0, first_key);
@@ -222,6 +223,38 @@ fn walk_all(
         s += 1;
     }
     walk
+}
+
+// The same walk in a buffer that has room for head and finals in front of the arcs.
+fn walk_behind(
+    string: &[u16],
+    bytes: &[u8],
+    exact: bool,
+    first: usize,
+    index: &[u16; MAX_STATES + 1],
+    start: u32,
+    table: &mut [u8],
+    origins: &mut [u16],
+    states: &mut [u32],
+) -> Walk
+    requires { ⌜ Applicable (now string) (now bytes) exact first (now index) × (start ≡ decode (now bytes) .start) ⌝ }
+    requires { ⌜ (max-bytes ≤ length (now table)) × (max-arcs ≤ length (now origins)) × (max-states ≤ length (now states)) ⌝ }
+    ensures { λ r. ⌜ Walk-says 1 (found (now (string .entry)) (decode (now (bytes .entry)))) r
+        (drop arcs-place (now (table .entry))) (drop arcs-place (now (table .exit)))
+        (now (origins .entry)) (now (origins .exit)) (now (states .entry)) (now (states .exit)) ⌝ }
+{
+    let part = &mut table[ARCS_PLACE..];
+    walk_all(
+        string,
+        bytes,
+        exact,
+        first,
+        index,
+        start,
+        part,
+        origins,
+        states,
+    )
 }
 
 // The final code of the state of a key: that of its state where its position is the last, else 0.
@@ -279,14 +312,15 @@ fn put_finals(codes: &[u32; MAX_STATES], last: u32, states: &[u32], count: usize
 
 // Writes head and finals in front of the arcs. Answers where the head begins.
 fn close(codes: &[u32; MAX_STATES], last: u32, states: &[u32], w: Walk, table: &mut [u8]) -> usize
-    requires { ⌜ ((b : Sofar) × (origins : List ℕ) × Told 1 b w (now table) origins (now states)) × (w .arcs ≤ max-arcs) × Small-codes (now codes) ⌝ }
-    ensures { λ r. ⌜ ((b : Sofar) (origins : List ℕ) → Told 1 b w (now (table .entry)) origins (now (states .entry)) →
+    requires { ⌜ ((b : Sofar) × (origins : List ℕ) × Walk-told 1 b w (drop arcs-place (now table)) origins (now states))
+        × (w .arcs ≤ max-arcs) × Small-codes (now codes) ⌝ }
+    ensures { λ r. ⌜ ((b : Sofar) (origins : List ℕ) → Walk-told 1 b w (drop arcs-place (now (table .entry))) origins (now (states .entry)) →
         Closes (closed (now (codes .entry)) last b) r (now (table .entry)) (now (table .exit))) ⌝ }
 {
     let count = w.states;
     let arcs = w.arcs;
     let finals = final_count(codes, last, states, count);
-    let from = ARCS_FROM - transducer::arcs_at(finals);
+    let from = ARCS_PLACE - transducer::arcs_at(finals);
     let part = &mut table[from..];
     put_finals(codes, last, states, count, part);
     transducer::put_head(part, count as u16, arcs as u16, finals as u16, 0);
@@ -304,17 +338,6 @@ fn trace(origins: &mut [u16], count: usize, arcs: &[u16; MAX_ARCS])
         origins[i] = arcs[j];
         i += 1;
     }
-}
-
-// Refuses with 11 or 12: every buffer is all zeros.
-fn refuse(lattice: &mut [u8], origins: &mut [u16], pairs: &mut [u32], number: u32) -> Written
-    ensures { λ r. ⌜ Refused-with number r
-        (now (lattice .entry)) (now (lattice .exit)) (now (origins .entry)) (now (origins .exit)) (now (pairs .entry)) (now (pairs .exit)) ⌝ }
-{
-    wire::clear8(lattice, 0);
-    wire::clear16(origins, 0);
-    wire::clear32(pairs, 0);
-    transducer::refused(number)
 }
 
 // Applies a good string to an accepted transducer, into buffers that are long enough; `exact` only where no arc is for any symbol.
@@ -341,7 +364,7 @@ fn apply_into(
     );
     let mut table = [0u8; MAX_BYTES];
     let mut arcs = [0u16; MAX_ARCS];
-    let w = walk_all(
+    let w = walk_behind(
         string,
         bytes,
         exact,
@@ -353,15 +376,15 @@ fn apply_into(
         pairs,
     );
     if w.full != 0 {
-        return refuse(lattice, origins, pairs, 11);
+        return explore::refuse(lattice, origins, pairs, 11);
     }
     let m = w.arcs;
     if MAX_ARCS < m {
-        return refuse(lattice, origins, pairs, 12);
+        return explore::refuse(lattice, origins, pairs, 12);
     }
     let codes = transducer::final_codes(bytes, f);
     let from = close(&codes, string.len() as u32, pairs, w, &mut table);
-    let end = ARCS_FROM + ARC_BYTES * m;
+    let end = ARCS_PLACE + ARC_BYTES * m;
     let len = trim::trim_into(&table[from..end], true, lattice, origins);
     let kept = wire::u16_at(lattice, 6) as usize;
     trace(origins, kept, &arcs);

@@ -14,7 +14,7 @@ use Rattle.transducer.specs.Path.{runs, ends, written-by, arcs-cost}
 use Rattle.transducer.specs.Weight.{no-weight, plus, At-most, Below}
 use Rattle.transducer.proofs.Weights.{sums, either}
 use Rattle.transducer.proofs.Runs.{Accepting, append-accepting, runs-append, ends-append, Within}
-use Rattle.transducer.proofs.Rings.{Ring, ring-round, long-has-ring}
+use Rattle.transducer.proofs.Cycles.{Cycle, cycle-round, long-has-cycle}
 use Rattle.wire.proofs.Bool.{true-and}
 use Rattle.least.specs.Costs.{cost-from}
 use Rattle.least.specs.Cycles.{Falling}
@@ -30,12 +30,12 @@ falling-accepting t s f =
     append-accepting t s (f .lead) (f .cycle ++ f .rest) (f .there)
     (append-accepting t (ends t s (f .lead)) (f .cycle) (f .rest) (f .around) (rw (f .back) (falling-rest t s f)))
 
-pub ring-falling : (t : Transducer) (s : ℕ) (p : List ℕ) → (r : Ring t s p) → Accepting t s p → Below (arcs-cost t (r .ring)) no-weight → Falling t s
-ring-falling t s p r a low =
-    let o = ring-round t s p r a in
+pub cycle-falling : (t : Transducer) (s : ℕ) (p : List ℕ) → (r : Cycle t s p) → Accepting t s p → Below (arcs-cost t (r .cycle)) no-weight → Falling t s
+cycle-falling t s p r a low =
+    let o = cycle-round t s p r a in
     record {
       lead = r .lead;
-      cycle = r .ring;
+      cycle = r .cycle;
       rest = r .rest;
       there = o .there;
       around = o .around;
@@ -78,18 +78,19 @@ record Cut (t : Transducer) (s : ℕ) (p : List ℕ) : Type 0 where
   labels : length (written-by t path) ≤ length (written-by t p)
   arcs : length path < length p
 
-cut : (t : Transducer) (s : ℕ) (p : List ℕ) → (r : Ring t s p) → Accepting t s p → At-most no-weight (arcs-cost t (r .ring)) → Cut t s p
+cut : (t : Transducer) (s : ℕ) (p : List ℕ) → (r : Cycle t s p) → Accepting t s p → At-most no-weight (arcs-cost t (r .cycle)) → Cut t s p
 cut t s p r a high =
-    let o = ring-round t s p r a in
+    let o = cycle-round t s p r a in
     let u : ℕ = ends t s (r .lead) in
     let q : List ℕ = r .lead ++ r .rest in
-    let long : length p ≡ length (r .lead) + (length (r .ring) + length (r .rest)) = ap length (r .whole) ∙ simp length-append in
+    let long : length p ≡ length (r .lead) + (length (r .cycle) + length (r .rest)) = ap length (r .whole) ∙ simp length-append in
     let short : length q ≡ length (r .lead) + length (r .rest) = length-append (r .lead) (r .rest) in
-    let some : 0 < length (r .ring) = r .some in
-    let around : cost-from t u (r .ring ++ r .rest) ≡ plus (arcs-cost t (r .ring)) (cost-from t u (r .rest)) = cost-round t u (r .ring) (r .rest) (o .back) in
-    let more : At-most (cost-from t u (r .rest)) (cost-from t u (r .ring ++ r .rest)) = rw around (omega (arith, sums)) in
-    let whole : cost-from t s p ≡ plus (arcs-cost t (r .lead)) (cost-from t u (r .ring ++ r .rest)) =
-    ap (cost-from t s) (r .whole) ∙ cost-append t s (r .lead) (r .ring ++ r .rest) in
+    let some : 0 < length (r .cycle) = r .some in
+    let around : cost-from t u (r .cycle ++ r .rest) ≡ plus (arcs-cost t (r .cycle)) (cost-from t u (r .rest)) =
+    cost-round t u (r .cycle) (r .rest) (o .back) in
+    let more : At-most (cost-from t u (r .rest)) (cost-from t u (r .cycle ++ r .rest)) = rw around (omega (arith, sums)) in
+    let whole : cost-from t s p ≡ plus (arcs-cost t (r .lead)) (cost-from t u (r .cycle ++ r .rest)) =
+    ap (cost-from t s) (r .whole) ∙ cost-append t s (r .lead) (r .cycle ++ r .rest) in
     record {
       path = q;
       accepting = append-accepting t s (r .lead) (r .rest) (o .there) (o .on);
@@ -97,8 +98,8 @@ cut t s p r a high =
       labels = omega (
         arith,
         ap (λ (x : List ℕ). length (written-by t x)) (r .whole),
-        labels-append t (r .lead) (r .ring ++ r .rest),
-        labels-append t (r .ring) (r .rest),
+        labels-append t (r .lead) (r .cycle ++ r .rest),
+        labels-append t (r .cycle) (r .rest),
         labels-append t (r .lead) (r .rest),
       );
       arcs = omega arith;
@@ -122,21 +123,21 @@ shorter-by t w s b (suc fuel) p h a = on (λ q l. shorter-by t w s b fuel q l) (
           arcs = omega (arith, d .arcs, q .arcs);
         })
 
-    around : ((q : List ℕ) → length q ≤ fuel → Accepting t s q → Falling t s ⊎ Shorter t s q) → (r : Ring t s p)
-        → (At-most no-weight (arcs-cost t (r .ring))) ⊎ (Below (arcs-cost t (r .ring)) no-weight) → Falling t s ⊎ Shorter t s p
+    around : ((q : List ℕ) → length q ≤ fuel → Accepting t s q → Falling t s ⊎ Shorter t s q) → (r : Cycle t s p)
+        → (At-most no-weight (arcs-cost t (r .cycle))) ⊎ (Below (arcs-cost t (r .cycle)) no-weight) → Falling t s ⊎ Shorter t s p
     around below r (inl high) =
         let q : Cut t s p = cut t s p r a high in
         let less : length (q .path) < length p = q .arcs in
         next q (below (q .path) (omega arith) (q .accepting))
-    around below r (inr low) = inl (ring-falling t s p r a low)
+    around below r (inr low) = inl (cycle-falling t s p r a low)
 
     on : ((q : List ℕ) → length q ≤ fuel → Accepting t s q → Falling t s ⊎ Shorter t s q) → (c : Bool) → ltb (length p) (t .states) ≡ c
         → Falling t s ⊎ Shorter t s p
     on below true e =
         inr (record { path = p; accepting = a; few = ltb-true (length p) (t .states) e; costs = omega (arith, sums); labels = omega arith; arcs = omega arith })
     on below false e =
-        let r : Ring t s p = long-has-ring t w s p b (a .goes) (ltb-false (length p) (t .states) e) in
-        around below r (either (arcs-cost t (r .ring)) no-weight)
+        let r : Cycle t s p = long-has-cycle t w s p b (a .goes) (ltb-false (length p) (t .states) e) in
+        around below r (either (arcs-cost t (r .cycle)) no-weight)
 
 pub falling-or-shorter : (t : Transducer) → Within t → (s : ℕ) (p : List ℕ) → s < t .states → Accepting t s p → Falling t s ⊎ Shorter t s p
 falling-or-shorter t w s p b a = shorter-by t w s b (length p) p (omega arith) a

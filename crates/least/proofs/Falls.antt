@@ -18,7 +18,7 @@ use Rattle.transducer.specs.Weight.{Weight, no-weight, plus, At-most, Below, be
 use Rattle.transducer.proofs.Weights.{sums, either, sum as weight-sum, plus-assoc}
 use Rattle.transducer.proofs.Paths.{Runs, runs-cons, cons-runs}
 use Rattle.transducer.proofs.Runs.{Accepting, append-accepting, runs-append, ends-append, Within, ends-below}
-use Rattle.transducer.proofs.Rings.{Ring, long-has-ring}
+use Rattle.transducer.proofs.Cycles.{Cycle, long-has-cycle}
 use Rattle.reach.specs.Reach.{accessible, coaccessible}
 use Rattle.reach.proofs.Counted.{last-or-below}
 use Rattle.reach.specs.Marks.{Passes}
@@ -148,19 +148,19 @@ path-falls-to (suc most) t s to x (i ∷ p) h e l b =
 -- A cycle below zero of at most as many arcs as there are states: a longer one comes back to a state on its way, and what it goes round there or the rest of
 -- it sums below zero.
 
-record Parts (t : Transducer) (s : ℕ) (a b c : List ℕ) : Type 0 where
+record Three-runs (t : Transducer) (s : ℕ) (a b c : List ℕ) : Type 0 where
   there : runs t s a ≡ true
   around : runs t (ends t s a) b ≡ true
   on : runs t (ends t (ends t s a) b) c ≡ true
 
-parts : (t : Transducer) (s : ℕ) (a b c : List ℕ) → runs t s (a ++ (b ++ c)) ≡ true → Parts t s a b c
-parts t s a b c h =
+three-runs : (t : Transducer) (s : ℕ) (a b c : List ℕ) → runs t s (a ++ (b ++ c)) ≡ true → Three-runs t s a b c
+three-runs t s a b c h =
     let u : ℕ = ends t s a in
     let one = and-true (runs t s a) (runs t u (b ++ c)) (sym (runs-append t s a (b ++ c)) ∙ h) in
     let two = and-true (runs t u b) (runs t (ends t u b) c) (sym (runs-append t u b c) ∙ one .1) in
     record { there = one .0; around = two .0; on = two .1 }
 
-pub record Short (t : Transducer) (s : ℕ) : Type 0 where
+pub record Short-cycle (t : Transducer) (s : ℕ) : Type 0 where
   pub falls : Falling t s
   pub few : length (falls .cycle) ≤ t .states
 
@@ -169,44 +169,44 @@ record Less (t : Transducer) (s : ℕ) (most : ℕ) : Type 0 where
   falls : Falling t s
   few : length (falls .cycle) < most
 
-module _ (t : Transducer) (s : ℕ) (f : Falling t s) (r : Ring t (ends t s (f .lead)) (f .cycle)) (less : length (r .ring) < length (f .cycle)) where
+module _ (t : Transducer) (s : ℕ) (f : Falling t s) (r : Cycle t (ends t s (f .lead)) (f .cycle)) (less : length (r .cycle) < length (f .cycle)) where
   u : ℕ
   u = ends t s (f .lead)
 
   v : ℕ
   v = ends t u (r .lead)
 
-  whole : runs t u (r .lead ++ (r .ring ++ r .rest)) ≡ true
+  whole : runs t u (r .lead ++ (r .cycle ++ r .rest)) ≡ true
   unfolding u
   whole = rw (r .whole) at (f .around)
 
-  three : Parts t u (r .lead) (r .ring) (r .rest)
+  three : Three-runs t u (r .lead) (r .cycle) (r .rest)
   unfolding u
-  three = parts t u (r .lead) (r .ring) (r .rest) whole
+  three = three-runs t u (r .lead) (r .cycle) (r .rest) whole
 
-  back : ends t v (r .ring) ≡ v
+  back : ends t v (r .cycle) ≡ v
   unfolding u v
-  back = sym (ends-append t u (r .lead) (r .ring)) ∙ r .back
+  back = sym (ends-append t u (r .lead) (r .cycle)) ∙ r .back
 
   -- The end of the cycle without the part.
   home : ends t v (r .rest) ≡ u
   unfolding u v
   home =
       ap (λ (x : ℕ). ends t x (r .rest)) (sym back)
-      ∙ (sym (ends-append t v (r .ring) (r .rest))
-      ∙ (sym (ends-append t u (r .lead) (r .ring ++ r .rest)) ∙ (ap (ends t u) (sym (r .whole)) ∙ f .back)))
+      ∙ (sym (ends-append t v (r .cycle) (r .rest))
+      ∙ (sym (ends-append t u (r .lead) (r .cycle ++ r .rest)) ∙ (ap (ends t u) (sym (r .whole)) ∙ f .back)))
 
   to : ends t s (f .lead ++ r .lead) ≡ v
   unfolding u v
   to = ends-append t s (f .lead) (r .lead)
 
-  sum : arcs-cost t (f .cycle) ≡ plus (arcs-cost t (r .lead)) (plus (arcs-cost t (r .ring)) (arcs-cost t (r .rest)))
+  sum : arcs-cost t (f .cycle) ≡ plus (arcs-cost t (r .lead)) (plus (arcs-cost t (r .cycle)) (arcs-cost t (r .rest)))
   sum =
       ap (arcs-cost t) (r .whole)
-      ∙ (arcs-cost-append t (r .lead) (r .ring ++ r .rest)
-      ∙ ap (λ (x : Weight). plus (arcs-cost t (r .lead)) x) (arcs-cost-append t (r .ring) (r .rest)))
+      ∙ (arcs-cost-append t (r .lead) (r .cycle ++ r .rest)
+      ∙ ap (λ (x : Weight). plus (arcs-cost t (r .lead)) x) (arcs-cost-append t (r .cycle) (r .rest)))
 
-  part : Below (arcs-cost t (r .ring)) no-weight → Less t s (length (f .cycle))
+  part : Below (arcs-cost t (r .cycle)) no-weight → Less t s (length (f .cycle))
   unfolding u v
   part low =
       let behind : Accepting t v (r .rest ++ f .rest) =
@@ -215,7 +215,7 @@ module _ (t : Transducer) (s : ℕ) (f : Falling t s) (r : Ring t (ends t s (f .
         falls =
             record {
               lead = f .lead ++ r .lead;
-              cycle = r .ring;
+              cycle = r .cycle;
               rest = r .rest ++ f .rest;
               there = runs-append t s (f .lead) (r .lead) ∙ true-and (runs t s (f .lead)) (runs t u (r .lead)) (f .there) (three .there);
               around = rw to (three .around);
@@ -227,14 +227,14 @@ module _ (t : Transducer) (s : ℕ) (f : Falling t s) (r : Ring t (ends t s (f .
         few = less;
       }
 
-  others : At-most no-weight (arcs-cost t (r .ring)) → Less t s (length (f .cycle))
+  others : At-most no-weight (arcs-cost t (r .cycle)) → Less t s (length (f .cycle))
   unfolding u v
   others high =
       let c : List ℕ = r .lead ++ r .rest in
-      let long : length (f .cycle) ≡ length (r .lead) + (length (r .ring) + length (r .rest)) = ap length (r .whole) ∙ simp length-append in
+      let long : length (f .cycle) ≡ length (r .lead) + (length (r .cycle) + length (r .rest)) = ap length (r .whole) ∙ simp length-append in
       let short : length c ≡ length (r .lead) + length (r .rest) = length-append (r .lead) (r .rest) in
-      let some : 0 < length (r .ring) = r .some in
-      let low : Below (plus (arcs-cost t (r .lead)) (plus (arcs-cost t (r .ring)) (arcs-cost t (r .rest)))) no-weight = rw sum at (f .sum) in
+      let some : 0 < length (r .cycle) = r .some in
+      let low : Below (plus (arcs-cost t (r .lead)) (plus (arcs-cost t (r .cycle)) (arcs-cost t (r .rest)))) no-weight = rw sum at (f .sum) in
       record {
         falls =
             record {
@@ -246,7 +246,7 @@ module _ (t : Transducer) (s : ℕ) (f : Falling t s) (r : Ring t (ends t s (f .
               back = ends-append t u (r .lead) (r .rest) ∙ home;
               on = f .on;
               final = f .final;
-              sum = rw (arcs-cost-append t (r .lead) (r .rest)) (less-by (arcs-cost t (r .lead)) (arcs-cost t (r .ring)) (arcs-cost t (r .rest)) high low);
+              sum = rw (arcs-cost-append t (r .lead) (r .rest)) (less-by (arcs-cost t (r .lead)) (arcs-cost t (r .cycle)) (arcs-cost t (r .rest)) high low);
             };
         few = omega arith;
       }
@@ -255,34 +255,36 @@ module _ (t : Transducer) (s : ℕ) (f : Falling t s) (r : Ring t (ends t s (f .
       less-by a b c p q = omega (arith, sums, weight-sum b c)
 
   shorter-cycle : Less t s (length (f .cycle))
-  shorter-cycle = on (either (arcs-cost t (r .ring)) no-weight)
+  shorter-cycle = on (either (arcs-cost t (r .cycle)) no-weight)
     where
-      on : (At-most no-weight (arcs-cost t (r .ring))) ⊎ (Below (arcs-cost t (r .ring)) no-weight) → Less t s (length (f .cycle))
+      on : (At-most no-weight (arcs-cost t (r .cycle))) ⊎ (Below (arcs-cost t (r .cycle)) no-weight) → Less t s (length (f .cycle))
       on (inl high) = others high
       on (inr low) = part low
 
 -- A cycle of more arcs than there are states, from its second state on.
-long-cycle : (t : Transducer) → Within t → (u : ℕ) (c : List ℕ) → runs t u c ≡ true → t .states < length c → (r : Ring t u c) × (length (r .ring) < length c)
+long-cycle : (t : Transducer) → Within t → (u : ℕ) (c : List ℕ) → runs t u c ≡ true → t .states < length c → (r : Cycle t u c) × (length (r .cycle) < length c)
 unfolding ends
 long-cycle t w u [] h l = absurd (omega arith)
 long-cycle t w u (i ∷ c) h l =
     let r : Runs t u i c = runs-cons t u i c h in
-    let o : Ring t (arc t i .target) c = long-has-ring t w (arc t i .target) c (w .arrives i (r .below)) (r .rest) (omega arith) in
-    let all : length c ≡ length (o .lead) + (length (o .ring) + length (o .rest)) = ap length (o .whole) ∙ simp length-append in
-    (record { lead = i ∷ o .lead; ring = o .ring; rest = o .rest; whole = ap (λ (x : List ℕ). i ∷ x) (o .whole); some = o .some; back = o .back }, omega arith)
+    let o : Cycle t (arc t i .target) c = long-has-cycle t w (arc t i .target) c (w .arrives i (r .below)) (r .rest) (omega arith) in
+    let all : length c ≡ length (o .lead) + (length (o .cycle) + length (o .rest)) = ap length (o .whole) ∙ simp length-append in (
+      record { lead = i ∷ o .lead; cycle = o .cycle; rest = o .rest; whole = ap (λ (x : List ℕ). i ∷ x) (o .whole); some = o .some; back = o .back },
+      omega arith,
+    )
 
-short-by : (t : Transducer) → Within t → (s fuel : ℕ) (f : Falling t s) → length (f .cycle) ≤ fuel → Short t s
+short-by : (t : Transducer) → Within t → (s fuel : ℕ) (f : Falling t s) → length (f .cycle) ≤ fuel → Short-cycle t s
 short-by t w s zero f h = record { falls = f; few = omega arith }
 short-by t w s (suc fuel) f h = on (λ g l. short-by t w s fuel g l) (leb (length (f .cycle)) (t .states)) refl
   where
-    on : ((g : Falling t s) → length (g .cycle) ≤ fuel → Short t s) → (b : Bool) → leb (length (f .cycle)) (t .states) ≡ b → Short t s
+    on : ((g : Falling t s) → length (g .cycle) ≤ fuel → Short-cycle t s) → (b : Bool) → leb (length (f .cycle)) (t .states) ≡ b → Short-cycle t s
     on more true e = record { falls = f; few = leb-true (length (f .cycle)) (t .states) e }
     on more false e =
         let r = long-cycle t w (ends t s (f .lead)) (f .cycle) (f .around) (leb-false (length (f .cycle)) (t .states) e) in
         let g : Less t s (length (f .cycle)) = shorter-cycle t s f (r .0) (r .1) in
         more (g .falls) (omega (arith, g .few))
 
-pub short-falling : (t : Transducer) → Within t → (s : ℕ) → Falling t s → Short t s
+pub short-falling : (t : Transducer) → Within t → (s : ℕ) → Falling t s → Short-cycle t s
 short-falling t w s f = short-by t w s (length (f .cycle)) f (omega arith)
 
 -- Both ways, whichever states count, as long as those count to which arcs lead from one that does.
@@ -312,7 +314,7 @@ module _ (t : Transducer) (counts : ℕ → Bool) where
   pub falls-among : Within t → Passes t false counts → Falls t counts → falling-among t counts ≡ true
   unfolding falling-among falls-round
   falls-among w m f =
-      let g : Short t (f .state) = short-falling t w (f .state) (f .falling) in
+      let g : Short-cycle t (f .state) = short-falling t w (f .state) (f .falling) in
       let o = g .falls in
       let n : ℕ = t .states in
       let s : ℕ = ends t (f .state) (g .falls .lead) in

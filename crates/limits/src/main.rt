@@ -4,12 +4,6 @@
 ghost use Prim.Native.Nat.{_<_};
 ghost use lib.ListN.{length};
 
-mod composing;
-mod latticing;
-mod lent;
-mod load;
-mod show;
-mod tables;
 mod telling;
 
 // The bytes that all cases take at most.
@@ -18,14 +12,14 @@ const INPUT: usize = 655360;
 // Makes the call that a case names by number.
 fn call(number: u8, case: &[u8], room: u8) {
     match number {
-        1 => tables::read(case, room),
-        2 => tables::write(case, room),
-        3 => tables::round_trip(case),
-        4 => composing::compose(case, room),
-        5 => latticing::apply(case, room),
-        6 => latticing::trim(case, room),
-        7 => telling::count(case),
-        8 => telling::nth(case, room),
+        1 => calls::read(case, room),
+        2 => calls::write(case, room),
+        3 => calls::round_trip(case),
+        4 => calls::compose(case, room),
+        5 => calls::apply(case, room),
+        6 => calls::trim(case, room),
+        7 => calls::count(case),
+        8 => calls::nth(case, room),
         9 => telling::shortest(case, room),
         _ => telling::distance(case, room),
     }
@@ -37,12 +31,12 @@ fn run_case(cases: &[u8], at: usize) -> usize
     ensures { λ r. ⌜ at < r ⌝ }
 {
     let number = cases[at];
-    let room = load::byte(cases, at + 1);
-    let name = load::u16_or_0(cases, at + 2) as usize;
-    let size = load::u32_or_0(cases, at + 4) as usize;
-    show::word(load::part(cases, at + 8, name));
-    call(number, load::part(cases, at + 8 + name, size), room);
-    show::word(b"\n");
+    let room = calls::byte(cases, at + 1);
+    let name = calls::u16_or_0(cases, at + 2) as usize;
+    let size = calls::u32_or_0(cases, at + 4) as usize;
+    calls::word(calls::part(cases, at + 8, name));
+    call(number, calls::part(cases, at + 8 + name, size), room);
+    calls::word(b"\n");
     at + 8 + name + size
 }
 

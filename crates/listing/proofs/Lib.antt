@@ -1,4 +1,3 @@
--- In reading order.
 -- Numbers in decimal, and texts written one behind the other.
 pub mod Decimal
 pub mod Digits

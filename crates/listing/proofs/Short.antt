@@ -10,7 +10,7 @@ use lib.Dec.{eqb, ltb}
 use lib.ListN.{length, getD, take, length-append}
 use lib.Seq.{take-suc}
 use Rattle.wire.proofs.Bool.{by-test}
-use Rattle.transducer.specs.Format.{Transducer, max-path}
+use Rattle.transducer.specs.Format.{weight-limit, Transducer, max-path}
 use Rattle.transducer.specs.Weight.{Weight, no-weight, at-most, magnitude}
 use Rattle.transducer.specs.Path.{arc, no-arc, non-empty, ends, final-weight, written-by, arcs-cost, path-cost}
 use Rattle.transducer.proofs.Good.{arc-light, finals-light, arc-labels-below}
@@ -97,14 +97,14 @@ line-short k cost labels b few h = omega (arith, length-line k cost labels, cost
 
 -- Paths
 
-arcs-cost-low : (t : Transducer) → Sized t → (s : ℕ) (p : List ℕ) → Accepting t s p → magnitude (arcs-cost t p) ≤ 1000000 * length p
+arcs-cost-low : (t : Transducer) → Sized t → (s : ℕ) (p : List ℕ) → Accepting t s p → magnitude (arcs-cost t p) ≤ weight-limit * length p
 unfolding arcs-cost arc
 arcs-cost-low t z s [] a = omega arith
 arcs-cost-low t z s (i ∷ p) a =
     let by : AcceptingBy t s i p = accepting-cons t s i p a in
     let w : Weight = getD (t .arcs) i no-arc .weight in
-    let here : magnitude w ≤ 1000000 = good-size w (arc-light t (z .content) i no-arc (by .below)) in
-    let rest : magnitude (arcs-cost t p) ≤ 1000000 * length p = arcs-cost-low t z (arc t i .target) p (by .rest) in
+    let here : magnitude w ≤ weight-limit = good-size w (arc-light t (z .content) i no-arc (by .below)) in
+    let rest : magnitude (arcs-cost t p) ≤ weight-limit * length p = arcs-cost-low t z (arc t i .target) p (by .rest) in
     omega (arith, magnitude-plus w (arcs-cost t p))
 
 labels-low : (t : Transducer) → Sized t → (s : ℕ) (p : List ℕ) → Accepting t s p → (k : ℕ) → getD (written-by t p) k 0 < 65536
@@ -136,7 +136,7 @@ listable t z finite k there =
     let a : Accepting t (t .start) p = accepts-accepting t p (nth-path-accepts t k (listed .0)) in
     let short : length p < t .states = nth-path-short t (z .within) finite k there in
     let w : Weight = final-weight (t .finals) (ends t (t .start) p) in
-    let last : magnitude w ≤ 1000000 = good-size w (final-weight-good (t .finals) (ends t (t .start) p) (finals-light t (z .content))) in
+    let last : magnitude w ≤ weight-limit = good-size w (final-weight-good (t .finals) (ends t (t .start) p) (finals-light t (z .content))) in
     record {
       number = listed .1;
       cost = omega (arith, magnitude-plus (arcs-cost t p) w, arcs-cost-low t z (t .start) p a, short, last, z .states);

@@ -1,14 +1,14 @@
 // The listing of a transducer's bytes.
 ghost use mathlib.Core.Path.{_≡_};
-ghost use Prim.Native.Nat.{_+_, _*_, _≤_, _<_};
+ghost use Prim.Native.Nat.{_+_, _≤_, _<_};
 ghost use lib.ListN.{length};
 ghost use Rattle.transducer.specs.Format.{refusal, decode};
 ghost use Rattle.paths.specs.Count.{path-count};
 ghost use Rattle.listing.specs.Text.{Wrote, Whole, line-of, lines, counted-text, listing-text, refused-text, least-room};
-ghost use Rattle.listing.specs.Walkable.{Walkable};
+ghost use Rattle.listing.specs.PathsCounted.{Paths-counted};
 use crate::Listed;
 use crate::text;
-use paths::Count;
+use tally::Count;
 use transducer::INDEX_LEN;
 use transducer::MAX_STATES;
 use transducer::Shape;
@@ -26,7 +26,7 @@ fn put_path(
     out: &mut [u8],
     at: usize,
 ) -> usize
-    requires { ⌜ Walkable (now table) shape (now index) (now codes) counts × (k < path-count (decode (now table)))
+    requires { ⌜ Paths-counted (now table) shape (now index) (now codes) counts × (k < path-count (decode (now table)))
         × (at + length (line-of (decode (now table)) k) ≤ length (now out)) ⌝ }
     ensures { λ r. ⌜ Wrote (now (out .entry)) (now (out .exit)) at r (line-of (decode (now (table .entry))) k) ⌝ }
 {
@@ -43,7 +43,7 @@ fn put_path(
         counts,
         &mut arcs,
     );
-    let told = paths::tell(
+    let told = tell::tell(
         table,
         shape.first,
         shape.start,
@@ -66,7 +66,7 @@ fn put_paths(
     out: &mut [u8],
     at: usize,
 ) -> usize
-    requires { ⌜ Walkable (now table) shape (now index) (now codes) counts × (count ≡ path-count (decode (now table)))
+    requires { ⌜ Paths-counted (now table) shape (now index) (now codes) counts × (count ≡ path-count (decode (now table)))
         × (at + length (lines (decode (now table)) count) ≤ length (now out)) ⌝ }
     ensures { λ r. ⌜ Wrote (now (out .entry)) (now (out .exit)) at r (lines (decode (now (table .entry))) count) ⌝ }
 {
@@ -89,7 +89,7 @@ fn put_counted(
     out: &mut [u8],
     at: usize,
 ) -> usize
-    requires { ⌜ Walkable (now table) shape (now index) (now codes) counts
+    requires { ⌜ Paths-counted (now table) shape (now index) (now codes) counts
         × (at + length (counted-text (decode (now table))) ≤ length (now out)) ⌝ }
     ensures { λ r. ⌜ Wrote (now (out .entry)) (now (out .exit)) at r (counted-text (decode (now (table .entry)))) ⌝ }
 {

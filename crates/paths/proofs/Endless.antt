@@ -14,7 +14,7 @@ use Rattle.transducer.specs.Format.{Transducer}
 use Rattle.transducer.specs.Path.{arc, accepts}
 use Rattle.transducer.proofs.Members.{Distinct}
 use Rattle.transducer.proofs.Runs.{Accepting, accepts-accepting, accepting-accepts, cons-accepting, Within}
-use Rattle.transducer.proofs.Rings.{ever-longer}
+use Rattle.transducer.proofs.Cycles.{ever-longer}
 use Rattle.paths.specs.Count.{paths-from, paths, goes-on, endless}
 use Rattle.paths.proofs.Order.{Sorted, sorted-same}
 use Rattle.paths.proofs.Listed.{empty-path, by-arcs, in-paths-from, paths-from-has, paths-from-sorted, paths-from-distinct}
@@ -55,7 +55,9 @@ short-finite t s b h = record { below = b; stops = on (goes-on (t .states) t s) 
 pub finite-target : (t : Transducer) → Within t → (s : ℕ) → Finite t s → (i : ℕ) → i < length (t .arcs) → arc t i .source ≡ s → Finite t (arc t i .target)
 finite-target t w s f i b e =
     short-finite t (arc t i .target) (w .arrives i b)
-    (λ p a. let l : suc (length p) < t .states = finite-short t w s f (i ∷ p) (cons-accepting t s i p (record { below = b; leaves = e; rest = a })) in omega arith)
+    (λ p a.
+    let l : suc (length p) < t .states = finite-short t w s f (i ∷ p) (cons-accepting t s i p (record { below = b; leaves = e; rest = a })) in
+    omega arith)
 
 -- Fuel that is enough gives all paths.
 pub finite-same : (t : Transducer) → Within t → (s : ℕ) → Finite t s → (k : ℕ) → t .states ≤ suc k → paths-from k t s ≡ all-from t s

@@ -9,7 +9,7 @@ pub mod NthPath
 pub mod Nth
 -- What is known of accepted bytes, and arrays of marks and of counts.
 pub mod Ready
-pub mod MarksInPlace
+pub mod Shut
 pub mod StoredCounts
 -- Counts where states are topologically sorted.
 pub mod TopSorted
@@ -24,6 +24,4 @@ pub mod CountSays
 -- The walk along the k-th path, and its telling.
 pub mod Walk
 pub mod Steps
-pub mod Telling
-pub mod PathTold
 pub mod NthSays

@@ -13,14 +13,15 @@ use Rattle.wire.proofs.Places.{length-filled}
 use Rattle.transducer.specs.Format.{Transducer, decode, refusal}
 use Rattle.transducer.specs.Path.{accepts}
 use Rattle.transducer.specs.Entry.{or-else}
-use Rattle.paths.specs.declared.Count.{Count}
-use Rattle.paths.specs.declared.Told.{Told}
+use Rattle.tally.specs.declared.Count.{Count}
+use Rattle.tell.specs.declared.Told.{Told}
 use Rattle.paths.specs.Count.{endless, path-count, nth-path}
 use Rattle.paths.specs.Sweep.{at-state, Path-counts}
-use Rattle.paths.specs.Entry.{nth-refusal, Nth-says, Tells}
+use Rattle.tell.specs.Tell.{Tells}
+use Rattle.paths.specs.Entry.{nth-refusal, Nth-says}
 use Rattle.paths.proofs.Sweep.{settled-path-count}
 use Rattle.paths.proofs.NthPath.{nth-path-accepts, path-count-listed, nth-path-short}
-use Rattle.paths.proofs.PathTold.{refused-told, told-refused, told-found}
+use Rattle.tell.proofs.PathTold.{refused-told, told-refused, told-found}
 use Rattle.paths.proofs.Ready.{Sized}
 
 -- The path in its buffer, as it is told.
@@ -47,7 +48,8 @@ module _ (bs : List ℕ) (k : ℕ) {a b : List ℕ} {n : ℕ} {r : Told} where
       told-refused (decode bs) (nth-path (decode bs) k) (nth-refusal bs k (length a) (length b)) 10 r a b (rw (ok, lt-ltb (length a) 1023 l))
       (λ q. omega arith) h
 
-  pub nth-short-labels : n ≡ refusal bs → n ≡ 0 → 1023 ≤ length a → length b < 1023 → r ≡ refused-told 10 → Nth-says bs k (nth-refusal bs k (length a) (length b)) r a a b b
+  pub nth-short-labels : n ≡ refusal bs → n ≡ 0 → 1023 ≤ length a → length b < 1023 → r ≡ refused-told 10
+      → Nth-says bs k (nth-refusal bs k (length a) (length b)) r a a b b
   unfolding nth-refusal or-else
   nth-short-labels e z la l h =
       let ok : refusal bs ≡ 0 = sym e ∙ z in
@@ -56,7 +58,8 @@ module _ (bs : List ℕ) (k : ℕ) {a b : List ℕ} {n : ℕ} {r : Told} where
 
   module _ (e : n ≡ refusal bs) (z : n ≡ 0) (la : 1023 ≤ length a) (lb : 1023 ≤ length b) where
     -- 14
-    pub nth-endless : {is : Bool} → is ≡ endless (decode bs) → is ≡ true → r ≡ refused-told 14 → Nth-says bs k (nth-refusal bs k (length a) (length b)) r a a b b
+    pub nth-endless : {is : Bool} → is ≡ endless (decode bs) → is ≡ true → r ≡ refused-told 14
+        → Nth-says bs k (nth-refusal bs k (length a) (length b)) r a a b b
     unfolding nth-refusal or-else
     nth-endless l q h =
         let ok : refusal bs ≡ 0 = sym e ∙ z in

@@ -193,7 +193,9 @@ sorted-same [] (q ∷ m) s u f g = absurd (none-in (g q (first refl)))
 sorted-same (p ∷ l) [] s u f g = absurd (none-in (f p (first refl)))
 sorted-same (p ∷ l) (q ∷ m) s u f g =
     let e : p ≡ q = heads (first-or-later (f p (first refl))) (first-or-later (g q (first refl))) in
-    let rest : l ≡ m = sorted-same l m (sorted-tail p l s) (sorted-tail q m u) (λ r h. there r e h (first-or-later (f r (later h)))) (λ r h. back r e h (first-or-later (g r (later h)))) in
+    let rest : l ≡ m =
+    sorted-same l m (sorted-tail p l s) (sorted-tail q m u) (λ r h. there r e h (first-or-later (f r (later h))))
+    (λ r h. back r e h (first-or-later (g r (later h)))) in
     rw (e, rest)
   where
     heads : (p ≡ q) ⊎ Mem p m → (q ≡ p) ⊎ Mem q l → p ≡ q

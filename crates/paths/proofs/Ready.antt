@@ -12,7 +12,6 @@ use Rattle.transducer.specs.Leaf.{arcs-below, Indexed, Finals-by-state}
 use Rattle.transducer.proofs.Finals.{final-code-some}
 use Rattle.transducer.proofs.Good.{Content}
 use Rattle.transducer.proofs.Index.{arcs-below-length, arcs-below-mono, arcs-of-state, state-of-arcs, arcs-below-states}
-pub use Rattle.transducer.proofs.Headed.{Headed, headed, headed-opened}
 pub use Rattle.reach.proofs.Sized.{Sized, sized}
 use Rattle.transducer.specs.declared.preparing.Shape.{Shape}
 use Rattle.transducer.specs.Prepare.{Prepared}
@@ -21,7 +20,7 @@ use Rattle.paths.specs.Tally.{own}
 
 -- What is prepared has where the arcs begin, the states and the index.
 pub prepared-ready : {bs index codes : List ℕ} {shape : Shape} → Prepared bs shape index codes → Ready bs (shape .first) (shape .states) index
-prepared-ready p = record { opened = p .opened; states-are = p .states-are; indexed = p .indexed }
+prepared-ready p = record { opened = p .shaped .opened; states-are = p .shaped .states-are; indexed = p .indexed }
 
 -- The arcs of a state: from one entry of the index to below the next.
 pub record Range (t : Transducer) (s from to : ℕ) : Type 0 where
@@ -59,11 +58,9 @@ module _ (t : Transducer) (good : Content t) (s from to : ℕ) (r : Range t s fr
   pub behind-range : (i : ℕ) → to ≤ i → i < length (t .arcs) → arc t i .source ≡ s → ⊥
   behind-range i a l e = omega (arith, arcs-of-state t i s good l e .1, r .to-is)
 
-  pub in-range : (i : ℕ) → i < length (t .arcs) → arc t i .source ≡ s → (from ≤ i) × (i < to)
-  in-range i l e = let both = arcs-of-state t i s good l e in (omega (arith, both .0, r .from-is), omega (arith, both .1, r .to-is))
-
 -- A final code is 0 where the state is not final.
-pub code-final : (t : Transducer) (codes : List ℕ) (s code : ℕ) → Finals-by-state t codes → s < 1024 → code ≡ getD codes s 0 → eqb code 0 ≡ not (is-final (t .finals) s)
+pub code-final : (t : Transducer) (codes : List ℕ) (s code : ℕ) → Finals-by-state t codes → s < 1024 → code ≡ getD codes s 0
+    → eqb code 0 ≡ not (is-final (t .finals) s)
 code-final t codes s code f h e = rw (e, f .at-state s h) (final-code-some (t .finals) s)
 
 -- The count of the empty path by a final code.

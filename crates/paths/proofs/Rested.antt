@@ -4,10 +4,9 @@ use mathlib.Core.Path.{_≡_, refl, sym, ap, _∙_}
 use mathlib.Core.Bool.{Bool, true, false, _||_, not, cond}
 use mathlib.Core.Logic.{_⊎_, inl, inr}
 use mathlib.Core.List.{List, _∷_}
-use Prim.Native.Nat.{ℕ, _+_, _≤_, _<_, min}
+use Prim.Native.Nat.{ℕ, _+_, _<_, min}
 use native.Mathlib.Omega.{arith}
-use native.Mathlib.Decide.{ℕ-discrete}
-use lib.ListN.{length, set, replicate, length-set, length-replicate}
+use lib.ListN.{length, replicate, length-replicate}
 use borrow.Author.Tests.{not-true}
 use Rattle.wire.proofs.Bool.{clash, is-false}
 use Rattle.transducer.specs.Format.{Transducer}
@@ -17,13 +16,15 @@ use Rattle.reach.specs.Reach.{some-arc, coaccessible}
 use Rattle.reach.specs.Marks.{Marked}
 use Rattle.reach.proofs.Reach.{SomeAt, some-arc-at, coaccessible-path}
 use Rattle.reach.proofs.Closure.{getD-none}
-use Rattle.paths.specs.declared.Count.{Count}
+use Rattle.tally.specs.declared.Count.{Count}
 use Rattle.paths.specs.Tally.{own, tally}
-use Rattle.paths.specs.Sweep.{marked, leads-on, at-state, Totals-say}
+use Rattle.tally.specs.Marks.{marked}
+use Rattle.paths.specs.Sweep.{leads-on, at-state, Totals-say}
 use Rattle.paths.specs.TopSorted.{Empty-paths}
-use Rattle.paths.specs.Counting.{by-marks, Opened-arcs, Stacked, sum-done, Underway, Rested, Grown, With-dead}
+use Rattle.tally.specs.Marks.{With-dead}
+use Rattle.paths.specs.Counting.{by-marks, Opened-arcs, Stacked, sum-done, Underway, Rested, Grown}
 use Rattle.paths.proofs.Ready.{Sized}
-use Rattle.paths.proofs.MarksInPlace.{shut-marked, marked-set-same, marked-set-other}
+use Rattle.paths.proofs.Shut.{shut-marked}
 use Rattle.paths.proofs.GoesOn.{dead-none}
 use Rattle.paths.proofs.Stops.{stopping-none, stopping-dead}
 use Rattle.paths.proofs.Sweep.{dead-tally}
@@ -86,33 +87,6 @@ rested-live t z live ms start cs l r none e = totals-say t z ms start cs r (λ s
 
 -- Marking the dead states
 
--- Those below s are marked.
-pub record Dead-below (s : ℕ) (live ms ms' : List Bool) : Type 0 where
-  pub below : With-dead s live ms ms'
-  pub above : (u : ℕ) → s ≤ u → marked ms' u ≡ marked ms u
-
-pub dead-first : (live ms : List Bool) → Dead-below 0 live ms ms
-dead-first live ms = record { below = record { long = refl; at-state = λ s h. absurd (omega arith) }; above = λ u _. refl }
-
-pub dead-next : (live ms ms' : List Bool) (s : ℕ) → s < length ms → Dead-below s live ms ms'
-    → Dead-below (s + 1) live ms (set ms' s (marked ms' s || not (marked live s)))
-dead-next live ms ms' s room k =
-    record {
-      below = record { long = length-set ms' s x ∙ k .below .long; at-state = λ u l. on u l (ℕ-discrete u s) };
-      above = λ u l. marked-set-other ms' s x u (λ q. omega arith) ∙ k .above u (omega arith);
-    }
-  where
-    x : Bool
-    x = marked ms' s || not (marked live s)
-
-    on : (u : ℕ) → u < s + 1 → Dec (u ≡ s) → marked (set ms' s (marked ms' s || not (marked live s))) u ≡ marked ms u || not (marked live u)
-    on u l (yes y) =
-        rw y (marked-set-same ms' s x (omega (arith, k .below .long)) ∙ ap (λ (b : Bool). b || not (marked live s)) (k .above s (omega arith)))
-    on u l (no n) = marked-set-other ms' s x u n ∙ k .below .at-state u (omega arith)
-
-pub dead-stop : (live ms ms' : List Bool) (s n : ℕ) → n ≤ s → Dead-below s live ms ms' → With-dead n live ms ms'
-dead-stop live ms ms' s n h k = record { long = k .below .long; at-state = λ u l. k .below .at-state u (omega arith) }
-
 pub dead-all : (t : Transducer) (n : ℕ) (live ms ms' : List Bool) → n ≡ t .states → With-dead n live ms ms' → With-dead (t .states) live ms ms'
 dead-all t n live ms ms' e k = rw e at k
 
@@ -171,7 +145,9 @@ module _ (t : Transducer) (z : Sized t) (live ms ms' : List Bool) (cs : List Cou
     where
       none : SomeAt (t .arcs) s (λ v. not (marked ms' v)) → (marked ms s ≡ true) ⊎ (coaccessible (t .states) t s ≡ false) → ⊥
       none a (inl p) =
-          clash (grows (arc t (a .place) .target) (z .within .arrives (a .place) (a .below)) (shut-marked t ms s (r .shut s b p) (a .place) (a .below) (a .leaves)))
+          clash
+          (grows (arc t (a .place) .target) (z .within .arrives (a .place) (a .below))
+          (shut-marked t ms s (r .shut s b p) (a .place) (a .below) (a .leaves)))
           (not-true (marked ms' (arc t (a .place) .target)) (a .for))
       none a (inr d) =
           clash (to (arc t (a .place) .target) (z .within .arrives (a .place) (a .below)) (dead-arc s d (a .place) (a .below) (a .leaves)))

@@ -10,13 +10,14 @@ use lib.Seq.{length-take-le, take-suc-set}
 use Rattle.wire.specs.Bytes.{cleared, filled}
 use Rattle.transducer.specs.Format.{Transducer}
 use Rattle.transducer.specs.Path.{arc}
-use Rattle.paths.specs.declared.Count.{Count}
+use Rattle.tally.specs.declared.Count.{Count}
 use Rattle.paths.specs.Count.{endless, path-count, nth-path}
 use Rattle.paths.specs.Tally.{own}
 use Rattle.paths.specs.Sweep.{at-state, Path-counts}
 use Rattle.paths.proofs.Sweep.{Counts, settled-counts}
 use Rattle.paths.proofs.NthPath.{nth-path-short}
-use Rattle.paths.proofs.Walk.{Walking, Choosing, walking-first, walking-length, walking-done, walking-on, choosing-below, choosing-skip, choosing-past, choosing-by}
+use Rattle.paths.proofs.Walk.{Walking, walking-first, walking-length, walking-done, walking-on}
+use Rattle.paths.proofs.Walk.{Choosing, choosing-below, choosing-skip, choosing-past, choosing-by}
 use Rattle.paths.proofs.Ready.{Sized, Range, range-leaves, before-range, behind-range}
 
 -- What is walked for: a path that is there, with the counts to find it by, and room for it.
@@ -68,7 +69,8 @@ module _ (t : Transducer) (k : ℕ) (cs : List Count) (room : ℕ) (sought : Sou
   chosen-first arcs s left n from to mine w e h' r =
       let h : own t s ≤ left = omega arith in
       let zero' : 0 + from ≡ from = omega arith in
-      let at-0 : Choosing t (nth-path t k) (take n arcs) s (left - own t s) 0 = walking-on t (sought .size .within) (nth-path t k) (take n arcs) s left (w .walking) h in
+      let at-0 : Choosing t (nth-path t k) (take n arcs) s (left - own t s) 0 =
+      walking-on t (sought .size .within) (nth-path t k) (take n arcs) s left (w .walking) h in
       record {
         from = from;
         to = to;
@@ -114,11 +116,12 @@ module _ (t : Transducer) (k : ℕ) (cs : List Count) (room : ℕ) (sought : Sou
   chosen-walking : (arcs : List ℕ) (s left n i u : ℕ) → Chosen t k arcs s left n i → u ≡ arc t i .target → left < at-state cs u
       → Walking t (nth-path t k) (take n arcs ++ (i ∷ [])) u left
   chosen-walking arcs s left n i u c e h =
-      rw e (choosing-by t (sought .size .within) (at-state cs) counted (nth-path t k) (take n arcs) s left i (c .choosing) (chosen-leaves arcs s left n i c) (rw e at h))
+      rw e (choosing-by t (sought .size .within) (at-state cs) counted (nth-path t k) (take n arcs) s left i (c .choosing)
+      (chosen-leaves arcs s left n i c) (rw e at h))
 
   -- There is room for the arc that is chosen.
-  pub chosen-room : (arcs : List ℕ) (s left n i u s' left' : ℕ) → Walked t k room arcs s' left' n → Chosen t k arcs s left n i → u ≡ arc t i .target → left < at-state cs u
-      → n < 1023
+  pub chosen-room : (arcs : List ℕ) (s left n i u s' left' : ℕ) → Walked t k room arcs s' left' n → Chosen t k arcs s left n i
+      → u ≡ arc t i .target → left < at-state cs u → n < 1023
   chosen-room arcs s left n i u s' left' w c e h =
       let long : length (take n arcs) ≡ n = length-take-le n arcs (omega (arith, w .long, w .few, sought .enough)) in
       let more : length (take n arcs ++ (i ∷ [])) ≡ length (take n arcs) + 1 = length-append (take n arcs) (i ∷ []) in
@@ -126,8 +129,8 @@ module _ (t : Transducer) (k : ℕ) (cs : List Count) (room : ℕ) (sought : Sou
       walking-length t (nth-path t k) (take n arcs ++ (i ∷ [])) u left (chosen-walking arcs s left n i u c e h) in
       omega (arith, path-short)
 
-  pub walked-next : (arcs : List ℕ) (s left n i u s' left' : ℕ) → Walked t k room arcs s' left' n → Chosen t k arcs s left n i → u ≡ arc t i .target → left < at-state cs u
-      → Walked t k room (set arcs n i) u left (n + 1)
+  pub walked-next : (arcs : List ℕ) (s left n i u s' left' : ℕ) → Walked t k room arcs s' left' n → Chosen t k arcs s left n i
+      → u ≡ arc t i .target → left < at-state cs u → Walked t k room (set arcs n i) u left (n + 1)
   walked-next arcs s left n i u s' left' w c e h =
       let free : n < 1023 = chosen-room arcs s left n i u s' left' w c e h in
       let one : n + 1 ≡ suc n = omega arith in

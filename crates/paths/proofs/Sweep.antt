@@ -1,20 +1,17 @@
 -- The tallies that the counts of marked states are, and the counts in the end. Assumes nothing.
 use mathlib.Core.Path.{_≡_, refl, ap, _∙_}
-use mathlib.Core.Bool.{Bool, true, false}
+use mathlib.Core.Bool.{false}
 use mathlib.Core.List.{List, [], _∷_}
 use mathlib.Core.List.{List·Memᴰ as Mem, List·Memᴰ·head as first}
-use Prim.Native.Nat.{ℕ, zero, suc, _+_, _≤_, _<_, min}
-use native.Mathlib.Nat.{not-suc-le-zero}
+use Prim.Native.Nat.{ℕ, suc, _≤_, min}
 use native.Mathlib.Omega.{arith}
-use lib.Dec.{eqb}
 use lib.ListN.{length}
-use borrow.Author.Tests.{eqb-true, eqb-false}
 use Rattle.transducer.specs.Format.{Transducer}
 use Rattle.transducer.proofs.Runs.{Within, Accepting}
-use Rattle.paths.specs.declared.Count.{Count}
+use Rattle.tally.specs.declared.Count.{Count}
 use Rattle.paths.specs.Count.{paths-from, paths, endless, path-count, most-counted}
 use Rattle.paths.specs.Tally.{tally}
-use Rattle.paths.specs.Sweep.{total, at-state, Path-counts}
+use Rattle.paths.specs.Sweep.{at-state, Path-counts}
 use Rattle.paths.proofs.Listed.{in-paths-from}
 use Rattle.paths.proofs.Endless.{all-from, Finite, finite-same, endless-false-finite}
 use Rattle.paths.proofs.Tally.{tally-length}
@@ -45,27 +42,3 @@ settled-counts t cs e s f = e .counts s (f .below) (f .stops)
 pub settled-path-count : (t : Transducer) → Within t → (cs : List Count) → Path-counts t cs → endless t ≡ false → at-state cs (t .start) ≡ path-count t
 unfolding Counts path-count paths
 settled-path-count t w cs e h = settled-counts t cs e (t .start) (endless-false-finite t w h)
-
--- Sweeps come to an end: the sum of the numbers by state grows, or falls, with each change.
-
-pub total-same : (n : ℕ) (c d : ℕ → ℕ) → ((s : ℕ) → s < n → d s ≡ c s) → total n d ≡ total n c
-unfolding total
-total-same zero c d h = refl
-total-same (suc n) c d h = rw (total-same n c d (λ s l. h s (omega arith)), h n (omega arith))
-
-pub total-grows : (n i : ℕ) (c d : ℕ → ℕ) → i < n → c i < d i → ((s : ℕ) → (s ≡ i → ⊥) → d s ≡ c s) → total n c < total n d
-unfolding total
-total-grows zero i c d b h others = absurd (not-suc-le-zero b)
-total-grows (suc n) i c d b h others = on (λ l. total-grows n i c d l h others) (eqb n i) refl
-  where
-    on : (i < n → total n c < total n d) → (e : Bool) → eqb n i ≡ e → total n c + c n < total n d + d n
-    on below true e =
-        let same : n ≡ i = eqb-true n i e in
-        let here : c n < d n = rw same h in
-        let rest : total n d ≡ total n c = total-same n c d (λ s l. others s (λ z. omega arith)) in
-        omega arith
-    on below false e =
-        let apart : n ≡ i → ⊥ = eqb-false n i e in
-        let rest : total n c < total n d = below (omega arith) in
-        let here : d n ≡ c n = others n apart in
-        omega arith

@@ -12,7 +12,8 @@ use Rattle.transducer.specs.Format.{Transducer}
 use Rattle.transducer.specs.Path.{arc, no-arc, is-final}
 use Rattle.transducer.specs.Each.{by-number, each-arc}
 use Rattle.paths.specs.Count.{paths-from}
-use Rattle.paths.specs.Tally.{add, own, add-arcs, add-all, tally}
+use Rattle.tally.specs.Capped.{add}
+use Rattle.paths.specs.Tally.{own, add-arcs, add-all, tally}
 use Rattle.paths.proofs.Listed.{empty-path, by-arcs}
 
 -- The sum without a cap.
@@ -29,7 +30,8 @@ add-arcs-sum (a ∷ l) s c x h = on (λ y b. add-arcs-sum l s c y b) (eqb (a .so
     on : ((y : ℕ) → y ≤ 99 → add-arcs l s c y ≡ min 99 (y + sum-arcs l s c)) → (b : Bool)
         → add-arcs l s c (cond b (min 99 (x + c (a .target))) x) ≡ min 99 (x + (cond b (c (a .target)) 0 + sum-arcs l s c))
     on below true =
-        let r : add-arcs l s c (min 99 (x + c (a .target))) ≡ min 99 (min 99 (x + c (a .target)) + sum-arcs l s c) = below (min 99 (x + c (a .target))) (omega arith) in
+        let r : add-arcs l s c (min 99 (x + c (a .target))) ≡ min 99 (min 99 (x + c (a .target)) + sum-arcs l s c) =
+        below (min 99 (x + c (a .target))) (omega arith) in
         omega arith
     on below false =
         let r : add-arcs l s c x ≡ min 99 (x + sum-arcs l s c) = below x h in
@@ -61,7 +63,8 @@ sum-arcs-capped (a ∷ l) s c x = on (λ y. sum-arcs-capped l s c y) (eqb (a .so
     on : ((y : ℕ) → min 99 (y + sum-arcs l s (λ u. min 99 (c u))) ≡ min 99 (y + sum-arcs l s c)) → (b : Bool)
         → min 99 (x + (cond b (min 99 (c (a .target))) 0 + sum-arcs l s (λ u. min 99 (c u)))) ≡ min 99 (x + (cond b (c (a .target)) 0 + sum-arcs l s c))
     on below true =
-        let r : min 99 (x + min 99 (c (a .target)) + sum-arcs l s (λ u. min 99 (c u))) ≡ min 99 (x + min 99 (c (a .target)) + sum-arcs l s c) = below (x + min 99 (c (a .target))) in
+        let r : min 99 (x + min 99 (c (a .target)) + sum-arcs l s (λ u. min 99 (c u))) ≡ min 99 (x + min 99 (c (a .target)) + sum-arcs l s c) =
+        below (x + min 99 (c (a .target))) in
         omega arith
     on below false =
         let r : min 99 (x + sum-arcs l s (λ u. min 99 (c u))) ≡ min 99 (x + sum-arcs l s c) = below x in
@@ -132,6 +135,9 @@ tally-length (suc k) t s =
     let len : ℕ → ℕ = λ u. length (paths-from k t u) in
     let e : length (empty-path t s) ≡ own t s = length-empty-path t s in
     let f : length (by-arcs k t s) ≡ sum-arcs (t .arcs) s len = length-by-arcs k t s in
-    let whole : length (empty-path t s ++ by-arcs k t s) ≡ own t s + sum-arcs (t .arcs) s len = length-append (empty-path t s) (by-arcs k t s) ∙ (omega arith) in
-    let terms : sum-arcs (t .arcs) s (tally k t) ≡ sum-arcs (t .arcs) s (λ u. min 99 (len u)) = sum-arcs-same (t .arcs) s (tally k t) (λ u. min 99 (len u)) (λ u. tally-length k t u) in
-    add-all-sum t (tally k t) s ∙ (ap (λ (n : ℕ). min 99 (own t s + n)) terms ∙ (sum-arcs-capped (t .arcs) s len (own t s) ∙ ap (λ (n : ℕ). min 99 n) (sym whole)))
+    let whole : length (empty-path t s ++ by-arcs k t s) ≡ own t s + sum-arcs (t .arcs) s len =
+    length-append (empty-path t s) (by-arcs k t s) ∙ (omega arith) in
+    let terms : sum-arcs (t .arcs) s (tally k t) ≡ sum-arcs (t .arcs) s (λ u. min 99 (len u)) =
+    sum-arcs-same (t .arcs) s (tally k t) (λ u. min 99 (len u)) (λ u. tally-length k t u) in
+    add-all-sum t (tally k t) s ∙ (ap (λ (n : ℕ). min 99 (own t s + n)) terms
+    ∙ (sum-arcs-capped (t .arcs) s len (own t s) ∙ ap (λ (n : ℕ). min 99 n) (sym whole)))

@@ -9,10 +9,9 @@ use native.Mathlib.Decide.{ℕ-discrete}
 use native.Mathlib.Numerals.{add-one}
 use lib.Dec.{eqb}
 use lib.ListN.{length, getD, set, take, drop, replicate, length-set, length-replicate, length-drop}
-use lib.Seq.{drop-cons, drop-length, getD-drop, getD-set-same, getD-set-other, take-suc, take-length}
+use lib.Seq.{drop-cons, drop-length, getD-drop, take-suc, take-length}
 use borrow.Author.Tests.{eqb-true, eqb-false, eq-eqb, ne-eqb}
 use Rattle.wire.proofs.Bool.{clash, is-false}
-use Rattle.transducer.specs.declared.Arc.{Arc}
 use Rattle.transducer.specs.declared.Final.{Final}
 use Rattle.wire.specs.Bytes.{Bytes}
 use Rattle.transducer.specs.Format.{Transducer, decode, refusal, head-finals, final-at}
@@ -22,11 +21,12 @@ use Rattle.transducer.proofs.Good.{sources-stay-good, final-state-below}
 use Rattle.transducer.proofs.Offsets.{decode-states, length-finals, final-offset, accepted-within, accepted-good}
 use Rattle.transducer.proofs.Index.{stay-rises}
 use Rattle.transducer.proofs.Finals.{is-final-append}
-use Rattle.paths.specs.declared.Count.{Count}
+use Rattle.tally.specs.declared.Count.{Count}
 use Rattle.reach.specs.Reach.{some-arc}
 use Rattle.reach.proofs.Reach.{SomeAt, some-arc-at}
 use Rattle.paths.specs.Count.{goes-on, endless}
-use Rattle.paths.specs.Tally.{add, own, add-all, tally}
+use Rattle.tally.specs.Capped.{add}
+use Rattle.paths.specs.Tally.{own, tally}
 use Rattle.paths.specs.Sweep.{at-state, Totals-say}
 use Rattle.paths.specs.TopSorted.{Top-sorted, Empty-paths}
 use Rattle.paths.proofs.Tally.{sum-arcs, sum-arcs-monotone, add-all-sum, add-all-same, own-small}

@@ -87,7 +87,8 @@ pub choosing-skip : (t : Transducer) (path walked : List ℕ) (s r i n : ℕ) �
 choosing-skip t path walked s r i zero k h = let e : i + 0 ≡ i = omega arith in rw e k
 choosing-skip t path walked s r i (suc n) k h =
     let e : i + suc n ≡ suc (i + n) = omega arith in
-    rw e (choosing-other t path walked s r (i + n) (choosing-skip t path walked s r i n k (λ j a b. h j a (omega arith))) (h (i + n) (omega arith) (omega arith)))
+    rw e (choosing-other t path walked s r (i + n) (choosing-skip t path walked s r i n k (λ j a b. h j a (omega arith)))
+    (h (i + n) (omega arith) (omega arith)))
 
 counted : (t : Transducer) → Within t → (c : ℕ → ℕ) → Counts t c → (s i : ℕ) → Finite t s → i < length (t .arcs) → arc t i .source ≡ s
     → c (arc t i .target) ≡ min 99 (length (all-from t (arc t i .target)))

@@ -1,7 +1,7 @@
 -- States that wait to be counted: for each the number of its open arcs, those to states that are not counted, and a stack of those without any.
 -- Assumes nothing: these are definitions.
 use mathlib.Core.Path.{_≡_}
-use mathlib.Core.Bool.{Bool, true, false, _&&_, _||_, not, cond}
+use mathlib.Core.Bool.{Bool, true, false, _&&_, not, cond}
 use mathlib.Core.List.{List}
 use Prim.Native.Nat.{ℕ, zero, suc, _+_, _-_, _≤_, _<_, min}
 use lib.Dec.{ltb, eqb}
@@ -9,10 +9,11 @@ use lib.ListN.{length, getD, set}
 use Rattle.transducer.specs.Format.{max-states, Transducer}
 use Rattle.transducer.specs.Path.{arc}
 use Rattle.reach.specs.Counted.{count}
-use Rattle.paths.specs.declared.Count.{Count}
+use Rattle.tally.specs.declared.Count.{Count}
 use Rattle.paths.specs.Count.{most-counted}
 use Rattle.paths.specs.Tally.{own}
-use Rattle.paths.specs.Sweep.{marked, leads-on, at-state, Stopping, Tallied}
+use Rattle.tally.specs.Marks.{marked}
+use Rattle.paths.specs.Sweep.{leads-on, at-state, Stopping, Tallied}
 
 -- Whether an arc leaves a state and is not done.
 unfoldable pub open-at : Transducer → (done : ℕ → Bool) → (u : ℕ) → (k : ℕ) → Bool
@@ -85,8 +86,3 @@ pub record Rested (t : Transducer) (ms : List Bool) (cs : List Count) : Type 0 w
 -- Marked states stay marked.
 abbrev pub Grown : (ms ms' : List Bool) → Type 0
 Grown ms ms' = (s : ℕ) → marked ms s ≡ true → marked ms' s ≡ true
-
--- Of the first n states those that are not live are marked too.
-pub record With-dead (n : ℕ) (live ms ms' : List Bool) : Type 0 where
-  pub long : length ms' ≡ length ms
-  pub at-state : (s : ℕ) → s < n → marked ms' s ≡ marked ms s || not (marked live s)

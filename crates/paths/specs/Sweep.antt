@@ -2,13 +2,14 @@
 use mathlib.Core.Path.{_≡_}
 use mathlib.Core.Bool.{Bool, true, false, not}
 use mathlib.Core.List.{List}
-use Prim.Native.Nat.{ℕ, zero, suc, _+_, _≤_, _<_, min}
+use Prim.Native.Nat.{ℕ, _≤_, _<_, min}
 use lib.ListN.{length, getD}
 use Rattle.transducer.specs.Format.{max-states, Transducer, decode}
 use Rattle.transducer.specs.Leaf.{Opened, Indexed}
-use Rattle.paths.specs.declared.Count.{Count}
+use Rattle.tally.specs.declared.Count.{Count}
 use Rattle.paths.specs.declared.Totals.{Totals}
 use Rattle.reach.specs.Reach.{some-arc}
+use Rattle.tally.specs.Marks.{marked}
 use Rattle.paths.specs.Count.{paths-from, goes-on, endless, most-counted}
 use Rattle.paths.specs.Tally.{tally}
 
@@ -18,15 +19,7 @@ pub record Ready (bs : List ℕ) (first states : ℕ) (index : List ℕ) : Type 
   pub states-are : states ≡ decode bs .states
   pub indexed : Indexed (decode bs) index
 
--- The sum of the counts of so many states.
-unfoldable pub total : (states : ℕ) → (count : ℕ → ℕ) → ℕ
-total zero c = 0
-total (suc n) c = total n c + c n
-
 -- Marks
-
-unfoldable pub marked : List Bool → (s : ℕ) → Bool
-marked ms s = getD ms s false
 
 -- Marks on their way: a marked state has no accepting path of so many arcs.
 pub record Stopping (t : Transducer) (g : ℕ → Bool) : Type 0 where

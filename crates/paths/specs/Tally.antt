@@ -2,16 +2,12 @@
 -- Assumes nothing: these are definitions.
 use mathlib.Core.Bool.{cond}
 use mathlib.Core.List.{List, [], _∷_}
-use Prim.Native.Nat.{ℕ, zero, suc, _+_, min}
+use Prim.Native.Nat.{ℕ, zero, suc}
 use lib.Dec.{eqb}
 use Rattle.transducer.specs.declared.Arc.{Arc}
 use Rattle.transducer.specs.Format.{Transducer}
 use Rattle.transducer.specs.Path.{is-final}
-use Rattle.paths.specs.Count.{most-counted}
-
--- The sum of two counts: 99 stands for 99 or more.
-unfoldable pub add : (a b : ℕ) → ℕ
-add a b = min most-counted (a + b)
+use Rattle.tally.specs.Capped.{add}
 
 -- The count of the empty path: 1 from a final state.
 unfoldable pub own : Transducer → (s : ℕ) → ℕ

@@ -6,8 +6,10 @@ use Prim.Native.Nat.{ℕ, _≤_, _<_}
 use lib.ListN.{length}
 use Rattle.transducer.specs.Format.{max-states, Transducer}
 use Rattle.transducer.specs.Path.{arc}
-use Rattle.paths.specs.declared.Count.{Count}
+use Rattle.tally.specs.declared.Count.{Count}
+use Rattle.paths.specs.declared.FromStart.{FromStart}
 use Rattle.paths.specs.declared.Pass.{Pass}
+use Rattle.paths.specs.Count.{endless, path-count}
 use Rattle.paths.specs.Tally.{own}
 use Rattle.paths.specs.Sweep.{at-state, Totals-say}
 
@@ -23,3 +25,7 @@ pub record Empty-paths (t : Transducer) (states : ℕ) (cs : List Count) : Type 
 -- Topologically sorted, a transducer has no cycle.
 pub record Pass-says (t : Transducer) (r : Pass) : Type 0 where
   pub complete : r .sorted ≡ true → Totals-say t (record { counts = r .counts; endless = false })
+
+pub record From-start-says (t : Transducer) (r : FromStart) : Type 0 where
+  pub finite : r .sorted ≡ true → endless t ≡ false
+  pub complete : r .sorted ≡ true → r .count .value ≡ path-count t

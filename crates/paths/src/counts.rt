@@ -1,53 +1,20 @@
 // One running count for each state, complete once all its arcs lead to states whose counts are.
 ghost use mathlib.Core.Path.{_≡_};
-ghost use mathlib.Core.Bool.{true, false, cond};
+ghost use mathlib.Core.Bool.{true, false};
 ghost use Prim.Native.Nat.{_-_, _≤_, _<_};
-ghost use lib.Dec.{eqb};
 ghost use lib.ListN.{length, getD, replicate};
 ghost use Rattle.transducer.specs.Format.{max-arcs, max-states, refusal, decode};
 ghost use Rattle.transducer.specs.Leaf.{Opened};
 ghost use Rattle.reach.specs.Stack.{Chained};
-ghost use Rattle.paths.specs.Tally.{add};
 ghost use Rattle.paths.specs.Sweep.{Totals-say};
 ghost use Rattle.paths.specs.TopSorted.{Empty-paths};
 ghost use Rattle.paths.specs.Counting.{by-marks, Opened-arcs, Stacked, Closed-arc, Underway, Rested, Grown};
-use crate::Count;
 use crate::Totals;
-use crate::marks;
+use tally::Count;
 use transducer::FINAL_BYTES;
 use transducer::HEAD_BYTES;
 use transducer::MAX_ARCS;
-use transducer::MAX_COUNT;
 use transducer::MAX_STATES;
-
-pub const MOST: u8 = MAX_COUNT as u8;
-
-impl Count {
-    // The sum of two counts.
-    pub fn add(self, other: Count) -> Count
-        ensures { λ r. ⌜ r .value ≡ add (self .value) (other .value) ⌝ }
-    {
-        if self.value >= MOST {
-            return Count { value: MOST };
-        }
-        if other.value >= MOST - self.value {
-            return Count { value: MOST };
-        }
-        Count {
-            value: self.value + other.value,
-        }
-    }
-}
-
-// The count of the empty path, by a state's final code.
-pub fn own(code: u32) -> Count
-    ensures { λ r. ⌜ r .value ≡ cond (eqb code 0) 0 1 ⌝ }
-{
-    if code == 0 {
-        return Count { value: 0 };
-    }
-    Count { value: 1 }
-}
 
 // Puts the arcs in chains by their targets and counts those of each state, `heads` and `left` being zeros.
 fn link_arcs(
@@ -197,14 +164,14 @@ fn counts_with_cycles(
 {
     let finals = (first - HEAD_BYTES) / FINAL_BYTES;
     let live = reach::coaccessible_chained(table, first, states, arcs, finals, heads, next);
-    if !marks::dead_unmarked(states, &live, marks) {
+    if !tally::dead_unmarked(states, &live, marks) {
         let counted = marks[start];
         return Totals {
             counts: parts,
             endless: !counted,
         };
     }
-    marks::mark_dead(states, &live, marks);
+    tally::mark_dead(states, &live, marks);
     let mut left = [0u16; MAX_STATES];
     let mut stack = [0u16; MAX_STATES];
     count_open(table, first, arcs, marks, &mut left);
@@ -257,7 +224,7 @@ pub fn counts_of(
         &mut left,
         &mut stack,
     );
-    if marks::all_marked(states, &marks) {
+    if tally::all_marked(states, &marks) {
         return Totals {
             counts,
             endless: false,

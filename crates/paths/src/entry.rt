@@ -1,19 +1,17 @@
 // The path count and the k-th path.
 ghost use mathlib.Core.Path.{_≡_};
-ghost use Prim.Native.Nat.{_+_, _*_, _<_};
 ghost use lib.ListN.{length};
 ghost use Rattle.transducer.specs.Format.{decode};
 ghost use Rattle.transducer.specs.Leaf.{Finals-by-state};
-ghost use Rattle.transducer.specs.Weight.{no-weight};
 ghost use Rattle.paths.specs.Sweep.{Ready, Totals-say};
 ghost use Rattle.paths.specs.Entry.{Count-says, count-refusal, Nth-says, nth-refusal};
-use crate::Count;
 use crate::Counted;
-use crate::Told;
 use crate::Totals;
 use crate::counts;
 use crate::path;
 use crate::sorted;
+use tally::Count;
+use tell::Told;
 use transducer::INDEX_LEN;
 use transducer::MAX_STATES;
 
@@ -63,19 +61,16 @@ pub fn count(table: &[u8]) -> Counted
             count: 0,
         };
     }
-    let head = transducer::head_of(table);
-    let n = head.states as usize;
-    let f = head.finals as usize;
-    let start = head.start as usize;
-    let m = head.arcs as usize;
-    let first = transducer::arcs_at(f);
-    let empty = sorted::empty_paths(table, f);
-    let pass = sorted::counts_sorted(table, first, m, empty);
+    let shape = transducer::shape_of(table);
+    let start = shape.start;
+    // By way of 32 bits, so that the compiler sees that no loop over the arcs wraps.
+    let m = shape.arcs as u32 as usize;
+    let pass = sorted::count_from_start(table, shape.first, m, shape.finals, start);
     if pass.sorted {
-        let all = pass.counts[start];
-        return counted(all);
+        return counted(pass.count);
     }
-    let totals = counts::counts_of(table, first, n, m, start, empty);
+    let empty = sorted::empty_paths(table, shape.finals);
+    let totals = counts::counts_of(table, shape.first, shape.states, m, start, empty);
     if totals.endless {
         return Counted {
             refusal: 14,
@@ -86,18 +81,6 @@ pub fn count(table: &[u8]) -> Counted
     counted(all)
 }
 
-// What is answered where no path is told: the refusal, and zeros.
-pub fn refused(number: u32) -> Told
-    ensures { λ r. ⌜ r ≡ record { refusal = number; cost = no-weight; arcs = 0; labels = 0 } ⌝ }
-{
-    Told {
-        refusal: number,
-        cost: 0,
-        arcs: 0,
-        labels: 0,
-    }
-}
-
 // The k-th path: its arc numbers and the labels that it writes go into two lent buffers. Linear in states and arcs.
 pub fn nth(table: &[u8], k: u32, arcs: &mut [u16], labels: &mut [u16]) -> Told
     ensures { λ r. ⌜ Nth-says (now (table .entry)) k
@@ -106,13 +89,13 @@ pub fn nth(table: &[u8], k: u32, arcs: &mut [u16], labels: &mut [u16]) -> Told
 {
     let number = transducer::refusal(table);
     if number != 0 {
-        return refused(number);
+        return tell::refused(number);
     }
     if arcs.len() < transducer::MAX_PATH {
-        return refused(10);
+        return tell::refused(10);
     }
     if labels.len() < transducer::MAX_PATH {
-        return refused(10);
+        return tell::refused(10);
     }
     let mut index = [0u16; transducer::INDEX_LEN];
     let mut codes = [0u32; transducer::MAX_STATES];
@@ -120,12 +103,12 @@ pub fn nth(table: &[u8], k: u32, arcs: &mut [u16], labels: &mut [u16]) -> Told
     let start = shape.start;
     let totals = counts_by_state(table, shape.first, shape.states, start, &index, &codes);
     if totals.endless {
-        return refused(14);
+        return tell::refused(14);
     }
     let counts = totals.counts;
     let all = counts[start];
     if (all.value as u32) <= k {
-        return refused(15);
+        return tell::refused(15);
     }
     let len = path::walk(
         table,
@@ -138,5 +121,5 @@ pub fn nth(table: &[u8], k: u32, arcs: &mut [u16], labels: &mut [u16]) -> Told
         counts,
         arcs,
     );
-    path::tell(table, shape.first, start, &codes, arcs, len, labels)
+    tell::tell(table, shape.first, start, &codes, arcs, len, labels)
 }

@@ -4,10 +4,10 @@ ghost use Prim.Native.Nat.{_≤_};
 ghost use lib.ListN.{length};
 ghost use Rattle.transducer.specs.Format.{max-states, decode, refusal, head-finals};
 ghost use Rattle.transducer.specs.Leaf.{Opened, Finals-by-state};
-ghost use Rattle.paths.specs.TopSorted.{Empty-paths, Pass-says};
-use crate::Count;
+ghost use Rattle.paths.specs.TopSorted.{Empty-paths, Pass-says, From-start-says};
+use crate::FromStart;
 use crate::Pass;
-use crate::counts;
+use tally::Count;
 use transducer::MAX_STATES;
 
 // The counts of the empty paths: 1 at each final state.
@@ -35,7 +35,7 @@ pub fn empty_by_codes(table: &[u8], states: usize, codes: &[u32; MAX_STATES]) ->
     let mut counts = [Count { value: 0 }; MAX_STATES];
     let mut s = 0;
     while s < states {
-        counts[s] = counts::own(codes[s]);
+        counts[s] = tally::own(codes[s]);
         s += 1;
     }
     counts
@@ -60,13 +60,49 @@ pub fn counts_sorted(table: &[u8], first: usize, arcs: usize, empty: [Count; MAX
         }
         // A count at its most is left alone: a store that the next arc's load waits for costs more than the test.
         let here = counts[s];
-        if here.value == counts::MOST {
+        if here.value == tally::MOST {
             continue;
         }
         counts[s] = here.add(counts[to]);
     }
     Pass {
         counts,
+        sorted: true,
+    }
+}
+
+// The count from the start by the same pass. It hands back no array: to copy one takes longer than most of what small tables ask for.
+pub fn count_from_start(
+    table: &[u8],
+    first: usize,
+    arcs: usize,
+    finals: usize,
+    start: usize,
+) -> FromStart
+    requires { ⌜ Opened (now table) first × (arcs ≡ length (decode (now table) .arcs)) × (finals ≡ head-finals (now table))
+        × (start ≡ decode (now table) .start) ⌝ }
+    ensures { λ r. ⌜ From-start-says (decode (now (table .entry))) r ⌝ }
+{
+    let mut counts = empty_paths(table, finals);
+    let mut i = arcs;
+    while 0 < i {
+        i -= 1;
+        let s = reach::source(table, first, i);
+        let to = reach::target(table, first, i);
+        if to <= s {
+            return FromStart {
+                count: Count { value: 0 },
+                sorted: false,
+            };
+        }
+        let here = counts[s];
+        if here.value == tally::MOST {
+            continue;
+        }
+        counts[s] = here.add(counts[to]);
+    }
+    FromStart {
+        count: counts[start],
         sorted: true,
     }
 }

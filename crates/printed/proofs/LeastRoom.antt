@@ -8,7 +8,8 @@ use borrow.Author.Tests.{eqb-true}
 use lib.Dec.{eqb, ltb}
 use lib.ListN.{length}
 use Rattle.wire.specs.Bytes.{Bytes}
-use Rattle.transducer.specs.Format.{Transducer, Good, refusal, decode, weights-good, max-states, max-arcs}
+use Rattle.wire.proofs.Bool.{cond-most}
+use Rattle.transducer.specs.Format.{max-bytes, max-origins, Transducer, Good, refusal, decode, weights-good, max-states, max-arcs}
 use Rattle.transducer.specs.Encode.{encode}
 use Rattle.transducer.specs.Each.{named, any-refusal}
 use Rattle.transducer.specs.Entry.{or-else}
@@ -19,27 +20,19 @@ use Rattle.compose.specs.Compose.{composed}
 use Rattle.compose.specs.Entry.{compose-room, compose-refusal}
 use Rattle.lattice.specs.Apply.{string-good, applied}
 use Rattle.paths.proofs.Ready.{Sized, sized}
+use Rattle.claim.specs.Entry.{composition-lattice}
 use Rattle.listing.specs.Code.{labels-in}
 use Rattle.listing.specs.Text.{listing-text, refused-text, least-room}
 use Rattle.listing.specs.Entry.{code-refusal, applied-refusal, listing-refusal, text-unless, text-of}
 use Rattle.listing.proofs.Short.{refused-short}
 use Rattle.listing.proofs.NthLine.{listing-short}
-use Rattle.printed.specs.Printed.{lattice-for}
 use Rattle.printed.proofs.Pairs.{good-lattice}
 
 -- A refusal is at most 18.
 
 or-else-most : (a b : ℕ) → a ≤ 18 → b ≤ 18 → or-else a b ≤ 18
 unfolding or-else
-or-else-most a b p q = on (eqb a 0)
-  where
-    on : (t : Bool) → cond t b a ≤ 18
-    on true = q
-    on false = p
-
-cond-most : (t : Bool) (a b : ℕ) → a ≤ 18 → b ≤ 18 → cond t a b ≤ 18
-cond-most true a b p q = p
-cond-most false a b p q = q
+or-else-most a b p q = cond-most (eqb a 0) b a q p
 
 built-most : (t : Transducer) → built-refusal t ≤ 18
 unfolding built-refusal
@@ -51,11 +44,12 @@ listing-most : (xs ys cs : List ℕ) → listing-refusal xs ys cs ≤ 18
 unfolding listing-refusal compose-refusal any-refusal compose-room applied-refusal code-refusal
 listing-most xs ys cs =
     let z : Transducer = composed (decode xs) (decode ys) .result in
-    let room : ℕ = cond (ltb 59404 59404 || (ltb 6144 6144 || ltb 1024 1024)) 10 0 in
+    let room : ℕ = cond (ltb max-bytes max-bytes || (ltb max-origins max-origins || ltb max-states max-states)) 10 0 in
     let code : ℕ = cond (eqb (length cs % 2) 0 && string-good (labels-in cs)) 0 9 in
     let built : ℕ = built-refusal (applied (labels-in cs) z .result) in
     let inner : or-else room (built-refusal z) ≤ 18 =
-    or-else-most room (built-refusal z) (cond-most (ltb 59404 59404 || (ltb 6144 6144 || ltb 1024 1024)) 10 0 (omega arith) (omega arith)) (built-most z) in
+    or-else-most room (built-refusal z) (cond-most (ltb max-bytes max-bytes || (ltb max-origins max-origins || ltb max-states max-states)) 10 0
+    (omega arith) (omega arith)) (built-most z) in
     let any : ℕ = cond (named (decode xs)) 0 18 in
     let right : ℕ = or-else (refusal ys) (or-else room (built-refusal z)) in
     or-else-most (or-else (refusal xs) (or-else any right)) (or-else code built)
@@ -76,7 +70,7 @@ unfolding text-of text-unless
 text-short xs ys cs bytes-xs bytes-ys = on (eqb (listing-refusal xs ys cs) 0) refl
   where
     on : (b : Bool) → eqb (listing-refusal xs ys cs) 0 ≡ b
-        → length (cond (eqb (listing-refusal xs ys cs) 0) (listing-text (lattice-for xs ys (labels-in cs))) (refused-text (listing-refusal xs ys cs)))
+        → length (cond (eqb (listing-refusal xs ys cs) 0) (listing-text (composition-lattice xs ys (labels-in cs))) (refused-text (listing-refusal xs ys cs)))
         ≤ least-room
-    on true e = rw e (good-short (lattice-for xs ys (labels-in cs)) (good-lattice xs ys cs bytes-xs bytes-ys (eqb-true (listing-refusal xs ys cs) 0 e)))
+    on true e = rw e (good-short (composition-lattice xs ys (labels-in cs)) (good-lattice xs ys cs bytes-xs bytes-ys (eqb-true (listing-refusal xs ys cs) 0 e)))
     on false e = rw e (omega (arith, refused-short (listing-refusal xs ys cs) (omega (arith, listing-most xs ys cs))))

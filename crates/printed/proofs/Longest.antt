@@ -6,9 +6,9 @@ use mathlib.Core.List.{List, [], _∷_, _++_}
 use mathlib.Core.List.{List·Memᴰ as Among}
 use Prim.Native.Nat.{ℕ, zero, suc, _+_, _*_, _-_, _/_, _≤_, _<_, min}
 use native.Mathlib.Omega.{arith}
-use borrow.Author.Tests.{eqb-true, eq-eqb, ltb-true, ltb-false}
+use borrow.Author.Tests.{eqb-true, ltb-true, ltb-false}
 use lib.Dec.{eqb, ltb}
-use lib.ListN.{length, getD, replicate, length-append, length-replicate}
+use lib.ListN.{length, getD, replicate, length-append}
 use Rattle.wire.specs.Bytes.{Bytes, places, every}
 use Rattle.wire.proofs.Places.{length-places, getD-places}
 use Rattle.transducer.specs.declared.Arc.{Arc}
@@ -17,7 +17,7 @@ use Rattle.transducer.specs.Format.{Transducer, Good, min-weight, refusal, deco
 use Rattle.transducer.specs.Format.{order-good, finals-rise, sources-stay, all-labels-good, labels-good, weights-good, weight-good}
 use Rattle.transducer.specs.Encode.{encode}
 use Rattle.transducer.specs.Path.{arc, no-arc, is-final, final-weight, ends, accepts, written-by, non-empty, arcs-cost, path-cost}
-use Rattle.transducer.proofs.Members.{Distinct, getD-in}
+use Rattle.transducer.proofs.Members.{Distinct, getD-in, place-of, places-distinct, no-longer}
 use Rattle.transducer.proofs.Runs.{Accepting, AcceptingBy, Within, accepts-accepting, accepting-accepts}
 use Rattle.transducer.proofs.Runs.{accepting-nil, nil-accepting, accepting-cons, cons-accepting}
 use Rattle.transducer.proofs.RoundTrip.{bytes-encode, decode-encode, refusal-encode}
@@ -26,7 +26,6 @@ use Rattle.transducer.proofs.Weights.{rebate-plus}
 use Rattle.paths.specs.Count.{paths, endless, path-count, nth-path}
 use Rattle.paths.proofs.Endless.{mem-paths, paths-distinct, short-finite, not-endless-listed}
 use Rattle.paths.proofs.NthPath.{nth-path-accepts}
-use Rattle.claim.proofs.Pigeonhole.{place-of, places-distinct, no-longer}
 use Rattle.listing.specs.Text.{decimal, cost-text, readings-word, labels-text, line-of, lines, counted-text, listing-text, least-room}
 use Rattle.listing.proofs.Decimal.{length-decimal-small, length-decimal-large}
 use Rattle.listing.proofs.Short.{cost-below, length-line}

@@ -8,7 +8,7 @@ use native.Mathlib.Omega.{arith}
 use lib.ListN.{length, getD, take, length-map}
 use lib.Seq.{take-suc, take-all, length-take-le}
 use Rattle.wire.specs.Bytes.{Bytes}
-use Rattle.transducer.specs.Format.{Transducer, Good, refusal, decode}
+use Rattle.transducer.specs.Format.{max-bytes, max-origins, max-states, Transducer, Good, refusal, decode}
 use Rattle.wire.proofs.Bool.{passed-last}
 use Rattle.transducer.specs.Each.{named, any-refusal}
 use Rattle.transducer.specs.Entry.{or-else}
@@ -32,11 +32,12 @@ use Rattle.claim.specs.Kind.{Stands-for, Paths-are, Infinitely-many, Each-once}
 use Rattle.claim.specs.Claim.{Pairs, pair-cost, pair-output}
 use Rattle.claim.proofs.Chain.{chain-pairs}
 use Rattle.claim.proofs.Counting.{endless-infinitely-many, listed-once}
+use Rattle.claim.specs.Entry.{composition-lattice}
 use Rattle.listing.specs.Code.{labels-in}
 use Rattle.listing.specs.Text.{line, line-of, lines}
 use Rattle.listing.specs.Entry.{applied-refusal, listing-refusal}
 use Rattle.listing.proofs.Steps.{passed-both, applied-fine}
-use Rattle.printed.specs.Printed.{lattice-for, leads-to, In-path-order, pair-lines}
+use Rattle.printed.specs.Printed.{leads-to, In-path-order, pair-lines}
 
 -- One line more.
 pair-lines-snoc : (xs ys : List ℕ) (k : ℕ) (l : List Two-paths) (x : Two-paths)
@@ -57,7 +58,7 @@ module _ (xs ys cs : List ℕ) (bytes-xs : Bytes xs) (bytes-ys : Bytes ys) (fine
   z = composed (decode xs) (decode ys) .result
 
   abbrev w : Transducer
-  w = lattice-for xs ys s
+  w = composition-lattice xs ys s
 
   record Passed : Type 0 where
     left-good : Good (decode xs)
@@ -70,8 +71,8 @@ module _ (xs ys cs : List ℕ) (bytes-xs : Bytes xs) (bytes-ys : Bytes ys) (fine
   passed : Passed
   unfolding listing-refusal compose-refusal any-refusal
   passed =
-      let rest : ℕ = or-else (compose-room 59404 6144 1024) (built-refusal z) in
-      let all = passed-both (compose-refusal xs ys 59404 6144 1024) (applied-refusal z cs) fine in
+      let rest : ℕ = or-else (compose-room max-bytes max-origins max-states) (built-refusal z) in
+      let all = passed-both (compose-refusal xs ys max-bytes max-origins max-states) (applied-refusal z cs) fine in
       let one = passed-both (refusal xs) (or-else (cond (named (decode xs)) 0 18) (or-else (refusal ys) rest)) (all .0) in
       let any = passed-both (cond (named (decode xs)) 0 18) (or-else (refusal ys) rest) (one .1) in
       let two = passed-both (refusal ys) rest (any .1) in
@@ -80,7 +81,7 @@ module _ (xs ys cs : List ℕ) (bytes-xs : Bytes xs) (bytes-ys : Bytes ys) (fine
         left-good = accepted-good xs bytes-xs (one .0);
         left-named = passed-last (named (decode xs)) 17 (any .0);
         right-good = accepted-good ys bytes-ys (two .0);
-        composes = passed-both (compose-room 59404 6144 1024) (built-refusal z) (two .1) .1;
+        composes = passed-both (compose-room max-bytes max-origins max-states) (built-refusal z) (two .1) .1;
         string = code .0;
         applies = code .1;
       }

@@ -2,13 +2,12 @@
 -- of four cases holds, and neither the texts nor the cases go together. Assumes nothing.
 use mathlib.Core.Path.{_≡_, refl, sym, ap, _∙_}
 use mathlib.Core.Bool.{Bool, true, false}
-use mathlib.Core.Logic.{_↔_}
 use mathlib.Core.List.{List, _∷_, _++_}
 use Prim.Native.Nat.{ℕ, _≤_, _<_}
 use native.Mathlib.Omega.{arith}
 use borrow.Author.Tests.{eqb-true, eqb-false, ne-eqb, ltb-true, ltb-false}
 use lib.Dec.{eqb, ltb}
-use lib.ListN.{length, take, length-map}
+use lib.ListN.{length, length-map}
 use Rattle.wire.proofs.Places.{take-filled}
 use Rattle.transducer.specs.Entry.{unless, left-in}
 use Rattle.compose.specs.Claim.{Two-paths}
@@ -16,11 +15,12 @@ use Rattle.paths.specs.Count.{paths, endless, path-count}
 use Rattle.claim.specs.Kind.{Infinitely-many}
 use Rattle.claim.specs.Claim.{Pairs}
 use Rattle.claim.proofs.Counting.{each-once-long}
+use Rattle.claim.specs.Entry.{composition-lattice}
 use Rattle.listing.specs.Code.{labels-in}
 use Rattle.listing.specs.Text.{decimal, readings-word, endless-word, many-word, lines, counted-text, listing-text, refused-text}
-use Rattle.listing.specs.Entry.{text-unless, listing-refusal, text-of, text-room, Listing-says}
+use Rattle.listing.specs.Entry.{text-unless, text-of, text-room, Listing-says}
 use Rattle.listing.proofs.NthLine.{listing-endless, listing-finite, counted-many, counted-few}
-use Rattle.printed.specs.Printed.{Printing, Answered, printed, refusal-of, lattice-for, leads-to, pair-lines}
+use Rattle.printed.specs.Printed.{Printing, Answered, printed, refusal-of, leads-to, pair-lines}
 use Rattle.printed.specs.Printed.{Begins, Lists, Number-of-pairs, Many-pairs, Form, Printed}
 use Rattle.printed.specs.Printed.Form.{refusal, infinite, many, count}
 use Rattle.printed.proofs.Forms.{refused-or-listed, refused-once, endless-or-many, endless-or-count, many-or-count, count-once}
@@ -59,29 +59,29 @@ module _ (c : Printing) (answered : Answered c) where
     few-case : refusal-of c ≡ 0 → (l : List Two-paths) → length l < 99 → Lists xs ys s (printed c) l → Case
 
   module _ (fine : refusal-of c ≡ 0) where
-    lists-all : printed c ≡ listing-text (lattice-for xs ys s)
+    lists-all : printed c ≡ listing-text (composition-lattice xs ys s)
     unfolding text-of text-unless
     lists-all = printed-is ∙ (rw fine)
 
     abbrev l : List Two-paths
     l = all-pairs xs ys (c .code) (answered .left-bytes) (answered .right-bytes) fine
 
-    long : length l ≡ length (paths (lattice-for xs ys s))
-    long = length-map (paths (lattice-for xs ys s)) (leads-to xs ys s)
+    long : length l ≡ length (paths (composition-lattice xs ys s))
+    long = length-map (paths (composition-lattice xs ys s)) (leads-to xs ys s)
 
-    fine-case : (a b : Bool) → endless (lattice-for xs ys s) ≡ a → ltb (path-count (lattice-for xs ys s)) 99 ≡ b → Case
+    fine-case : (a b : Bool) → endless (composition-lattice xs ys s) ≡ a → ltb (path-count (composition-lattice xs ys s)) 99 ≡ b → Case
     unfolding path-count
     fine-case true b e f =
         endless-case fine (infinite-pairs xs ys (c .code) (answered .left-bytes) (answered .right-bytes) fine .0 e)
-        (lists-all ∙ listing-endless (lattice-for xs ys s) e)
+        (lists-all ∙ listing-endless (composition-lattice xs ys s) e)
     fine-case false false e f =
-        let w = lattice-for xs ys s in
+        let w = composition-lattice xs ys s in
         let most : 99 ≤ path-count w = ltb-false (path-count w) 99 f in
         let each = pairs-once xs ys (c .code) (answered .left-bytes) (answered .right-bytes) fine e in
         many-case fine (record { number = length l; pairs = record { list = l; each = each; long = refl }; many = omega (arith, long, most) })
         (lists-all ∙ (listing-finite w e ∙ ap (λ (t : List ℕ). readings-word ++ t) (counted-many w (path-count w) refl most)))
     fine-case false true e f =
-        let w = lattice-for xs ys s in
+        let w = composition-lattice xs ys s in
         let few : path-count w < 99 = ltb-true (path-count w) 99 f in
         let all : path-count w ≡ length (paths w) = omega arith in
         let each = pairs-once xs ys (c .code) (answered .left-bytes) (answered .right-bytes) fine e in
@@ -103,7 +103,7 @@ module _ (c : Printing) (answered : Answered c) where
   this-case = on (eqb (refusal-of c) 0) refl
     where
       on : (b : Bool) → eqb (refusal-of c) 0 ≡ b → Case
-      on true e = fine-case (eqb-true (refusal-of c) 0 e) (endless (lattice-for xs ys s)) (ltb (path-count (lattice-for xs ys s)) 99) refl refl
+      on true e = fine-case (eqb-true (refusal-of c) 0 e) (endless (composition-lattice xs ys s)) (ltb (path-count (composition-lattice xs ys s)) 99) refl refl
       on false e = refused-case (eqb-false (refusal-of c) 0 e) (refused-is (eqb-false (refusal-of c) 0 e))
 
   -- A text with a line for each pair begins with their number.

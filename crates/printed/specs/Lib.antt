@@ -1,1 +1,2 @@
+-- What is claimed
 pub mod Printed

@@ -8,14 +8,15 @@ use mathlib.Core.List.{List·Memᴰ as Among}
 use Prim.Native.Nat.{ℕ, _+_, _≤_, _<_}
 use lib.ListN.{length, getD, take}
 use Rattle.wire.specs.Bytes.{Bytes}
-use Rattle.transducer.specs.Format.{Transducer, decode}
+use Rattle.transducer.specs.Format.{decode}
 use Rattle.transducer.specs.Path.{accepts}
 use Rattle.compose.specs.Claim.{Two-paths}
 use Rattle.compose.specs.Compose.{composed}
 use Rattle.compose.specs.Entry.{origin-pairs}
-use Rattle.lattice.specs.Lattice.{lattice, lattice-origins}
+use Rattle.lattice.specs.Lattice.{lattice-origins}
 use Rattle.paths.specs.Count.{before}
 use Rattle.claim.specs.Kind.{Infinitely-many, Each-once}
+use Rattle.claim.specs.Entry.{composition, composition-lattice}
 use Rattle.claim.specs.Claim.{Pairs, pair-cost, pair-output, to-pair}
 use Rattle.listing.specs.declared.Listed.{Listed}
 use Rattle.listing.specs.Code.{labels-in}
@@ -46,18 +47,15 @@ printed c = take (c .answer .len) (c .out-left)
 abbrev pub refusal-of : Printing → ℕ
 refusal-of c = listing-refusal (c .left) (c .right) (c .code)
 
--- The lattice, and where its paths lead, by what composing and applying leave behind.
-abbrev pub lattice-for : (left right string : List ℕ) → Transducer
-lattice-for left right string = lattice string (composed (decode left) (decode right) .result)
-
+-- Where the paths of the lattice lead, by what composing and applying leave behind.
 abbrev pub leads-to : (left right string path : List ℕ) → Two-paths
 leads-to left right string =
-    to-pair (origin-pairs (composed (decode left) (decode right) .steps)) (lattice-origins string (composed (decode left) (decode right) .result))
+    to-pair (origin-pairs (composed (decode left) (decode right) .steps)) (lattice-origins string (composition left right))
 
 -- Pairs in path order: accepting paths of the lattice lead to them, each path before those that follow.
 pub record In-path-order (left right string : List ℕ) (l : List Two-paths) : Type 0 where
   pub paths : List (List ℕ)
-  pub accepted : (p : List ℕ) → Among p paths → accepts (lattice-for left right string) p ≡ true
+  pub accepted : (p : List ℕ) → Among p paths → accepts (composition-lattice left right string) p ≡ true
   pub rising : (j k : ℕ) → j < k → k < length paths → before (getD paths j []) (getD paths k []) ≡ true
   pub lead : l ≡ map (leads-to left right string) paths
 

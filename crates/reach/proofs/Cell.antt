@@ -16,3 +16,7 @@ parts-cell s k h = record { state-is = omega arith; link-is = omega arith }
 pub cell-some : (s k : ℕ) → cell-of s k ≡ 0 → k ≡ 0
 unfolding cell-of
 cell-some s k e = omega arith
+
+pub link-below : (c : ℕ) → link-of c < links
+unfolding link-of
+link-below c = omega arith

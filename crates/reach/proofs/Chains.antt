@@ -11,7 +11,7 @@ use lib.Dec.{ltb, eqb}
 use lib.ListN.{length, getD, set, replicate, length-set, length-replicate, getD-replicate}
 use lib.Seq.{getD-set-same, getD-set-other}
 use borrow.Author.Tests.{eq-eqb, ne-eqb, ltb-true, ltb-false}
-use Rattle.transducer.specs.Format.{Transducer}
+use Rattle.transducer.specs.Format.{max-arcs, max-states, Transducer}
 use Rattle.transducer.specs.Path.{arc}
 use Rattle.reach.specs.Marks.{from-end, to-end}
 use Rattle.reach.specs.Cell.{links, cell-of, state-of, link-of}
@@ -88,22 +88,22 @@ cell-link t back (suc i) h = cell-parts t back i h .link-is
 
 -- The first i arcs are in chains.
 pub record Chaining (t : Transducer) (back : Bool) (i : ℕ) (heads next : List ℕ) : Type 0 where
-  pub heads-long : length heads ≡ 1024
-  pub next-long : length next ≡ 3072
-  pub head-at : (s : ℕ) → s < 1024 → getD heads s 0 ≡ cell t back (last t back s i)
+  pub heads-long : length heads ≡ max-states
+  pub next-long : length next ≡ max-arcs
+  pub head-at : (s : ℕ) → s < max-states → getD heads s 0 ≡ cell t back (last t back s i)
   pub next-at : (j : ℕ) → j < i → getD next j 0 ≡ cell t back (last t back (from-end back (arc t j)) j)
 
-pub chaining-first : (t : Transducer) (back : Bool) (next : List ℕ) → length next ≡ 3072 → Chaining t back 0 (replicate 1024 0) next
+pub chaining-first : (t : Transducer) (back : Bool) (next : List ℕ) → length next ≡ max-arcs → Chaining t back 0 (replicate max-states 0) next
 unfolding last cell
 chaining-first t back next h =
     record {
-      heads-long = length-replicate {A = ℕ} 1024 0;
+      heads-long = length-replicate {A = ℕ} max-states 0;
       next-long = h;
-      head-at = λ s l. getD-replicate {A = ℕ} 1024 s 0 0 l;
+      head-at = λ s l. getD-replicate {A = ℕ} max-states s 0 0 l;
       next-at = λ j l. absurd (omega arith);
     }
 
-pub chaining-next : {t : Transducer} {back : Bool} {i : ℕ} {heads next : List ℕ} (from to : ℕ) → i < 3072 → from < 1024
+pub chaining-next : {t : Transducer} {back : Bool} {i : ℕ} {heads next : List ℕ} (from to : ℕ) → i < max-arcs → from < max-states
     → from ≡ from-end back (arc t i) → to ≡ to-end back (arc t i) → Chaining t back i heads next
     → Chaining t back (i + 1) (set heads from (cell-of to (i + 1))) (set next i (getD heads from 0))
 unfolding cell
@@ -115,7 +115,7 @@ chaining-next {t} {back} {i} {heads} {next} from to h l f g m =
       next-at = λ j k. put j k (ℕ-discrete j i);
     }
   where
-    head : (s : ℕ) → s < 1024 → Dec (s ≡ from) → getD (set heads from (cell-of to (suc i))) s 0 ≡ cell t back (last t back s (suc i))
+    head : (s : ℕ) → s < max-states → Dec (s ≡ from) → getD (set heads from (cell-of to (suc i))) s 0 ≡ cell t back (last t back s (suc i))
     head s k (yes e) =
         rw e (getD-set-same heads from (cell-of to (suc i)) 0 (omega (arith, m .heads-long))
         ∙ ap (λ (u : ℕ). cell-of u (suc i)) g ∙ ap (cell t back) (sym (last-next t back from i (sym f))))
@@ -145,7 +145,7 @@ pub record On-chain (t : Transducer) (back : Bool) (s link c : ℕ) : Type 0 whe
   pub last-is : last t back s link ≡ link
   pub link-most : link ≤ length (t .arcs)
 
-pub chain-first : {t : Transducer} {back : Bool} {heads next : List ℕ} (s : ℕ) → s < 1024 → Chained t back heads next
+pub chain-first : {t : Transducer} {back : Bool} {heads next : List ℕ} (s : ℕ) → s < max-states → Chained t back heads next
     → On-chain t back s (last t back s (length (t .arcs))) (getD heads s 0)
 chain-first {t} {back} s h ch =
     record { cell-is = ch .head-at s h; last-is = last-last t back s (length (t .arcs)); link-most = last-most t back s (length (t .arcs)) }
@@ -159,7 +159,7 @@ pub record ArcHere (t : Transducer) (back : Bool) (s state part link : ℕ) : Ty
   pub part-is : part ≡ suc number
   pub is : link ≡ suc number
 
-module _ {t : Transducer} {back : Bool} {s link c u k : ℕ} (few : length (t .arcs) ≤ 3072) (w : On-chain t back s link c) (p : Parts u k c) where
+module _ {t : Transducer} {back : Bool} {s link c u k : ℕ} (few : length (t .arcs) ≤ max-arcs) (w : On-chain t back s link c) (p : Parts u k c) where
   pub chain-arc : (c ≡ 0 → ⊥) → ArcHere t back s u k link
   chain-arc some = on link refl
     where
@@ -190,7 +190,7 @@ module _ {t : Transducer} {back : Bool} {s link c u k : ℕ} (few : length (t .a
         link-most = omega (arith, last-most t back s (a .number), a .below);
       }
 
-  pub chain-link : (c ≡ 0 → ⊥) → (0 < k) × (k ≤ 3072)
+  pub chain-link : (c ≡ 0 → ⊥) → (0 < k) × (k ≤ max-arcs)
   chain-link some = let a = chain-arc some in (omega (arith, a .part-is), omega (arith, a .part-is, a .below))
 
   -- The chain goes on to lower numbers.

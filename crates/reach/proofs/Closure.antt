@@ -6,12 +6,11 @@ use mathlib.Core.Logic.{_⊎_, inl, inr}
 use mathlib.Core.List.{List, _∷_}
 use Prim.Native.Nat.{ℕ, zero, suc, _<_}
 use native.Mathlib.Decide.{ℕ-discrete}
-use native.Mathlib.Omega.{arith}
 use lib.ListN.{length, getD, set, replicate, length-set, length-replicate}
 use lib.Seq.{getD-set-same, getD-set-other}
 use borrow.Author.Tests.{eqb-true}
 use Rattle.wire.proofs.Bool.{clash, same-truth}
-use Rattle.transducer.specs.Format.{Transducer}
+use Rattle.transducer.specs.Format.{max-states, Transducer}
 use Rattle.transducer.specs.Path.{arc, is-final}
 use Rattle.transducer.proofs.Runs.{cons-accepting, Within}
 use Rattle.reach.specs.Reach.{accessible, coaccessible}
@@ -33,23 +32,23 @@ accessible-passes t w i h e =
     path-accessible t w (arc t i .target) (q .0)
 
 pub record Begun (t : Transducer) (ms : List Bool) : Type 0 where
-  pub long : length ms ≡ 1024
+  pub long : length ms ≡ max-states
   pub starts : getD ms (t .start) false ≡ true
   pub sound : (s : ℕ) → getD ms s false ≡ true → accessible (t .states) t s ≡ true
 
-pub accessible-begun : (t : Transducer) (start : ℕ) → start ≡ t .start → start < 1024 → Begun t (set (replicate 1024 false) start true)
+pub accessible-begun : (t : Transducer) (start : ℕ) → start ≡ t .start → start < max-states → Begun t (set (replicate max-states false) start true)
 accessible-begun t start is below =
-    let room : start < length (replicate 1024 false) = rw (length-replicate {A = Bool} 1024 false) below in
+    let room : start < length (replicate max-states false) = rw (length-replicate {A = Bool} max-states false) below in
     record {
-      long = length-set (replicate 1024 false) start true ∙ length-replicate {A = Bool} 1024 false;
-      starts = rw (← is) (getD-set-same (replicate 1024 false) start true false room);
+      long = length-set (replicate max-states false) start true ∙ length-replicate {A = Bool} max-states false;
+      starts = rw (← is) (getD-set-same (replicate max-states false) start true false room);
       sound = λ s h. on s h (ℕ-discrete s start);
     }
   where
-    on : (s : ℕ) → getD (set (replicate 1024 false) start true) s false ≡ true → Dec (s ≡ start) → accessible (t .states) t s ≡ true
+    on : (s : ℕ) → getD (set (replicate max-states false) start true) s false ≡ true → Dec (s ≡ start) → accessible (t .states) t s ≡ true
     on s h (yes e) = rw (e, is) (accessible-start (t .states) t)
     on s h (no n) =
-        clash h (getD-set-other (replicate 1024 false) start s true false n ∙ getD-none 1024 s)
+        clash h (getD-set-other (replicate max-states false) start s true false n ∙ getD-none max-states s)
 
 pub accessible-closure : {t : Transducer} {ms ms' : List Bool} → Within t → Begun t ms → Closure t false ms ms' → Marked (accessible (t .states) t) ms'
 unfolding accessible

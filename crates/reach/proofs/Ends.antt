@@ -1,6 +1,6 @@
 -- Finals and arcs of accepted bytes, as a loop loads them: they lie inside, and their states are below the number of states. Assumes nothing.
 use mathlib.Core.Path.{_≡_, sym, ap, _∙_}
-use mathlib.Core.Bool.{Bool, true, false}
+use mathlib.Core.Bool.{true}
 use mathlib.Core.List.{List, [], _∷_}
 use Prim.Native.Nat.{ℕ, zero, suc, _+_, _*_, _≤_, _<_}
 use native.Mathlib.Nat.{not-suc-le-zero, le-of-suc-le-suc}
@@ -11,7 +11,7 @@ use Rattle.wire.specs.Bytes.{Bytes}
 use Rattle.wire.proofs.Bool.{and-true}
 use Rattle.transducer.specs.declared.Arc.{Arc}
 use Rattle.transducer.specs.declared.Final.{Final}
-use Rattle.transducer.specs.Format.{decode, refusal, sources-stay, head-finals, final-at}
+use Rattle.transducer.specs.Format.{max-states, decode, refusal, sources-stay, head-finals, final-at}
 use Rattle.transducer.specs.Path.{arc, no-arc}
 use Rattle.transducer.proofs.Good.{final-state-below, sources-stay-good}
 use Rattle.transducer.proofs.Index.{stay-floor}
@@ -23,7 +23,7 @@ use Rattle.transducer.proofs.Runs.{Within, good-within}
 pub record Arc-ends (n : ℕ) (a : Arc) : Type 0 where
   pub source-below : a .source < n
   pub target-below : a .target < n
-  pub few : n ≤ 1024
+  pub few : n ≤ max-states
 
 stay-order : (floor : ℕ) (l : List Arc) (j i : ℕ) → sources-stay floor l ≡ true → j ≤ i → i < length l → getD l j no-arc .source ≤ getD l i no-arc .source
 unfolding sources-stay
@@ -39,7 +39,7 @@ module _ (bs : List ℕ) (bytes : Bytes bs) (ok : refusal bs ≡ 0) where
   pub within-states : Within (decode bs)
   within-states = good-within (decode bs) (accepted-is-good bs bytes ok)
 
-  pub few-states : decode bs .states ≤ 1024
+  pub few-states : decode bs .states ≤ max-states
   few-states = omega (arith, decode-states bs bytes ok, accepted-within bs bytes ok .states)
 
   pub arc-ends : (i : ℕ) (a : Arc) → i < length (decode bs .arcs) → a ≡ arc (decode bs) i → Arc-ends (decode bs .states) a
@@ -57,7 +57,7 @@ module _ (bs : List ℕ) (bytes : Bytes bs) (ok : refusal bs ≡ 0) where
   final-loaded i f h there e = final-offset bs bytes ok i f (omega (arith, length-finals bs bytes ok)) ∙ sym (e ∙ ap (final-at bs) there)
 
   pub final-state : {place : ℕ} (i : ℕ) (f : Final) → i < head-finals bs → place ≡ 12 + 10 * i → f ≡ final-at bs place
-      → (f .state < decode bs .states) × (f .state < 1024)
+      → (f .state < decode bs .states) × (f .state < max-states)
   final-state i f h there e =
       let below = final-state-below (decode bs) (accepted-good bs bytes ok) i f (omega (arith, length-finals bs bytes ok)) in
       let here = ap (λ (g : Final). g .state) (final-loaded i f h there e) in

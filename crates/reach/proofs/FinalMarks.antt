@@ -14,7 +14,7 @@ use Rattle.wire.specs.Bytes.{Bytes, places}
 use Rattle.wire.proofs.Bool.{or-right}
 use Rattle.wire.proofs.Places.{places-snoc}
 use Rattle.transducer.specs.declared.Final.{Final}
-use Rattle.transducer.specs.Format.{decode, refusal, head-finals, final-at}
+use Rattle.transducer.specs.Format.{max-states, decode, refusal, head-finals, final-at}
 use Rattle.transducer.specs.Path.{is-final}
 use Rattle.transducer.proofs.Offsets.{decode-finals}
 use Rattle.transducer.proofs.Finals.{is-final-append}
@@ -25,13 +25,13 @@ use Rattle.reach.proofs.Closure.{getD-none}
 pub record Marking (bs : List ℕ) (i place : ℕ) (ms : List Bool) : Type 0 where
   pub within : i ≤ head-finals bs
   pub there : place ≡ 12 + 10 * i
-  pub long : length ms ≡ 1024
+  pub long : length ms ≡ max-states
   pub so-far : (s : ℕ) → getD ms s false ≡ is-final (places i 12 10 (final-at bs)) s
 
-pub marking-first : (bs : List ℕ) → Marking bs 0 12 (replicate 1024 false)
+pub marking-first : (bs : List ℕ) → Marking bs 0 12 (replicate max-states false)
 unfolding places is-final
 marking-first bs =
-    record { within = omega arith; there = refl; long = length-replicate {A = Bool} 1024 false; so-far = λ s. getD-none 1024 s }
+    record { within = omega arith; there = refl; long = length-replicate {A = Bool} max-states false; so-far = λ s. getD-none max-states s }
 
 or-false : (a : Bool) → a || false ≡ a
 or-false true = refl

@@ -1,6 +1,6 @@
 -- What `accessible` and `coaccessible` mean for paths. Assumes nothing.
 use mathlib.Core.Path.{_≡_, refl, sym, _∙_}
-use mathlib.Core.Bool.{Bool, true, false, _&&_, _||_}
+use mathlib.Core.Bool.{Bool, true, _&&_}
 use mathlib.Core.Logic.{_⊎_, inl, inr}
 use mathlib.Core.List.{List, [], _∷_, _++_}
 use Prim.Native.Nat.{ℕ, zero, suc, _+_, _-_, _≤_, _<_}
@@ -170,19 +170,6 @@ accessible-along k t s (i ∷ p) c h =
     accessible-along (suc k) t (arc t i .target) p (accessible-next k t i (r .below) from) (r .rest) in
     let e : length p + suc k ≡ suc (length p) + k = omega arith in
     rw e at more
-
-accessible-more : (j k : ℕ) (t : Transducer) (s : ℕ) → accessible k t s ≡ true → accessible (j + k) t s ≡ true
-accessible-more zero k t s h = rw zero-add h
-accessible-more (suc j) k t s h = rw suc-add (accessible-longer (j + k) t s (accessible-more j k t s h))
-
-pub path-accessible-in : (k : ℕ) (t : Transducer) (s : ℕ) (r : PathTo t s) → length (r .path) ≤ k → accessible k t s ≡ true
-path-accessible-in k t s r h =
-    let c : accessible (length (r .path) + 0) t (ends t (t .start) (r .path)) ≡ true =
-    accessible-along 0 t (t .start) (r .path) (accessible-start 0 t) (r .goes) in
-    let m : accessible ((k - length (r .path)) + (length (r .path) + 0)) t (ends t (t .start) (r .path)) ≡ true =
-    accessible-more (k - length (r .path)) (length (r .path) + 0) t (ends t (t .start) (r .path)) c in
-    let e : (k - length (r .path)) + (length (r .path) + 0) ≡ k = omega arith in
-    rw (e, r .there) at m
 
 accessible-chain : (t : Transducer) → Within t → Chain (t .states) (λ k. accessible k t)
 accessible-chain t w = record { grows = λ k s h. accessible-longer k t s; stays = λ k rests s h e. on k rests s (came (suc k) t s e) }

@@ -5,7 +5,7 @@ use Prim.Native.Nat.{ℕ, _≤_}
 use native.Mathlib.Omega.{arith}
 use lib.ListN.{length}
 use Rattle.wire.specs.Bytes.{Bytes}
-use Rattle.transducer.specs.Format.{Transducer, decode, refusal}
+use Rattle.transducer.specs.Format.{max-arcs, max-states, Transducer, decode, refusal}
 use Rattle.transducer.proofs.Good.{Content}
 use Rattle.transducer.proofs.Offsets.{accepted-within, accepted-good, decode-states, decode-start, length-arcs}
 use Rattle.transducer.proofs.Runs.{Within, states-good-within}
@@ -14,8 +14,8 @@ use Rattle.transducer.proofs.Runs.{Within, states-good-within}
 pub record Sized (t : Transducer) : Type 0 where
   pub content : Content t
   pub within : Within t
-  pub states : t .states ≤ 1024
-  pub arcs : length (t .arcs) ≤ 3072
+  pub states : t .states ≤ max-states
+  pub arcs : length (t .arcs) ≤ max-arcs
 
 pub sized : (bs : List ℕ) → Bytes bs → refusal bs ≡ 0 → Sized (decode bs)
 sized bs bytes ok =

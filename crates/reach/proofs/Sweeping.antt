@@ -14,7 +14,7 @@ use Rattle.wire.proofs.Bool.{never}
 use Rattle.transducer.specs.declared.Arc.{Arc}
 use Rattle.transducer.specs.Format.{Transducer}
 use Rattle.transducer.specs.Path.{arc}
-use Rattle.reach.specs.Marks.{Spread, from-end, to-end, Passes, Widened, waits, Swept}
+use Rattle.reach.specs.Marks.{Spread, from-end, to-end, Widened, waits, Swept}
 use Rattle.reach.proofs.Spreading.{widened-none, widened-twice, widened-one}
 
 -- Sources never fall.

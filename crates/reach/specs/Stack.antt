@@ -2,7 +2,7 @@
 use mathlib.Core.Path.{_≡_}
 use mathlib.Core.Bool.{Bool, true, false, cond}
 use mathlib.Core.List.{List}
-use Prim.Native.Nat.{ℕ, zero, suc, _+_, _*_, _≤_, _<_}
+use Prim.Native.Nat.{ℕ, zero, suc, _+_, _≤_, _<_}
 use lib.Dec.{eqb}
 use lib.ListN.{length, getD}
 use Rattle.transducer.specs.Format.{max-arcs, max-states, Transducer}
@@ -40,11 +40,11 @@ pub record Waiting (t : Transducer) (back : Bool) (ms : List Bool) (stack : List
   pub closed : (i : ℕ) → i < length (t .arcs) → getD ms (from-end back (arc t i)) false ≡ true → Off stack top (from-end back (arc t i))
       → getD ms (to-end back (arc t i)) false ≡ true
 
--- The arcs of the state that stood at `top` are followed, and new states are on the stack from there on.
+-- The arcs of the state that stood at `top` are followed, and new states are on the stack from there on, no more than are newly marked.
 pub record Served (t : Transducer) (back : Bool) (top : ℕ) (ms ms' : List Bool) (stack : List ℕ) (top' : ℕ) : Type 0 where
   pub wider : Widened t back ms ms'
   pub rises : top ≤ top'
-  pub pushed : number ms' + top ≡ number ms + top'
+  pub pushed : number ms + top' ≤ number ms' + top
   pub waiting : Waiting t back ms' stack top'
 
 -- The marked states below n are on the stack.

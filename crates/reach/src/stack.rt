@@ -55,7 +55,8 @@ fn push_marked(states: usize, marks: &[bool; MAX_STATES], stack: &mut [u16; MAX_
     top
 }
 
-// Takes the state at `top` off the stack, and marks and puts on it those that its arcs lead to and that are not marked. Answers where it ends.
+// Takes the state at `top` off the stack, and marks and puts on it those that its arcs lead to and that are not marked. One that the last arc of a chain
+// leads to is not put there but followed at once: on a line each step would wait for the stack. Answers where the stack ends.
 fn serve(
     table: &[u8],
     back: bool,
@@ -69,7 +70,7 @@ fn serve(
         × Waiting (decode (now table)) back (now marks) (now stack) (top + 1) ⌝ }
     ensures { λ r. ⌜ Served (decode (now (table .entry))) back top (now (marks .entry)) (now (marks .exit)) (now (stack .exit)) r ⌝ }
 {
-    let s = stack[top] as usize;
+    let mut s = stack[top] as usize;
     let mut cell = heads[s];
     let mut end = top;
     while cell != 0 {
@@ -80,6 +81,11 @@ fn serve(
             continue;
         }
         marks[to] = true;
+        if cell == 0 {
+            s = to;
+            cell = heads[s];
+            continue;
+        }
         stack[end] = to as u16;
         end += 1;
     }

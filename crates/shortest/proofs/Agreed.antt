@@ -16,13 +16,13 @@ use Rattle.transducer.proofs.Answers.{or-else-none, none-or-else, cost-unless-n
 use Rattle.transducer.proofs.Runs.{Accepting, accepts-accepting, accepting-accepts}
 use Rattle.reach.specs.Reach.{coaccessible}
 use Rattle.reach.proofs.Reach.{coaccessible-path, path-coaccessible}
-use Rattle.paths.specs.declared.Told.{Told}
-use Rattle.paths.proofs.Ready.{Sized, sized}
+use Rattle.tell.specs.declared.Told.{Told}
+use Rattle.reach.proofs.Sized.{Sized, sized}
 use Rattle.least.specs.Cycles.{falling, falling-anywhere}
 use Rattle.least.proofs.Costs.{cost-start}
 use Rattle.least.proofs.Falls.{falling-some}
 use Rattle.distance.specs.Distance.{no-path, least-to-come}
-use Rattle.distance.specs.Nearest.{cost-at}
+use Rattle.relax.specs.Nearest.{cost-at}
 use Rattle.distance.specs.Entry.{costs-refusal, Costs-say}
 use Rattle.distance.specs.Claim.{Least-from, Cell-claim}
 use Rattle.distance.proofs.ToCome.{cell-claimed}

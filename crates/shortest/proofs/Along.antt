@@ -3,7 +3,7 @@
 use mathlib.Core.Path.{_≡_, refl, sym, ap, _∙_}
 use mathlib.Core.Bool.{true}
 use mathlib.Core.List.{List, [], _∷_, _++_, append-assoc, append-nil}
-use Prim.Native.Nat.{ℕ, zero, suc, _+_, _-_, _≤_, _<_}
+use Prim.Native.Nat.{ℕ, suc, _+_, _-_, _≤_, _<_}
 use native.Mathlib.Omega.{arith}
 use lib.ListN.{length, set, take, length-set}
 use lib.Seq.{length-take-le, take-suc-set}
@@ -15,13 +15,8 @@ use Rattle.transducer.proofs.Paths.{Runs, runs-cons}
 use Rattle.transducer.proofs.Runs.{Within}
 use Rattle.shortest.specs.Tight.{follow}
 
-pub length-follow : (n : ℕ) (t : Transducer) (v : ℕ → ℕ) (s : ℕ) → length (follow n t v s) ≡ n
-unfolding follow
-length-follow zero t v s = refl
-length-follow (suc n) t v s = ap suc (length-follow n t v (arc t (v s) .target))
-
 -- At a state: n arcs are walked.
-pub record Walked (t : Transducer) (v : ℕ → ℕ) (start len room : ℕ) (out : List ℕ) (s n : ℕ) : Type 0 where
+pub record Walked-along (t : Transducer) (v : ℕ → ℕ) (start len room : ℕ) (out : List ℕ) (s n : ℕ) : Type 0 where
   pub few : n ≤ len
   pub enough : len ≤ room
   pub long : length out ≡ room
@@ -31,12 +26,13 @@ pub record Walked (t : Transducer) (v : ℕ → ℕ) (start len room : ℕ) (out
 
 pub walked-first : (t : Transducer) (v : ℕ → ℕ) (start len : ℕ) (out : List ℕ) → len ≤ length out → start < t .states
     → runs t start (follow len t v start) ≡ true
-    → Walked t v start len (length out) out start 0
+    → Walked-along t v start len (length out) out start 0
 walked-first t v start len out h b r =
     let z : len - 0 ≡ len = omega arith in
     record { few = omega arith; enough = h; long = refl; inside = b; rest = rw z r; whole = rw z refl }
 
-module _ (t : Transducer) (w : Within t) (v : ℕ → ℕ) (start len room : ℕ) (out : List ℕ) (s n : ℕ) (k : Walked t v start len room out s n) (h : n < len) where
+module _ (t : Transducer) (w : Within t) (v : ℕ → ℕ) (start len room : ℕ) (out : List ℕ) (s n : ℕ)
+    (k : Walked-along t v start len room out s n) (h : n < len) where
   abbrev left : ℕ
   left = len - (n + 1)
 
@@ -47,7 +43,7 @@ module _ (t : Transducer) (w : Within t) (v : ℕ → ℕ) (start len room : ℕ
   unfolding follow
   walked-arc = runs-cons t s (v s) (follow left t v (arc t (v s) .target)) (rw more at (k .rest))
 
-  pub walked-next : (i : ℕ) (a : Arc) → i ≡ v s → a ≡ arc t i → Walked t v start len room (set out n i) (a .target) (n + 1)
+  pub walked-next : (i : ℕ) (a : Arc) → i ≡ v s → a ≡ arc t i → Walked-along t v start len room (set out n i) (a .target) (n + 1)
   unfolding follow
   walked-next i a along is =
       let u : ℕ = arc t (v s) .target in
@@ -65,7 +61,7 @@ module _ (t : Transducer) (w : Within t) (v : ℕ → ℕ) (start len room : ℕ
         whole = ap (λ (x : ℕ). take x (set out n (v s)) ++ follow left t v u) one ∙ next;
       })
 
-pub walked-done : (t : Transducer) (v : ℕ → ℕ) (start len room : ℕ) (out : List ℕ) (s n : ℕ) → Walked t v start len room out s n → len ≤ n
+pub walked-done : (t : Transducer) (v : ℕ → ℕ) (start len room : ℕ) (out : List ℕ) (s n : ℕ) → Walked-along t v start len room out s n → len ≤ n
     → cleared n out ≡ filled room (follow len t v start)
 unfolding cleared filled follow
 walked-done t v start len room out s n k h =

@@ -15,18 +15,19 @@ use Rattle.transducer.specs.Path.{accepts, runs, path-cost}
 use Rattle.transducer.specs.Entry.{or-else}
 use Rattle.transducer.specs.Weight.{Weight, At-most, Below}
 use Rattle.transducer.proofs.Runs.{accepting-accepts}
-use Rattle.paths.specs.declared.Told.{Told}
+use Rattle.tell.specs.declared.Told.{Told}
 use Rattle.reach.specs.Reach.{accessible, coaccessible}
 use Rattle.reach.proofs.Reach.{accessible-start, path-coaccessible}
 use Rattle.least.specs.Cycles.{Falling, falling}
 use Rattle.least.proofs.Costs.{cost-start}
 use Rattle.least.proofs.Cycles.{falling-accepting}
 use Rattle.least.proofs.Falls.{falls-start, falling-true}
-use Rattle.paths.specs.Entry.{Tells}
-use Rattle.paths.proofs.PathTold.{refused-told, told-refused, told-found}
-use Rattle.paths.proofs.Ready.{Sized}
-use Rattle.distance.specs.Distance.{Size}
-use Rattle.distance.specs.Nearest.{Sizes, unreached, cost-at, by-state, Settled, Distances-say}
+use Rattle.tell.specs.Tell.{Tells}
+use Rattle.tell.proofs.PathTold.{refused-told, told-refused, told-found}
+use Rattle.reach.proofs.Sized.{Sized}
+use Rattle.relax.specs.Size.{Size}
+use Rattle.relax.specs.Nearest.{Sizes, unreached, cost-at, by-state, Settled}
+use Rattle.distance.specs.Ended.{Distances-say}
 use Rattle.distance.proofs.Settled.{few-arcs, reached-accepting, no-path-none}
 use Rattle.shortest.specs.Shortest.{shortest}
 use Rattle.shortest.specs.Tight.{first-tight, follow}

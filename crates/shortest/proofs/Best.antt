@@ -12,10 +12,10 @@ use Rattle.transducer.specs.Format.{Transducer}
 use Rattle.transducer.specs.Path.{path-cost}
 use Rattle.paths.specs.Count.{before}
 use Rattle.paths.proofs.Order.{Compared, earlier, same, after, before-total, before-irreflexive, before-transitive}
-use Rattle.distance.specs.Distance.{size-of}
-use Rattle.distance.specs.Nearest.{No-worse, Nearer}
-use Rattle.distance.proofs.Nearer.{nearer-true, true-nearer, nearer-false, false-nearer, nearer-no-worse, nearer-not, nearer-through}
-use Rattle.distance.proofs.Nearer.{through-nearer, no-worse-through, no-worse-same}
+use Rattle.relax.specs.Size.{size-of}
+use Rattle.relax.specs.Nearest.{No-worse, Nearer}
+use Rattle.relax.proofs.Nearer.{nearer-true, true-nearer, nearer-false, false-nearer, nearer-no-worse, nearer-not, nearer-through}
+use Rattle.relax.proofs.Nearer.{through-nearer, no-worse-through, no-worse-same}
 use Rattle.shortest.specs.Shortest.{nearer-path, better, best-of, best}
 
 -- A path against another, by cost and size.

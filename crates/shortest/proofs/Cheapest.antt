@@ -20,8 +20,8 @@ use Rattle.reach.specs.Reach.{coaccessible}
 use Rattle.reach.proofs.Reach.{coaccessible-path, path-coaccessible}
 use Rattle.paths.specs.Count.{paths-from}
 use Rattle.paths.proofs.Listed.{in-paths-from, paths-from-has}
-use Rattle.distance.specs.Distance.{size-of}
-use Rattle.distance.proofs.Nearer.{no-worse-through}
+use Rattle.relax.specs.Size.{size-of}
+use Rattle.relax.proofs.Nearer.{no-worse-through}
 use Rattle.shortest.specs.Shortest.{better, shortest}
 use Rattle.least.specs.Cycles.{falling}
 use Rattle.least.proofs.Costs.{cost-start}

@@ -3,24 +3,24 @@ use mathlib.Core.Path.{_≡_, refl, sym, ap, _∙_}
 use mathlib.Core.Bool.{Bool, true, false, _||_, not, cond}
 use mathlib.Core.Logic.{_↔_}
 use mathlib.Core.List.{List}
-use Prim.Native.Nat.{ℕ, _≤_, _<_}
+use Prim.Native.Nat.{ℕ, _≤_}
 use native.Mathlib.Omega.{arith}
 use lib.Dec.{ltb}
 use lib.ListN.{length, take}
 use borrow.Author.Tests.{le-ltb}
 use Rattle.wire.specs.Bytes.{filled}
-use Rattle.wire.proofs.Bool.{by-test, clash, is-false}
+use Rattle.wire.proofs.Bool.{by-test, clash}
 use Rattle.transducer.proofs.Weights.{sums}
 use Rattle.wire.proofs.Places.{take-filled}
 use Rattle.transducer.specs.Format.{max-path, Transducer, refusal, decode}
 use Rattle.transducer.specs.Path.{accepts, written-by, path-cost}
-use Rattle.transducer.specs.Weight.{no-weight, At-most}
+use Rattle.transducer.specs.Weight.{no-weight}
 use Rattle.transducer.proofs.Answers.{none-or-else, unless-none, cost-unless-none, left-in-none}
 use Rattle.transducer.proofs.RoundTrip.{accepted-good}
 use Rattle.transducer.proofs.Runs.{Within, good-within, accepting-accepts}
 use Rattle.reach.specs.Reach.{coaccessible}
 use Rattle.reach.proofs.Reach.{coaccessible-path}
-use Rattle.paths.specs.declared.Told.{Told}
+use Rattle.tell.specs.declared.Told.{Told}
 use Rattle.least.specs.Cycles.{Falling, falling}
 use Rattle.least.proofs.Cycles.{falling-accepting}
 use Rattle.least.proofs.Falls.{falling-true, true-falling}

@@ -16,14 +16,14 @@ use Rattle.reach.specs.Reach.{accessible}
 use Rattle.reach.proofs.Reach.{accessible-start}
 use Rattle.paths.specs.Count.{before}
 use Rattle.paths.proofs.Order.{before-cons}
-use Rattle.paths.proofs.Ready.{Sized}
+use Rattle.reach.proofs.Sized.{Sized}
 use Rattle.least.specs.Costs.{cost-from}
 use Rattle.least.specs.Cycles.{falling}
 use Rattle.least.proofs.Costs.{cost-start, cost-cons}
-use Rattle.distance.specs.Distance.{Size, size-of}
-use Rattle.distance.specs.Nearest.{unreached, labels-of, longer, No-worse, cost-by, size-by, Reached, Settled}
-use Rattle.distance.proofs.Nearer.{no-worse-both, same-size, size-nil, size-cons}
-use Rattle.distance.proofs.Bounds.{cost-by-some, cost-by-there}
+use Rattle.relax.specs.Size.{Size, size-of}
+use Rattle.relax.specs.Nearest.{unreached, labels-of, longer, No-worse, cost-by, size-by, Reached, Settled}
+use Rattle.relax.proofs.Nearer.{no-worse-both, same-size, size-nil, size-cons}
+use Rattle.relax.proofs.Bounds.{cost-by-some, cost-by-there}
 use Rattle.distance.proofs.Settled.{By, by, Best, best, reached, reached-accepts, none-nearer, settled-rises}
 use Rattle.shortest.specs.Shortest.{better, shortest}
 use Rattle.shortest.specs.Tight.{Tight, First, first-tight, follow}
@@ -45,15 +45,16 @@ module _ (t : Transducer) (z : Sized t) (c : ℕ → Weight) (l : ℕ → Size) 
   start = accessible-start (t .states) t
 
   -- A path of a state's cost and size begins with a tight arc, and so does its rest.
-  record Step (s i : ℕ) (p : List ℕ) : Type 0 where
+  record Begins-tight (s i : ℕ) (p : List ℕ) : Type 0 where
     leaves : arc t i .source ≡ s
     tight : Tight t c l i
     costs : cost-from t (arc t i .target) p ≡ c (arc t i .target)
     size : size-of t p ≡ l (arc t i .target)
 
-  step : (s i : ℕ) (p : List ℕ) → s < t .states → Marked s → Accepting t s (i ∷ p) → cost-from t s (i ∷ p) ≡ c s → size-of t (i ∷ p) ≡ l s → Step s i p
+  begins-tight : (s i : ℕ) (p : List ℕ) → s < t .states → Marked s → Accepting t s (i ∷ p)
+      → cost-from t s (i ∷ p) ≡ c s → size-of t (i ∷ p) ≡ l s → Begins-tight s i p
   unfolding size-by longer
-  step s i p b m a e f =
+  begins-tight s i p b m a e f =
       let r : AcceptingBy t s i p = accepting-cons t s i p a in
       let u : ℕ = arc t i .target in
       let rest : Best t z counts c l k u p =
@@ -105,7 +106,7 @@ module _ (t : Transducer) (z : Sized t) (c : ℕ → Weight) (l : ℕ → Size) 
         there = there;
       }
 
-  first-of : (s i : ℕ) (p : List ℕ) → Marked s → Step s i p → First t c l (next-arc s) i
+  first-of : (s i : ℕ) (p : List ℕ) → Marked s → Begins-tight s i p → First t c l (next-arc s) i
   first-of s i p m st =
       rw (st .leaves) at
       (tight-first t (z .content) c l i (st .tight) (λ v b e. rw e at (k .by-arc v b (rw (e ∙ st .leaves) m))))
@@ -122,7 +123,7 @@ module _ (t : Transducer) (z : Sized t) (c : ℕ → Weight) (l : ℕ → Size) 
       on : (p : List ℕ) → Accepting t s p → cost-from t s p ≡ c s → size-of t p ≡ l s → Next s n
       on [] a g f = absurd (omega (arith, none-of s f))
       on (i ∷ p) a g f =
-          let st : Step s i p = step s i p b m a g f in
+          let st : Begins-tight s i p = begins-tight s i p b m a g f in
           let fi : First t c l (next-arc s) i = first-of s i p m st in
           tight-next s n h e (fi .leaves ∙ st .leaves) (fi .tight)
 
@@ -176,8 +177,8 @@ module _ (t : Transducer) (z : Sized t) (c : ℕ → Weight) (l : ℕ → Size) 
       u : ℕ
       u = arc t (next-arc s) .target
 
-      st : Step s i q
-      st = step s i q b m a g f
+      st : Begins-tight s i q
+      st = begins-tight s i q b m a g f
 
       low : next-arc s ≤ i
       low = first-of s i q m st .first

@@ -13,10 +13,10 @@ use Rattle.transducer.specs.Path.{arc}
 use Rattle.transducer.specs.Weight.{Weight}
 use Rattle.transducer.specs.Leaf.{arcs-below}
 use Rattle.transducer.proofs.Good.{Content}
-use Rattle.transducer.proofs.Index.{arcs-of-state, state-of-arcs}
-use Rattle.distance.specs.Distance.{Size, nearer}
-use Rattle.distance.specs.Nearest.{No-worse, cost-by, size-by}
-use Rattle.distance.proofs.Nearer.{no-worse-same, no-worse-both, nearer-false, false-nearer}
+use Rattle.transducer.proofs.Index.{arcs-below-length, arcs-below-mono, arcs-of-state, state-of-arcs}
+use Rattle.relax.specs.Size.{Size, nearer}
+use Rattle.relax.specs.Nearest.{No-worse, cost-by, size-by}
+use Rattle.relax.proofs.Nearer.{no-worse-same, no-worse-both, nearer-false, false-nearer}
 use Rattle.shortest.specs.Tight.{Tight, First, gives, first-giving, first-tight}
 
 module _ (t : Transducer) (c : ℕ → Weight) (l : ℕ → Size) (s : ℕ) where
@@ -87,6 +87,29 @@ module _ (t : Transducer) (c : ℕ → Weight) (l : ℕ → Size) (s : ℕ) wher
       → r ≡ first-tight t c l s
   unfolding first-tight
   giving-tight from to r e f q = rw (e, f) at q
+
+  -- More arcs to choose from do not matter where one of the first gives them.
+  first-more : (n k i : ℕ) → n ≤ k → first-giving n t c l s i < i + n → first-giving k t c l s i ≡ first-giving n t c l s i
+  unfolding first-giving
+  first-more zero k i a h = absurd (omega arith)
+  first-more (suc n) zero i a h = absurd (omega arith)
+  first-more (suc n) (suc k) i a h = on (gives t c l s i) h (λ b. first-more n k (suc i) (omega arith) b)
+    where
+      on : (d : Bool) → cond d i (first-giving n t c l s (suc i)) < i + suc n
+          → (first-giving n t c l s (suc i) < suc i + n → first-giving k t c l s (suc i) ≡ first-giving n t c l s (suc i))
+          → cond d i (first-giving k t c l s (suc i)) ≡ cond d i (first-giving n t c l s (suc i))
+      on true b more = refl
+      on false b more = more (omega (arith, b))
+
+  -- So it is found without knowing where its arcs end.
+  pub giving-tight-on : (from to r : ℕ) → from ≡ arcs-below s (t .arcs) → to ≡ length (t .arcs) → first-tight t c l s < arcs-below (s + 1) (t .arcs)
+      → r ≡ first-giving (to - from) t c l s from → r ≡ first-tight t c l s
+  unfolding first-tight
+  giving-tight-on from to r e f h q =
+      let low : arcs-below s (t .arcs) ≤ arcs-below (s + 1) (t .arcs) = arcs-below-mono s (s + 1) (t .arcs) (omega arith) in
+      let all : r ≡ first-giving (length (t .arcs) - arcs-below s (t .arcs)) t c l s (arcs-below s (t .arcs)) = rw (e, f) at q in
+      all ∙ first-more (arcs-below (s + 1) (t .arcs) - arcs-below s (t .arcs)) (length (t .arcs) - arcs-below s (t .arcs)) (arcs-below s (t .arcs))
+      (omega (arith, arcs-below-length (s + 1) (t .arcs))) (omega (arith, h, low))
 
 -- Where no arc of the state makes it better, one that gives its cost and size is tight.
 giving-same : (t : Transducer) (c : ℕ → Weight) (l : ℕ → Size) (s v : ℕ) → gives t c l s v ≡ true → No-worse (c s) (l s) (cost-by t c v) (size-by t l v)

@@ -4,9 +4,9 @@ use mathlib.Core.List.{List}
 use Prim.Native.Nat.{ℕ}
 use Rattle.transducer.specs.Format.{Transducer}
 use Rattle.transducer.specs.Weight.{Weight}
-use Rattle.paths.specs.declared.Told.{Told}
+use Rattle.tell.specs.declared.Told.{Told}
 use Rattle.distance.specs.Distance.{no-path}
-use Rattle.distance.specs.Nearest.{cost-at}
+use Rattle.relax.specs.Nearest.{cost-at}
 
 -- Where costs to come are not refused, the start's cell is the least cost that the shortest path tells, or none where that is refused by 16; and that is
 -- not refused by 19.

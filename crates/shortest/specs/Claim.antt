@@ -9,7 +9,7 @@ use Rattle.wire.specs.Bytes.{Bytes}
 use Rattle.transducer.specs.Format.{max-path, Transducer, refusal}
 use Rattle.transducer.specs.Path.{accepts, written-by, path-cost}
 use Rattle.transducer.specs.Weight.{Weight, At-most, Below}
-use Rattle.paths.specs.declared.Told.{Told}
+use Rattle.tell.specs.declared.Told.{Told}
 use Rattle.least.specs.Cycles.{Falling}
 use Rattle.shortest.specs.Shortest.{better}
 use Rattle.shortest.specs.Entry.{shortest-refusal, Shortest-says}

@@ -5,9 +5,9 @@ use Prim.Native.Nat.{ℕ}
 use lib.Dec.{ltb}
 use Rattle.transducer.specs.Format.{max-path, refusal, decode}
 use Rattle.transducer.specs.Entry.{or-else}
-use Rattle.paths.specs.declared.Told.{Told}
+use Rattle.tell.specs.declared.Told.{Told}
 use Rattle.reach.specs.Reach.{coaccessible}
-use Rattle.paths.specs.Entry.{Path-told}
+use Rattle.tell.specs.Tell.{Path-told}
 use Rattle.least.specs.Cycles.{falling}
 use Rattle.shortest.specs.Shortest.{shortest}
 

@@ -1,5 +1,8 @@
+-- What a caller must believe
 pub mod Shortest
-pub mod Tight
 pub mod Entry
+-- What is claimed
 pub mod Claim
 pub mod Agree
+-- What only inner contracts cite
+pub mod Tight

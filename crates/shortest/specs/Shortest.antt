@@ -5,7 +5,7 @@ use Prim.Native.Nat.{ℕ}
 use Rattle.transducer.specs.Format.{Transducer}
 use Rattle.transducer.specs.Path.{path-cost}
 use Rattle.paths.specs.Count.{before, paths-from}
-use Rattle.distance.specs.Distance.{size-of, nearer}
+use Rattle.relax.specs.Size.{size-of, nearer}
 
 -- Whether a path comes before another by cost, number of labels and number of arcs.
 unfoldable pub nearer-path : Transducer → (p q : List ℕ) → Bool

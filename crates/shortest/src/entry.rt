@@ -1,8 +1,55 @@
 // The shortest path of a transducer.
+ghost use mathlib.Core.Path.{_≡_};
+ghost use Prim.Native.Nat.{ℕ, _≤_};
 ghost use lib.ListN.{length};
+ghost use Rattle.transducer.specs.Format.{max-path, decode};
+ghost use Rattle.transducer.specs.Leaf.{Looked-says};
+ghost use Rattle.transducer.specs.Weight.{no-weight};
+ghost use Rattle.relax.specs.Begun.{Cleared};
 ghost use Rattle.shortest.specs.Entry.{Shortest-says, shortest-refusal};
 use crate::walk;
-use paths::Told;
+use tell::Told;
+use transducer::Looked;
+
+// The shortest path of accepted bytes, by lent arrays of zeros for costs and sizes with a cell for each state.
+fn shortest_by(
+    table: &[u8],
+    seen: Looked,
+    costs: &mut [i32],
+    lens: &mut [u32],
+    arcs: &mut [u16],
+    labels: &mut [u16],
+) -> Told
+    requires { ⌜ Looked-says (now table) seen × (seen .refusal ≡ 0) × Cleared no-weight (decode (now table) .states) (now costs)
+        × Cleared {A = ℕ} 0 (decode (now table) .states) (now lens) × (max-path ≤ length (now arcs)) × (max-path ≤ length (now labels)) ⌝ }
+    ensures { λ r. ⌜ Shortest-says (now (table .entry))
+        (shortest-refusal (now (table .entry)) (length (now (arcs .entry))) (length (now (labels .entry))))
+        r (now (arcs .entry)) (now (arcs .exit)) (now (labels .entry)) (now (labels .exit)) ⌝ }
+{
+    let shape = relax::begin(table, costs);
+    if !distance::distances(table, shape, false, seen, costs, lens) {
+        return tell::refused(19);
+    }
+    let start = shape.start;
+    let cost = costs[start];
+    if relax::UNREACHED <= cost {
+        return tell::refused(16);
+    }
+    let len = relax::arcs_of(lens[start]);
+    walk::walk(
+        table,
+        shape.first,
+        shape.states,
+        shape.arcs,
+        start,
+        len,
+        costs,
+        lens,
+        arcs,
+    );
+    let end = tell::put_labels(table, shape.first, start, arcs, len, labels);
+    tell::answer(cost as i64, len, end.labels)
+}
 
 // The shortest path: its arc numbers and the labels that it writes go into two lent buffers. Linear in states and arcs where one sweep settles
 // all, at worst states times arcs.
@@ -14,44 +61,20 @@ pub fn shortest_path(table: &[u8], arcs: &mut [u16], labels: &mut [u16]) -> Told
     let seen = transducer::look(table, true);
     let number = seen.refusal;
     if number != 0 {
-        return paths::refused(number);
+        return tell::refused(number);
     }
     if arcs.len() < transducer::MAX_PATH {
-        return paths::refused(10);
+        return tell::refused(10);
     }
     if labels.len() < transducer::MAX_PATH {
-        return paths::refused(10);
+        return tell::refused(10);
     }
-    let mut index = [0u16; transducer::INDEX_LEN];
+    if relax::is_small(table) {
+        let mut costs = [0i32; relax::FEW_STATES];
+        let mut lens = [0u32; relax::FEW_STATES];
+        return shortest_by(table, seen, &mut costs, &mut lens, arcs, labels);
+    }
     let mut costs = [0i32; transducer::MAX_STATES];
-    let shape = distance::begin(table, &mut index, &mut costs);
-    let start = shape.start;
-    let plain = distance::is_plain(shape.states, seen.writes, seen.least, &costs);
-    let forward = distance::by_states(seen.writes, seen.least, seen.up);
     let mut lens = [0u32; transducer::MAX_STATES];
-    let settled = distance::distances(
-        table,
-        shape.first,
-        shape.states,
-        shape.arcs,
-        start,
-        false,
-        &index,
-        plain,
-        forward,
-        seen.least,
-        &mut costs,
-        &mut lens,
-    );
-    if !settled {
-        return paths::refused(19);
-    }
-    let cost = costs[start];
-    if distance::UNREACHED <= cost {
-        return paths::refused(16);
-    }
-    let len = distance::arcs_of(lens[start]);
-    walk::walk(table, shape.first, start, len, &index, &costs, &lens, arcs);
-    let end = paths::put_labels(table, shape.first, start, arcs, len, labels);
-    paths::answer(cost as i64, len, end.labels)
+    shortest_by(table, seen, &mut costs, &mut lens, arcs, labels)
 }

@@ -21,8 +21,8 @@ use Rattle.transducer.proofs.RoundTrip.{refusal-encode, decode-encode}
 use Rattle.codec.specs.Entry.{arc-fields, read-room, read-refusal}
 use Rattle.explore.specs.Explore.{there, place, met, served, numbered, targets, arcs-here, arcs-from, finals-from, steps-from, built, built-refusal}
 use Rattle.explore.specs.Walk.{all-origins}
-use Rattle.steps.specs.Steps.{same-state, left-alone, right-alone, both-step, left-steps, right-steps, steps, first-state}
-use Rattle.steps.specs.Steps.{left-origin, right-origin, origin-pair}
+use Rattle.steps.specs.Steps.{same-state, left-alone, right-alone, both-step, left-steps, right-steps, steps, first-state, left-origin, right-origin}
+use Rattle.steps.specs.Steps.{origin-pair}
 use Rattle.compose.specs.Compose.{final-state, state-weight, composed}
 use Rattle.compose.specs.Entry.{origin-pairs, compose-room, compose-refusal}
 use Rattle.lattice.specs.Apply.{string-good, step, arc-steps, applied}
@@ -34,7 +34,7 @@ use Rattle.lattice.specs.ApplyEntry.{apply-room, apply-refusal}
 use Rattle.paths.specs.Count.{before, paths-from, paths, goes-on, endless, path-count, nth-path}
 use Rattle.paths.specs.Entry.{count-refusal, nth-refusal}
 use Rattle.least.specs.Cycles.{some-leaving, falls-to, falls-round, some-below, falling-among, falling}
-use Rattle.distance.specs.Distance.{size-of, nearer}
+use Rattle.relax.specs.Size.{size-of, nearer}
 use Rattle.shortest.specs.Shortest.{nearer-path, better, best-of, best, shortest}
 use Rattle.shortest.specs.Entry.{shortest-refusal}
 use Rattle.listing.specs.Code.{labels-in}

@@ -10,23 +10,27 @@ use borrow.Author.Tests.{le-ltb, eqb-true}
 use lib.Dec.{eqb}
 use lib.ListN.{length, getD, drop}
 use Rattle.wire.specs.Bytes.{signed-filled}
-use Rattle.transducer.specs.Format.{decode}
-use Rattle.transducer.specs.Entry.{or-else, unless, cost-unless, left-in, weights-left-in}
+use Rattle.transducer.specs.declared.Written.{Written}
+use Rattle.transducer.specs.Format.{max-arcs, max-bytes, max-fields, max-origins, max-path, max-states, Transducer, decode}
+use Rattle.transducer.specs.Encode.{encode}
+use Rattle.transducer.specs.Entry.{unless, cost-unless, left-in, weights-left-in}
 use Rattle.transducer.specs.Weight.{Weight, no-weight}
 use Rattle.codec.specs.Entry.{read-room, read-refusal, Read-says}
-use Rattle.explore.specs.Explore.{left-behind}
+use Rattle.explore.specs.Explore.{left-behind, Built-says}
 use Rattle.compose.specs.Compose.{composed}
 use Rattle.compose.specs.Entry.{compose-room, compose-refusal, Compose-says, origin-pairs}
 use Rattle.lattice.specs.Lattice.{lattice, lattice-origins}
 use Rattle.lattice.specs.ApplyEntry.{apply-room, apply-refusal, Apply-says}
 use Rattle.paths.specs.Count.{path-count, nth-path}
+use Rattle.tell.specs.declared.Told.{Told}
+use Rattle.tell.specs.Tell.{Path-told}
 use Rattle.paths.specs.Entry.{count-refusal, nth-refusal, Nth-says}
 use Rattle.shortest.specs.Shortest.{shortest}
 use Rattle.shortest.specs.Entry.{shortest-refusal, Shortest-says}
 use Rattle.listing.specs.Entry.{text-room, Listing-says}
 use Rattle.starred.specs.Answer.{Call, Answer, Case, All-hold, refused, counts, or-refused, read-answer, write-answer, path-answer, defined}
 use Rattle.starred.specs.Answer.Call.{reading, composing, applying, counting, kth-path, shortest-path, listing}
-use Rattle.starred.specs.Promise.{number, buffer, weights, Promises, All-promised}
+use Rattle.starred.specs.Promise.{number, buffer, weights, Tells-as, Writes-as, Promises, All-promised}
 use Rattle.starred.specs.Cases.{cases}
 use Rattle.starred.proofs.AllHold.{all-hold}
 
@@ -89,32 +93,35 @@ left-behind-of n y i before h = left-of (λ m w. left-behind m before w) (λ m v
 
 -- Sufficient lengths, all alike: 10 does not hold.
 
-read-enough : (bs : List ℕ) (a b c d : ℕ) → 1024 ≤ a → 1024 ≤ b → 12288 ≤ c → 3072 ≤ d → read-refusal bs a b c d ≡ read-refusal bs 1024 1024 12288 3072
+read-enough : (bs : List ℕ) (a b c d : ℕ) → max-states ≤ a → max-states ≤ b → max-fields ≤ c → max-arcs ≤ d
+    → read-refusal bs a b c d ≡ read-refusal bs max-states max-states max-fields max-arcs
 unfolding read-refusal read-room
-read-enough bs a b c d ha hb hc hd = rw (le-ltb a 1024 ha, le-ltb b 1024 hb, le-ltb c 12288 hc, le-ltb d 3072 hd) refl
+read-enough bs a b c d ha hb hc hd = rw (le-ltb a max-states ha, le-ltb b max-states hb, le-ltb c max-fields hc, le-ltb d max-arcs hd) refl
 
-compose-enough : (xs ys : List ℕ) (a b c : ℕ) → 59404 ≤ a → 6144 ≤ b → 1024 ≤ c → compose-refusal xs ys a b c ≡ compose-refusal xs ys 59404 6144 1024
+compose-enough : (xs ys : List ℕ) (a b c : ℕ) → max-bytes ≤ a → max-origins ≤ b → max-states ≤ c
+    → compose-refusal xs ys a b c ≡ compose-refusal xs ys max-bytes max-origins max-states
 unfolding compose-refusal compose-room
-compose-enough xs ys a b c ha hb hc = rw (le-ltb a 59404 ha, le-ltb b 6144 hb, le-ltb c 1024 hc) refl
+compose-enough xs ys a b c ha hb hc = rw (le-ltb a max-bytes ha, le-ltb b max-origins hb, le-ltb c max-states hc) refl
 
-apply-enough : (cs bs : List ℕ) (a b c : ℕ) → 59404 ≤ a → 3072 ≤ b → 1024 ≤ c → apply-refusal cs bs a b c ≡ apply-refusal cs bs 59404 3072 1024
+apply-enough : (cs bs : List ℕ) (a b c : ℕ) → max-bytes ≤ a → max-arcs ≤ b → max-states ≤ c
+    → apply-refusal cs bs a b c ≡ apply-refusal cs bs max-bytes max-arcs max-states
 unfolding apply-refusal apply-room
-apply-enough cs bs a b c ha hb hc = rw (le-ltb a 59404 ha, le-ltb b 3072 hb, le-ltb c 1024 hc) refl
+apply-enough cs bs a b c ha hb hc = rw (le-ltb a max-bytes ha, le-ltb b max-arcs hb, le-ltb c max-states hc) refl
 
-nth-enough : (bs : List ℕ) (k a b : ℕ) → 1023 ≤ a → 1023 ≤ b → nth-refusal bs k a b ≡ nth-refusal bs k 1023 1023
+nth-enough : (bs : List ℕ) (k a b : ℕ) → max-path ≤ a → max-path ≤ b → nth-refusal bs k a b ≡ nth-refusal bs k max-path max-path
 unfolding nth-refusal
-nth-enough bs k a b ha hb = rw (le-ltb a 1023 ha, le-ltb b 1023 hb) refl
+nth-enough bs k a b ha hb = rw (le-ltb a max-path ha, le-ltb b max-path hb) refl
 
-shortest-enough : (bs : List ℕ) (a b : ℕ) → 1023 ≤ a → 1023 ≤ b → shortest-refusal bs a b ≡ shortest-refusal bs 1023 1023
+shortest-enough : (bs : List ℕ) (a b : ℕ) → max-path ≤ a → max-path ≤ b → shortest-refusal bs a b ≡ shortest-refusal bs max-path max-path
 unfolding shortest-refusal
-shortest-enough bs a b ha hb = rw (le-ltb a 1023 ha, le-ltb b 1023 hb) refl
+shortest-enough bs a b ha hb = rw (le-ltb a max-path ha, le-ltb b max-path hb) refl
 
 -- Each contract, with the number by which its call is refused.
 
 read-promised : (bs : List ℕ) → Promises (reading bs) (defined (reading bs))
 unfolding Promises defined number buffer weights read-answer
 read-promised bs r a a' b b' c c' d d' ha hb hc hd says =
-    let n = read-refusal bs 1024 1024 12288 3072 in
+    let n = read-refusal bs max-states max-states max-fields max-arcs in
     let y = read-answer (decode bs) in
     let e = read-enough bs (length a) (length b) (length c) (length d) ha hb hc hd in
     let told = subst (λ (m : ℕ). Read-says bs m r a a' b b' c c' d d') e says in
@@ -130,35 +137,32 @@ read-promised bs r a a' b b' c c' d d' ha hb hc hd says =
       arc-weights = told .arc-weights ∙ weights-left-in-of n y 1 d refl;
     }
 
-compose-promised : (xs ys : List ℕ) → Promises (composing xs ys) (defined (composing xs ys))
-unfolding Promises defined number buffer write-answer
-compose-promised xs ys r a a' b b' c c' ha hb hc says =
-    let n = compose-refusal xs ys 59404 6144 1024 in
-    let y = write-answer (composed (decode xs) (decode ys) .result) (origin-pairs (composed (decode xs) (decode ys) .steps)) in
-    let e = compose-enough xs ys (length a) (length b) (length c) ha hb hc in
-    let told = subst (λ (m : ℕ). Compose-says xs ys m r a a' b b' c c') e says in
+-- Two calls write a transducer with its origins.
+written-as : (n : ℕ) (t : Transducer) (os : List ℕ) {r : Written} {a a' b b' c c' : List ℕ} → Built-says (encode t) os n r a a' b b' c c'
+    → Writes-as (or-refused n (write-answer t os)) r a a' b b' c c'
+unfolding number buffer write-answer
+written-as n t os {a = a} {b = b} {c = c} says =
+    let y = write-answer t os in
     record {
-      refusal = told .refusal-is ∙ refusal-of n y refl;
-      length-told = told .len-is ∙ number-of n y 0;
-      table = told .table ∙ left-behind-of n y 0 a refl;
-      origins = told .origins ∙ left-behind-of n y 1 b refl;
-      work = told .states ∙ ap (λ (m : ℕ). left-behind m c []) (refusal-of n y refl);
+      refusal = says .refusal-is ∙ refusal-of n y refl;
+      length-told = says .len-is ∙ number-of n y 0;
+      table = says .table ∙ left-behind-of n y 0 a refl;
+      origins = says .origins ∙ left-behind-of n y 1 b refl;
+      work = says .work ∙ ap (λ (m : ℕ). left-behind m c []) (refusal-of n y refl);
     }
 
+compose-promised : (xs ys : List ℕ) → Promises (composing xs ys) (defined (composing xs ys))
+unfolding Promises defined
+compose-promised xs ys r a a' b b' c c' ha hb hc says =
+    let z = composed (decode xs) (decode ys) in
+    written-as (compose-refusal xs ys max-bytes max-origins max-states) (z .result) (origin-pairs (z .steps))
+    (subst (λ (m : ℕ). Compose-says xs ys m r a a' b b' c c') (compose-enough xs ys (length a) (length b) (length c) ha hb hc) says)
+
 apply-promised : (cs bs : List ℕ) → Promises (applying cs bs) (defined (applying cs bs))
-unfolding Promises defined number buffer write-answer
+unfolding Promises defined
 apply-promised cs bs r a a' b b' c c' ha hb hc says =
-    let n = apply-refusal cs bs 59404 3072 1024 in
-    let y = write-answer (lattice cs (decode bs)) (lattice-origins cs (decode bs)) in
-    let e = apply-enough cs bs (length a) (length b) (length c) ha hb hc in
-    let told = subst (λ (m : ℕ). Apply-says cs bs m r a a' b b' c c') e says in
-    record {
-      refusal = told .refusal-is ∙ refusal-of n y refl;
-      length-told = told .len-is ∙ number-of n y 0;
-      table = told .table ∙ left-behind-of n y 0 a refl;
-      origins = told .origins ∙ left-behind-of n y 1 b refl;
-      work = told .pairs ∙ ap (λ (m : ℕ). left-behind m c []) (refusal-of n y refl);
-    }
+    written-as (apply-refusal cs bs max-bytes max-arcs max-states) (lattice cs (decode bs)) (lattice-origins cs (decode bs))
+    (subst (λ (m : ℕ). Apply-says cs bs m r a a' b b' c c') (apply-enough cs bs (length a) (length b) (length c) ha hb hc) says)
 
 count-promised : (bs : List ℕ) → Promises (counting bs) (defined (counting bs))
 unfolding Promises defined number
@@ -167,37 +171,32 @@ count-promised bs r says =
     let y = counts (path-count (decode bs)) in
     record { refusal = says .refusal-is ∙ refusal-of n y refl; count = says .count-is ∙ number-of n y 0 }
 
-nth-promised : (bs : List ℕ) (k : ℕ) → Promises (kth-path bs k) (defined (kth-path bs k))
-unfolding Promises defined number buffer path-answer
-nth-promised bs k r a a' b b' ha hb says =
-    let n = nth-refusal bs k 1023 1023 in
-    let y = path-answer (decode bs) (nth-path (decode bs) k) in
-    let e = nth-enough bs k (length a) (length b) ha hb in
-    let told = subst (λ (m : ℕ). Nth-says bs k m r a a' b b') e says in
+-- Two calls tell a path.
+told-as : (n : ℕ) (t : Transducer) (p : List ℕ) {r : Told} {a a' b b' : List ℕ} → Path-told t p n r a a' b b'
+    → Tells-as (or-refused n (path-answer t p)) r a a' b b'
+unfolding number buffer path-answer
+told-as n t p {a = a} {b = b} says =
+    let y = path-answer t p in
     record {
-      refusal = told .refusal-is ∙ refusal-of n y refl;
-      cost = told .cost-is ∙ cost-of n y;
-      arc-count = told .arcs-is ∙ number-of n y 0;
-      label-count = told .labels-is ∙ number-of n y 1;
-      arcs = told .arcs ∙ left-in-of n y 0 a refl;
-      labels = told .labels ∙ left-in-of n y 1 b refl;
+      refusal = says .refusal-is ∙ refusal-of n y refl;
+      cost = says .cost-is ∙ cost-of n y;
+      arc-count = says .arcs-is ∙ number-of n y 0;
+      label-count = says .labels-is ∙ number-of n y 1;
+      arcs = says .arcs ∙ left-in-of n y 0 a refl;
+      labels = says .labels ∙ left-in-of n y 1 b refl;
     }
 
+nth-promised : (bs : List ℕ) (k : ℕ) → Promises (kth-path bs k) (defined (kth-path bs k))
+unfolding Promises defined
+nth-promised bs k r a a' b b' ha hb says =
+    told-as (nth-refusal bs k max-path max-path) (decode bs) (nth-path (decode bs) k)
+    (subst (λ (m : ℕ). Nth-says bs k m r a a' b b') (nth-enough bs k (length a) (length b) ha hb) says)
+
 shortest-promised : (bs : List ℕ) → Promises (shortest-path bs) (defined (shortest-path bs))
-unfolding Promises defined number buffer path-answer
+unfolding Promises defined
 shortest-promised bs r a a' b b' ha hb says =
-    let n = shortest-refusal bs 1023 1023 in
-    let y = path-answer (decode bs) (shortest (decode bs)) in
-    let e = shortest-enough bs (length a) (length b) ha hb in
-    let told = subst (λ (m : ℕ). Shortest-says bs m r a a' b b') e says in
-    record {
-      refusal = told .refusal-is ∙ refusal-of n y refl;
-      cost = told .cost-is ∙ cost-of n y;
-      arc-count = told .arcs-is ∙ number-of n y 0;
-      label-count = told .labels-is ∙ number-of n y 1;
-      arcs = told .arcs ∙ left-in-of n y 0 a refl;
-      labels = told .labels ∙ left-in-of n y 1 b refl;
-    }
+    told-as (shortest-refusal bs max-path max-path) (decode bs) (shortest (decode bs))
+    (subst (λ (m : ℕ). Shortest-says bs m r a a' b b') (shortest-enough bs (length a) (length b) ha hb) says)
 
 text-enough : (room : ℕ) → 602996 ≤ room → text-room room ≡ 0
 unfolding text-room

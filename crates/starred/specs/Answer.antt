@@ -6,7 +6,7 @@ use mathlib.Core.List.{List, [], _∷_, map}
 use Prim.Native.Nat.{ℕ}
 use lib.Dec.{eqb}
 use lib.ListN.{length}
-use Rattle.transducer.specs.Format.{Transducer, decode}
+use Rattle.transducer.specs.Format.{Transducer, max-states, max-arcs, max-fields, max-origins, max-bytes, max-path, decode}
 use Rattle.transducer.specs.Encode.{encode}
 use Rattle.transducer.specs.Path.{written-by, path-cost}
 use Rattle.transducer.specs.Weight.{Weight, no-weight, amount}
@@ -98,15 +98,15 @@ path-answer t p = path-told (path-cost t p) p (written-by t p)
 
 -- What the definitions give for each call, lent buffers of the least lengths.
 unfoldable pub defined : Call → Answer
-defined (reading bs) = or-refused (read-refusal bs 1024 1024 12288 3072) (read-answer (decode bs))
+defined (reading bs) = or-refused (read-refusal bs max-states max-states max-fields max-arcs) (read-answer (decode bs))
 defined (composing xs ys) =
-    or-refused (compose-refusal xs ys 59404 6144 1024)
+    or-refused (compose-refusal xs ys max-bytes max-origins max-states)
     (write-answer (composed (decode xs) (decode ys) .result) (origin-pairs (composed (decode xs) (decode ys) .steps)))
 defined (applying cs bs) =
-    or-refused (apply-refusal cs bs 59404 3072 1024) (write-answer (lattice cs (decode bs)) (lattice-origins cs (decode bs)))
+    or-refused (apply-refusal cs bs max-bytes max-arcs max-states) (write-answer (lattice cs (decode bs)) (lattice-origins cs (decode bs)))
 defined (counting bs) = or-refused (count-refusal bs) (counts (path-count (decode bs)))
-defined (kth-path bs k) = or-refused (nth-refusal bs k 1023 1023) (path-answer (decode bs) (nth-path (decode bs) k))
-defined (shortest-path bs) = or-refused (shortest-refusal bs 1023 1023) (path-answer (decode bs) (shortest (decode bs)))
+defined (kth-path bs k) = or-refused (nth-refusal bs k max-path max-path) (path-answer (decode bs) (nth-path (decode bs) k))
+defined (shortest-path bs) = or-refused (shortest-refusal bs max-path max-path) (path-answer (decode bs) (shortest (decode bs)))
 defined (listing xs ys cs) = lists (listing-refusal xs ys cs) (text-of xs ys cs)
 
 -- The cases of a table hold: what the definitions give is what the table says, row by row.

@@ -8,16 +8,18 @@ use Rattle.wire.specs.Bytes.{filled}
 use Rattle.transducer.specs.declared.Header.{Header}
 use Rattle.transducer.specs.declared.Written.{Written}
 use Rattle.transducer.specs.Entry.{left-in, weights-left-in}
+use Rattle.transducer.specs.Format.{max-states, max-arcs, max-fields, max-origins, max-bytes, max-path}
 use Rattle.transducer.specs.Weight.{Weight}
 use Rattle.codec.specs.Entry.{read-refusal, Read-says}
 use Rattle.explore.specs.Explore.{left-behind}
 use Rattle.compose.specs.Entry.{compose-refusal, Compose-says}
 use Rattle.lattice.specs.ApplyEntry.{apply-refusal, Apply-says}
 use Rattle.paths.specs.declared.Counted.{Counted}
-use Rattle.paths.specs.declared.Told.{Told}
+use Rattle.tell.specs.declared.Told.{Told}
 use Rattle.paths.specs.Entry.{count-refusal, Count-says, nth-refusal, Nth-says}
 use Rattle.shortest.specs.Entry.{shortest-refusal, Shortest-says}
 use Rattle.listing.specs.declared.Listed.{Listed}
+use Rattle.listing.specs.Text.{least-room}
 use Rattle.listing.specs.Entry.{text-room, Listing-says}
 use Rattle.starred.specs.Answer.{Call, Answer, Case}
 use Rattle.starred.specs.Answer.Call.{reading, composing, applying, counting, kth-path, shortest-path, listing}
@@ -49,7 +51,7 @@ pub record Writes-as (x : Answer) (r : Written) (a a' b b' c c' : List ℕ) : Ty
   pub origins : b' ≡ left-behind (x .refusal) b (buffer x 1)
   pub work : c' ≡ left-behind (x .refusal) c []
 
-pub record Reads-as (x : Answer) (r : Header) (a a' : List ℕ) (b b' : List Weight) (c c' : List ℕ) (d d' : List Weight) : Type 0 where
+pub record Decodes-as (x : Answer) (r : Header) (a a' : List ℕ) (b b' : List Weight) (c c' : List ℕ) (d d' : List Weight) : Type 0 where
   pub refusal : r .refusal ≡ x .refusal
   pub states : r .states ≡ number x 0
   pub arcs : r .arcs ≡ number x 1
@@ -72,24 +74,24 @@ pub record Lists-as (x : Answer) (r : Listed) (out out' : List ℕ) : Type 0 whe
 
 unfoldable pub Promises : Call → Answer → Type 0
 Promises (reading bs) x =
-    (r : Header) (a a' : List ℕ) (b b' : List Weight) (c c' : List ℕ) (d d' : List Weight) → 1024 ≤ length a → 1024 ≤ length b → 12288 ≤ length c
-    → 3072 ≤ length d
-    → Read-says bs (read-refusal bs (length a) (length b) (length c) (length d)) r a a' b b' c c' d d' → Reads-as x r a a' b b' c c' d d'
+    (r : Header) (a a' : List ℕ) (b b' : List Weight) (c c' : List ℕ) (d d' : List Weight) → max-states ≤ length a → max-states ≤ length b
+    → max-fields ≤ length c → max-arcs ≤ length d
+    → Read-says bs (read-refusal bs (length a) (length b) (length c) (length d)) r a a' b b' c c' d d' → Decodes-as x r a a' b b' c c' d d'
 Promises (composing xs ys) x =
-    (r : Written) (a a' b b' c c' : List ℕ) → 59404 ≤ length a → 6144 ≤ length b → 1024 ≤ length c
+    (r : Written) (a a' b b' c c' : List ℕ) → max-bytes ≤ length a → max-origins ≤ length b → max-states ≤ length c
     → Compose-says xs ys (compose-refusal xs ys (length a) (length b) (length c)) r a a' b b' c c' → Writes-as x r a a' b b' c c'
 Promises (applying cs bs) x =
-    (r : Written) (a a' b b' c c' : List ℕ) → 59404 ≤ length a → 3072 ≤ length b → 1024 ≤ length c
+    (r : Written) (a a' b b' c c' : List ℕ) → max-bytes ≤ length a → max-arcs ≤ length b → max-states ≤ length c
     → Apply-says cs bs (apply-refusal cs bs (length a) (length b) (length c)) r a a' b b' c c' → Writes-as x r a a' b b' c c'
 Promises (counting bs) x = (r : Counted) → Count-says bs (count-refusal bs) r → Counts-as x r
 Promises (kth-path bs k) x =
-    (r : Told) (a a' b b' : List ℕ) → 1023 ≤ length a → 1023 ≤ length b → Nth-says bs k (nth-refusal bs k (length a) (length b)) r a a' b b'
+    (r : Told) (a a' b b' : List ℕ) → max-path ≤ length a → max-path ≤ length b → Nth-says bs k (nth-refusal bs k (length a) (length b)) r a a' b b'
     → Tells-as x r a a' b b'
 Promises (shortest-path bs) x =
-    (r : Told) (a a' b b' : List ℕ) → 1023 ≤ length a → 1023 ≤ length b → Shortest-says bs (shortest-refusal bs (length a) (length b)) r a a' b b'
+    (r : Told) (a a' b b' : List ℕ) → max-path ≤ length a → max-path ≤ length b → Shortest-says bs (shortest-refusal bs (length a) (length b)) r a a' b b'
     → Tells-as x r a a' b b'
 Promises (listing xs ys cs) x =
-    (r : Listed) (out out' : List ℕ) → 602996 ≤ length out → Listing-says xs ys cs (text-room (length out)) r out out' → Lists-as x r out out'
+    (r : Listed) (out out' : List ℕ) → least-room ≤ length out → Listing-says xs ys cs (text-room (length out)) r out out' → Lists-as x r out out'
 
 -- The cases of a table are what their calls promise.
 unfoldable pub All-promised : List Case → Type 0

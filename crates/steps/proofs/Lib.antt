@@ -10,4 +10,5 @@ pub mod RunSteps
 pub mod Reading
 -- What the code relies on: the search for a run, and the look-up of right arcs.
 pub mod RunCode
+pub mod Only
 pub mod Links

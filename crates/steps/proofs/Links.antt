@@ -13,7 +13,7 @@ use borrow.Author.Tests.{eqb-true, eq-eqb, ne-eqb}
 use Rattle.wire.proofs.Low.{two-below}
 use Rattle.wire.proofs.Bool.{by-test, clash, is-false, and-true}
 use Rattle.wire.specs.Bytes.{Bytes, four}
-use Rattle.transducer.specs.Format.{Transducer, any, decode}
+use Rattle.transducer.specs.Format.{max-arcs, Transducer, any, decode}
 use Rattle.transducer.specs.Leaf.{Opened, Rest, Leaving}
 use Rattle.transducer.specs.Path.{arc}
 use Rattle.transducer.specs.Each.{unnamed, fits, named}
@@ -23,7 +23,7 @@ use Rattle.steps.specs.declared.Run.{Run}
 use Rattle.steps.specs.Runs.{fitting-from, reading-from, Takeable}
 use Rattle.transducer.proofs.Leaving.{rest-from, leaving-unnamed}
 use Rattle.transducer.proofs.Opened.{source-in-place, input-in-place}
-use Rattle.steps.proofs.Reading.{First, first-is, first-unique, first-at-within, Next-step, next-together}
+use Rattle.steps.proofs.Reading.{First-passing, first-is, first-unique, first-at-within, Next-step, next-together}
 
 -- first-of
 
@@ -67,23 +67,23 @@ module _ (test : ℕ → Bool) where
   first-none end j l none = first-skip end j end l (omega arith) none ∙ first-end end
 
   -- The place that a link leads to, and what there is where it leads nowhere.
-  pub record Found (end j i : ℕ) : Type 0 where
+  pub record Link-to (end j i : ℕ) : Type 0 where
     pub least : j ≤ i
     pub most : i < end
     pub passes : test i ≡ true
     pub before : (k : ℕ) → j ≤ k → k < i → test k ≡ false
 
   -- Both, over what is left from j on.
-  pub record Told (end j link : ℕ) : Type 0 where
-    pub found : (i : ℕ) → link ≡ suc i → Found end j i
+  pub record Link-says (end j link : ℕ) : Type 0 where
+    pub found : (i : ℕ) → link ≡ suc i → Link-to end j i
     pub none : link ≡ 0 → (i : ℕ) → j ≤ i → i < end → test i ≡ false
 
-  told-by : (n j : ℕ) → Told (j + n) j (first-of test n j)
+  link-says-by : (n j : ℕ) → Link-says (j + n) j (first-of test n j)
   unfolding first-of
-  told-by zero j =
+  link-says-by zero j =
       record { found = λ i e. absurd (let z : _≡_ {A = ℕ} 0 (suc i) = e in omega arith); none = λ e i p q. absurd (omega arith) }
-  told-by (suc n) j =
-      let more : Told (suc j + n) (suc j) (first-of test n (suc j)) = told-by n (suc j) in
+  link-says-by (suc n) j =
+      let more : Link-says (suc j + n) (suc j) (first-of test n (suc j)) = link-says-by n (suc j) in
       by-test (test j)
       (λ t. rw t
       (record {
@@ -95,7 +95,7 @@ module _ (test : ℕ → Bool) where
       (λ t. rw t
       (record {
         found = λ i e.
-            let f : Found (suc j + n) (suc j) i = more .found i e in
+            let f : Link-to (suc j + n) (suc j) i = more .found i e in
             record {
               least = omega (arith, f .least);
               most = omega (arith, f .most);
@@ -109,8 +109,8 @@ module _ (test : ℕ → Bool) where
       on k t (yes y) rest = rw y t
       on k t (no o) rest = rest o
 
-  pub told : (end j : ℕ) → j ≤ end → Told end j (first-of test (end - j) j)
-  told end j l = let same : j + (end - j) ≡ end = omega arith in rw same at (told-by (end - j) j)
+  pub link-says : (end j : ℕ) → j ≤ end → Link-says end j (first-of test (end - j) j)
+  link-says end j l = let same : j + (end - j) ≡ end = omega arith in rw same at (link-says-by (end - j) j)
 
 -- reads
 
@@ -177,15 +177,15 @@ module _ {u : Transducer} {q label from head : ℕ} {chain : List ℕ} (l : Lead
   along-first = record { front = from; least = omega arith; most = l .within; leads = l .head-is; same = refl }
 
   module _ {next : ℕ} (a : Along u q label from next) where
-    here : Told (in-bucket u (label-bucket q label)) (length (u .arcs)) (a .front) next
-    here = rw (a .leads) (told (in-bucket u (label-bucket q label)) (length (u .arcs)) (a .front) (a .most))
+    here : Link-says (in-bucket u (label-bucket q label)) (length (u .arcs)) (a .front) next
+    here = rw (a .leads) (link-says (in-bucket u (label-bucket q label)) (length (u .arcs)) (a .front) (a .most))
 
     pub along-none : next ≡ 0 → 0 ≡ first-from u (reads u q label) from
     along-none e =
         sym (first-none (reads u q label) (length (u .arcs)) (a .front) (a .most) (λ i p m. reads-bucket u q label i (here .none e i p m))) ∙ a .same
 
     module _ (more : next ≡ 0 → ⊥) where
-      at : Found (in-bucket u (label-bucket q label)) (length (u .arcs)) (a .front) (next - 1)
+      at : Link-to (in-bucket u (label-bucket q label)) (length (u .arcs)) (a .front) (next - 1)
       at = here .found (next - 1) (omega arith)
 
       pub along-in : (from ≤ next - 1) × (next - 1 < length (u .arcs))
@@ -224,10 +224,10 @@ module _ {u : Transducer} {q label from head : ℕ} {chain : List ℕ} (l : Lead
       pub along-less : left-of (length (u .arcs)) (getD chain (next - 1) 0) < left-of (length (u .arcs)) next
       unfolding left-of
       along-less =
-          let t = told (in-bucket u (label-bucket q label)) (length (u .arcs)) (suc (next - 1)) (at .most) in
+          let t = link-says (in-bucket u (label-bucket q label)) (length (u .arcs)) (suc (next - 1)) (at .most) in
           rw (left-of-some (length (u .arcs)) next more, link-is) (on (first-from u (in-bucket u (label-bucket q label)) (suc (next - 1))) t)
         where
-          on : (m : ℕ) → Told (in-bucket u (label-bucket q label)) (length (u .arcs)) (suc (next - 1)) m
+          on : (m : ℕ) → Link-says (in-bucket u (label-bucket q label)) (length (u .arcs)) (suc (next - 1)) m
               → left-of (length (u .arcs)) m < length (u .arcs) - (next - 1)
           on zero t = omega (arith, at .most)
           on (suc j) t = let f = t .found j refl in omega (arith, at .most, f .least, f .most)
@@ -237,13 +237,13 @@ module _ {u : Transducer} {q label from head : ℕ} {chain : List ℕ} (l : Lead
 -- The arcs from number `from` on are in the chains.
 pub record Filling (u : Transducer) (from : ℕ) (heads chain again : List ℕ) : Type 0 where
   pub within : from ≤ length (u .arcs)
-  pub few : length (u .arcs) ≤ 3072
+  pub few : length (u .arcs) ≤ max-arcs
   pub headed : Heads u from heads
   pub chained : Chain u from chain
   pub repeated : Again u from again
 
-pub filling-first : (u : Transducer) (from : ℕ) (heads chain again : List ℕ) → from ≡ length (u .arcs) → length (u .arcs) ≤ 3072
-    → heads ≡ replicate 4096 0 → length chain ≡ 3072 → length again ≡ 3072 → Filling u from heads chain again
+pub filling-first : (u : Transducer) (from : ℕ) (heads chain again : List ℕ) → from ≡ length (u .arcs) → length (u .arcs) ≤ max-arcs
+    → heads ≡ replicate 4096 0 → length chain ≡ max-arcs → length again ≡ max-arcs → Filling u from heads chain again
 filling-first u from heads chain again is few zeros c-long a-long =
     rw is
     (record {
@@ -309,8 +309,8 @@ module _ {u : Transducer} {j : ℕ} {heads chain again : List ℕ} (f : Filling 
 
 module _ {u : Transducer} {q from to : ℕ} (label : ℕ) (r : Rest u q from to) where
   -- The links of the state's arcs that read the label, from `from` on.
-  links : Told (reads u q label) (length (u .arcs)) from (first-from u (reads u q label) from)
-  links = told (reads u q label) (length (u .arcs)) from (omega (arith, r .order, r .within))
+  links : Link-says (reads u q label) (length (u .arcs)) from (first-from u (reads u q label) from)
+  links = link-says (reads u q label) (length (u .arcs)) from (omega (arith, r .order, r .within))
 
   pub link-none : 0 ≡ first-from u (reads u q label) from → to ≡ reading-from u label (to - from) from
   link-none e =
@@ -386,7 +386,7 @@ module _ {u : Transducer} {q from to : ℕ} (label : ℕ) (r : Rest u q from to)
 
 -- The first that reads a label by name, where there is one.
 module _ {u : Transducer} {q from to : ℕ} (label k : ℕ) (l : Leaving u q from to) (is : k ≡ reading-from u label (to - from) from) where
-  by-label : First u (λ a. eqb (a .input) label) from to k
+  by-label : First-passing u (λ a. eqb (a .input) label) from to k
   by-label = rw is (first-is u (λ a. eqb (a .input) label) from to (l .rest .order))
 
   pub named-first : k < to → k ≡ fitting-from u label (to - from) from

@@ -60,14 +60,14 @@ unfoldable pub both-steps : (u : Transducer) (x : State) (i : ℕ) (a : Arc) →
 both-steps u x i a = each-arc u (x .right) (λ j b. cond (fits u (a .output) b) (both-step i a j b ∷ []) [])
 
 -- The right arc that such a step was made with.
-pub record Fitting (u : Transducer) (x : State) (i : ℕ) (a : Arc) (s : Step State Origin) : Type 0 where
+pub record Made-with (u : Transducer) (x : State) (i : ℕ) (a : Arc) (s : Step State Origin) : Type 0 where
   pub right-arc : ℕ
   pub below : right-arc < length (u .arcs)
   pub leaves : arc u right-arc .source ≡ x .right
   pub fitted : fits u (a .output) (arc u right-arc) ≡ true
   pub made : s ≡ both-step i a right-arc (arc u right-arc)
 
-pub in-both-steps : (u : Transducer) (x : State) (i : ℕ) (a : Arc) (s : Step State Origin) → Mem s (both-steps u x i a) → Fitting u x i a s
+pub in-both-steps : (u : Transducer) (x : State) (i : ℕ) (a : Arc) (s : Step State Origin) → Mem s (both-steps u x i a) → Made-with u x i a s
 unfolding both-steps
 in-both-steps u x i a s m =
     let r = in-each-arc u (x .right) (λ j b. cond (fits u (a .output) b) (both-step i a j b ∷ []) []) s m in
@@ -76,7 +76,7 @@ in-both-steps u x i a s m =
     let c : (fits u (a .output) b ≡ true) × Mem s (both-step i a j b ∷ []) = in-cond s (fits u (a .output) b) (both-step i a j b ∷ []) (r .given) in
     record { right-arc = j; below = r .below; leaves = r .leaves; fitted = c .0; made = only (c .1) }
 
-pub both-steps-has : (u : Transducer) (x : State) (i : ℕ) (a : Arc) (s : Step State Origin) → Fitting u x i a s → Mem s (both-steps u x i a)
+pub both-steps-has : (u : Transducer) (x : State) (i : ℕ) (a : Arc) (s : Step State Origin) → Made-with u x i a s → Mem s (both-steps u x i a)
 unfolding both-steps
 both-steps-has u x i a s r =
     let j : ℕ = r .right-arc in
@@ -87,7 +87,7 @@ both-steps-has u x i a s r =
 -- What comes of one left arc: a step of its own, or steps of both.
 pub data OfLeft (u : Transducer) (x : State) (i : ℕ) (a : Arc) (s : Step State Origin) : Type 0 where
   alone : a .output ≡ 0 → x .filter ≡ 0 → s ≡ left-alone x i a → OfLeft u x i a s
-  with-right : (a .output ≡ 0 → ⊥) → Fitting u x i a s → OfLeft u x i a s
+  with-right : (a .output ≡ 0 → ⊥) → Made-with u x i a s → OfLeft u x i a s
 
 pub in-left-steps : (u : Transducer) (x : State) (i : ℕ) (a : Arc) (s : Step State Origin) → Mem s (left-steps u x i a) → OfLeft u x i a s
 unfolding left-steps both-steps
@@ -157,7 +157,7 @@ move-step t u x s (by-right m) =
     (each-arc-has u (x .right) (right-steps x) s j (m .below) (m .leaves) (right-steps-has x j (arc u j) s (m .quiet) (m .made)))
 move-step t u x s (by-both m) =
     let i : ℕ = m .left-arc in
-    let f : Fitting u x i (arc t i) s =
+    let f : Made-with u x i (arc t i) s =
     record { right-arc = m .right-arc; below = m .right-below; leaves = m .right-leaves; fitted = m .fitted; made = m .made } in
     in-front (each-arc u (x .right) (right-steps x))
     (each-arc-has t (x .left) (left-steps u x) s i (m .left-below) (m .left-leaves) (left-steps-has u x i (arc t i) s (with-right (m .writes) f)))

@@ -9,7 +9,7 @@ use lib.Dec.{eqb, ltb}
 use lib.ListN.{length}
 use borrow.Author.Tests.{eqb-true, eqb-false, eq-eqb, ne-eqb, ltb-true, ltb-false}
 use Rattle.transducer.specs.declared.Arc.{Arc}
-use Rattle.transducer.specs.Format.{Transducer, Good}
+use Rattle.transducer.specs.Format.{max-states, Transducer, Good}
 use Rattle.transducer.specs.Path.{arc}
 use Rattle.transducer.specs.Leaf.{arcs-below, Rest}
 use Rattle.transducer.specs.Each.{fits}
@@ -23,20 +23,8 @@ use Rattle.steps.specs.Runs.{run-step, run-steps, first-at, fitting-from
 use Rattle.transducer.proofs.RoundTrip.{good-range, good-content}
 use Rattle.transducer.proofs.Weights.{none-good}
 use Rattle.transducer.proofs.Leaving.{rest-at, state-leaving}
-use Rattle.steps.proofs.RunSteps.{
-  run-skip,
-  alone-run,
-  both-run,
-  right-run,
-  arc-steps,
-  arc-steps-alone,
-  arc-steps-none,
-  arc-steps-both,
-  arc-steps-unread,
-  runs-from,
-  runs-last,
-  runs-next,
-}
+use Rattle.steps.proofs.RunSteps.{run-skip, alone-run, both-run, right-run, arc-steps, arc-steps-alone, arc-steps-none, arc-steps-both}
+use Rattle.steps.proofs.RunSteps.{arc-steps-unread, runs-from, runs-last, runs-next}
 
 -- first-at
 
@@ -74,13 +62,13 @@ module _ (u : Transducer) (test : Arc → Bool) where
       (λ k. let other : m ≡ j → ⊥ = eqb-false m j k in at-before n (suc j) m (omega arith) less is))
 
   -- Right arc k is the first from j on, below `to`, that passes the test, or k is `to`.
-  pub record First (j to k : ℕ) : Type 0 where
+  pub record First-passing (j to k : ℕ) : Type 0 where
     pub least : j ≤ k
     pub most : k ≤ to
     pub passes : k < to → test (arc u k) ≡ true
     pub before : (m : ℕ) → j ≤ m → m < k → test (arc u m) ≡ true → ⊥
 
-  pub first-is : (j to : ℕ) → j ≤ to → First j to (first-at u test (to - j) j)
+  pub first-is : (j to : ℕ) → j ≤ to → First-passing j to (first-at u test (to - j) j)
   first-is j to l =
       let k : ℕ = first-at u test (to - j) j in
       let most : k ≤ j + (to - j) = at-most (to - j) j in
@@ -91,10 +79,10 @@ module _ (u : Transducer) (test : Arc → Bool) where
         before = at-before (to - j) j;
       }
 
-  pub first-unique : (j to k : ℕ) → j ≤ to → First j to k → k ≡ first-at u test (to - j) j
+  pub first-unique : (j to k : ℕ) → j ≤ to → First-passing j to k → k ≡ first-at u test (to - j) j
   first-unique j to k l f =
       let r : ℕ = first-at u test (to - j) j in
-      let g : First j to r = first-is j to l in
+      let g : First-passing j to r = first-is j to l in
       by-test (ltb k r)
       (λ e. let h : k < r = ltb-true k r e in absurd (g .before k (f .least) h (f .passes (omega (arith, g .most)))))
       (λ e. by-test (ltb r k)
@@ -146,7 +134,7 @@ module _ (u : Transducer) (r : Run) where
   pub next-together : (j to k : ℕ) → Takeable u r j to → j < to → r .alone ≡ false → k ≡ fitting-from u (r .label) (to - suc j) (suc j)
       → Next-step j to k
   next-together j to k ready l e is =
-      let first : First u (fits u (r .label)) (suc j) to k = rw is (first-is u (fits u (r .label)) (suc j) to l) in
+      let first : First-passing u (fits u (r .label)) (suc j) to k = rw is (first-is u (fits u (r .label)) (suc j) to l) in
       let skip : run-steps u r (to - suc j) (suc j) ≡ run-steps u r (to - k) k =
       run-skip u r e (suc j) k to (first .least) (first .most) (first .before) in
       record {
@@ -211,8 +199,8 @@ module _ (t u : Transducer) (tg : Good t) (ug : Good u) (x : State) (inside : In
   -- A left state and either filter state, with the right state at hand, can be packed.
   packs : (p filter : ℕ) → p < t .states → filter < 2 → Bounded (record { left = p; right = x .right; filter = filter })
   packs p filter l f =
-      let few : t .states ≤ 1024 = good-range t tg .states in
-      let many : u .states ≤ 1024 = good-range u ug .states in
+      let few : t .states ≤ max-states = good-range t tg .states in
+      let many : u .states ≤ max-states = good-range u ug .states in
       record { left = omega arith; right = omega (arith, inside .right-in); filter = f }
 
   -- Behind the last left arc: the right arcs alone.
@@ -221,7 +209,7 @@ module _ (t u : Transducer) (tg : Good t) (ug : Good u) (x : State) (inside : In
       (right-run x)
   here-right last =
       let j : ℕ = fitting-from u 0 (right-to u x - right-from u x) (right-from u x) in
-      let first : First u (fits u 0) (right-from u x) (right-to u x) j = first-is u (fits u 0) (right-from u x) (right-to u x) right-order in
+      let first : First-passing u (fits u 0) (right-from u x) (right-to u x) j = first-is u (fits u 0) (right-from u x) (right-to u x) right-order in
       record {
         at-least = omega arith;
         at-most = omega arith;
@@ -271,7 +259,7 @@ module _ (t u : Transducer) (tg : Good t) (ug : Good u) (x : State) (inside : In
   here-both i last l within writes =
       let label : ℕ = arc t i .output in
       let j : ℕ = fitting-from u label (right-to u x - right-from u x) (right-from u x) in
-      let first : First u (fits u label) (right-from u x) (right-to u x) j = first-is u (fits u label) (right-from u x) (right-to u x) right-order in
+      let first : First-passing u (fits u label) (right-from u x) (right-to u x) j = first-is u (fits u label) (right-from u x) (right-to u x) right-order in
       record {
         at-least = omega arith;
         at-most = omega arith;
@@ -330,7 +318,7 @@ module _ (t u : Transducer) (tg : Good t) (ug : Good u) (x : State) (inside : In
       by-test (ltb j (right-from u x + width))
       (λ h. rw (z, h, run-at-both i last j l) (here-both i last l within writes))
       (λ h. let none : right-from u x + width ≤ j = ltb-false j (right-from u x + width) h in
-      let first : First u (fits u label) (right-from u x) (right-to u x) j = first-is u (fits u label) (right-from u x) (right-to u x) right-order in
+      let first : First-passing u (fits u label) (right-from u x) (right-to u x) j = first-is u (fits u label) (right-from u x) (right-to u x) right-order in
       rw (z, h)
       (here-skip t u x i last (right-to u x) b (run-at t last x b) l
       (arc-steps-unread t u x i writes (λ m p q. first .before m p (omega arith))) more)))

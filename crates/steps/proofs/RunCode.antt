@@ -7,7 +7,7 @@ use native.Mathlib.Omega.{arith}
 use borrow.Author.Tests.{eq-eqb, ne-eqb, lt-ltb, le-ltb}
 use Rattle.transducer.specs.Format.{Transducer}
 use Rattle.transducer.specs.Path.{arc}
-use Rattle.steps.specs.Runs.{fitting-from, begin-from}
+use Rattle.steps.specs.Runs.{fitting-from, begin-from, several, Fits-only}
 
 -- begin-from
 
@@ -71,6 +71,11 @@ module _ {t u : Transducer} {filter from to i last : ℕ} where
       → Seeking t u filter from to i last k → Seeking t u filter from to i last (k + 1)
   seeking-unmet {k} {j} l e r o h s =
       record { within = omega arith; same = sym (begin-unmet t u filter from to last k j l e r o h) ∙ s .same }
+
+  -- A left arc that writes another label than the one that may fit.
+  pub seeking-other : {k only : ℕ} → k < last → only < several → (arc t k .output ≡ 0 → ⊥) → (arc t k .output ≡ only → ⊥) → from ≤ to
+      → Fits-only u from to only → Seeking t u filter from to i last k → Seeking t u filter from to i last (k + 1)
+  seeking-other {k} l less e other o fit s = seeking-unmet l e refl o (fit .no-other less (arc t k .output) e other) s
 
   pub seeking-stop : {k : ℕ} (j : ℕ) → last ≤ k → j ≡ fitting-from u 0 (to - from) from → Seeking t u filter from to i last k
       → record { alone = false; i = last; j = j } ≡ begin-from t u filter from (to - from) (last - i) i

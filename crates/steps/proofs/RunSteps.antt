@@ -9,11 +9,12 @@ use lib.Dec.{eqb}
 use lib.ListN.{length}
 use borrow.Author.Tests.{eqb-true, eqb-false, eq-eqb, ne-eqb}
 use Rattle.transducer.specs.declared.Arc.{Arc}
-use Rattle.transducer.specs.Format.{Transducer, barred, sources-stay, Good}
+use Rattle.transducer.specs.Format.{max-arcs, Transducer, barred, sources-stay, Good}
 use Rattle.transducer.specs.Path.{arc}
 use Rattle.transducer.specs.Each.{each-arc, fits}
 use Rattle.transducer.specs.Leaf.{arcs-below}
-use Rattle.transducer.proofs.Ranges.{from-to, from-to-same, from-to-skip, map-from-to, arcs-below-length, arcs-below-rises, each-arc-range}
+use Rattle.transducer.proofs.Ranges.{from-to, from-to-same, from-to-skip, map-from-to, each-arc-range}
+use Rattle.transducer.proofs.Index.{arcs-below-length, arcs-below-mono}
 use Rattle.transducer.proofs.Fits.{fits-none}
 use Rattle.wire.proofs.Bool.{by-test, is-false}
 use Rattle.explore.specs.Explore as explore
@@ -181,7 +182,7 @@ module _ (t u : Transducer) (x : State) where
   arc-steps-unread i writes unread =
       arc-steps-both i writes
       ∙ run-unread u (both-run x i (arc t i)) refl (arcs-below (x .right) (u .arcs)) (arcs-below (suc (x .right)) (u .arcs))
-      (arcs-below-rises (x .right) (suc (x .right)) (u .arcs) (omega arith)) unread
+      (arcs-below-mono (x .right) (suc (x .right)) (u .arcs) (omega arith)) unread
 
   pub runs-range : (n i : ℕ) → runs-from t u x n i ≡ from-to n i (arc-steps t u x) ++ right-steps-of u x (right-run x)
   unfolding runs-from from-to
@@ -219,7 +220,7 @@ module _ (t u : Transducer) (x : State) where
         let lo : ℕ = arcs-below (x .left) (t .arcs) in
         let hi : ℕ = arcs-below (suc (x .left)) (t .arcs) in
         let below : hi ≤ length (t .arcs) = arcs-below-length (suc (x .left)) (t .arcs) in
-        let order : lo ≤ hi = arcs-below-rises (x .left) (suc (x .left)) (t .arcs) (omega arith) in
+        let order : lo ≤ hi = arcs-below-mono (x .left) (suc (x .left)) (t .arcs) (omega arith) in
         let lefts : map coded (each-arc t (x .left) (left-steps u x)) ≡ from-to (hi - lo) lo (arc-steps t u x) =
         ap (map coded) (each-arc-range t (x .left) (left-steps u x) left-stay) ∙ map-from-to coded (hi - lo) lo (λ i. left-steps u x i (arc t i))
         ∙ from-to-same (hi - lo) lo (λ i. map coded (left-steps u x i (arc t i))) (arc-steps t u x) (λ i p q. arc-steps-are i (omega arith)) in
@@ -234,5 +235,5 @@ pub good-runs : (t u : Transducer) (x : State) → Good t → Good u
     → map coded (steps t u x)
     ≡ runs-from t u x (arcs-below (suc (x .left)) (t .arcs) - arcs-below (x .left) (t .arcs)) (arcs-below (x .left) (t .arcs))
 good-runs t u x tg ug =
-    let few : length (t .arcs) ≤ 3072 = good-range t tg .arcs in
+    let few : length (t .arcs) ≤ max-arcs = good-range t tg .arcs in
     steps-runs t u x (good-content u ug .stay) (good-content t tg .stay) (omega arith)

@@ -1,15 +1,9 @@
--- The states of a composition have parts that are states of the two transducers, so they can be packed; and its steps' weights are numbers of 32 bits.
--- Assumes nothing.
-use mathlib.Core.Path.{_≡_}
+-- The states of a composition have parts that are states of the two transducers, so they can be packed. Assumes nothing.
 use mathlib.Core.List.{List·Memᴰ as In}
-use Prim.Native.Nat.{ℕ, _≤_, _<_}
+use Prim.Native.Nat.{_≤_, _<_}
 use native.Mathlib.Omega.{arith}
-use mir.Syntax.{w32}
-use mir.Val.{SFits}
-use Rattle.transducer.specs.Format.{Transducer, Good}
+use Rattle.transducer.specs.Format.{max-states, Transducer, Good}
 use Rattle.transducer.proofs.RoundTrip.{good-range, good-content}
-use Rattle.transducer.specs.Path.{arc}
-use Rattle.transducer.proofs.Weights.{good-fits, plus-fits}
 use Rattle.explore.specs.Explore.{Step}
 use Rattle.steps.specs.declared.Origin.{Origin}
 use Rattle.steps.specs.declared.State.{State}
@@ -26,8 +20,8 @@ pub record Within (t u : Transducer) (x : State) : Type 0 where
 module _ (t u : Transducer) (tg : Good t) (ug : Good u) where
   pub within-bounded : (x : State) → Within t u x → Bounded x
   within-bounded x w =
-      let p : t .states ≤ 1024 = good-range t tg .states in
-      let q : u .states ≤ 1024 = good-range u ug .states in
+      let p : t .states ≤ max-states = good-range t tg .states in
+      let q : u .states ≤ max-states = good-range u ug .states in
       record { left = omega (arith, w .left); right = omega (arith, w .right); filter = w .filter }
 
   pub first-within : Within t u (first-state t u)
@@ -50,22 +44,3 @@ module _ (t u : Transducer) (tg : Good t) (ug : Good u) where
             right = good-content u ug .target (r .right-arc) (r .right-below);
             filter = omega arith;
           })
-
-  pub first-bounded : Bounded (first-state t u)
-  first-bounded = within-bounded (first-state t u) first-within
-
-  pub step-bounded : (x : State) (s : Step State Origin) → Within t u x → In s (steps t u x) → Bounded (s .target)
-  step-bounded x s w m = within-bounded (s .target) (step-within x s w m)
-
-  -- A step's weight is that of an arc or the sum of two, so a number of 32 bits.
-  pub step-weight : (x : State) (s : Step State Origin) → In s (steps t u x) → SFits w32 (s .weight)
-  unfolding left-alone right-alone both-step
-  step-weight x s m = on (step-move t u x s m)
-    where
-      on : Move t u x s → SFits w32 (s .weight)
-      on (by-left r) = rw (r .made) (good-fits (arc t (r .left-arc) .weight) (good-content t tg .weight (r .left-arc) (r .below)))
-      on (by-right r) = rw (r .made) (good-fits (arc u (r .right-arc) .weight) (good-content u ug .weight (r .right-arc) (r .below)))
-      on (by-both r) =
-          rw (r .made)
-          (plus-fits (arc t (r .left-arc) .weight) (arc u (r .right-arc) .weight) (good-content t tg .weight (r .left-arc) (r .left-below))
-          (good-content u ug .weight (r .right-arc) (r .right-below)))

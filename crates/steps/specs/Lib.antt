@@ -1,6 +1,6 @@
--- States, steps, filter.
+-- What a caller must believe
 pub mod Steps
--- States as numbers, right arcs by look-up, steps in runs.
+-- What only inner contracts cite: states as numbers, right arcs by look-up, steps in runs
 pub mod Packing
 pub mod Lookup
 pub mod Runs

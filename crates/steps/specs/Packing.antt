@@ -11,7 +11,7 @@ pub record Bounded (x : State) : Type 0 where
 
 -- A composed state as one number, and its parts again.
 unfoldable pub pack : State → ℕ
-pack x = (x .left * 1024 + x .right) * 2 + x .filter
+pack x = (x .left * max-states + x .right) * 2 + x .filter
 
 unfoldable pub unpacked : (key : ℕ) → State
-unpacked k = record { left = k / 2048; right = k / 2 % 1024; filter = k % 2 }
+unpacked k = record { left = k / (2 * max-states); right = k / 2 % max-states; filter = k % 2 }

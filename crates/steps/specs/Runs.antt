@@ -2,7 +2,7 @@
 use mathlib.Core.Path.{_≡_}
 use mathlib.Core.Bool.{Bool, true, false, _||_, cond}
 use mathlib.Core.List.{List, [], _∷_}
-use Prim.Native.Nat.{ℕ, zero, suc, _+_, _≤_, _<_}
+use Prim.Native.Nat.{ℕ, zero, suc, _+_, _-_, _≤_, _<_}
 use lib.Dec.{ltb, eqb}
 use lib.ListN.{length}
 use Rattle.transducer.specs.declared.Arc.{Arc}
@@ -54,6 +54,13 @@ fitting-from u label count j = first-at u (fits u label) count j
 
 abbrev pub reading-from : Transducer → (label count j : ℕ) → ℕ
 reading-from u label count j = first-at u (λ a. eqb (a .input) label) count j
+
+-- Of the right arcs from `from` to below `to`, none fits a label but this one, and 0 aside; 65,536, which is no label, promises nothing.
+abbrev pub several : ℕ
+several = 65536
+
+pub record Fits-only (u : Transducer) (from to only : ℕ) : Type 0 where
+  pub no-other : only < several → (label : ℕ) → (label ≡ 0 → ⊥) → (label ≡ only → ⊥) → to ≤ fitting-from u label (to - from) from
 
 -- Where the next run with a step begins, from left arc i on, among `count` of them; the right state's arcs are `width` from `from` on.
 unfoldable pub begin-from : (t u : Transducer) → (filter from width count i : ℕ) → Begin

@@ -11,6 +11,7 @@ pub use lookup::first_any;
 pub use lookup::put_chains;
 pub use runs::left_origin;
 pub use runs::next_run;
+pub use runs::only_label;
 pub use runs::right_origin;
 pub use runs::run_of;
 pub use runs::step_of;

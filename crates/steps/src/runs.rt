@@ -4,12 +4,12 @@ ghost use mathlib.Core.Bool.{true, false, cond};
 ghost use lib.Dec.{eqb};
 ghost use Prim.Native.Nat.{ℕ, _+_, _*_, _-_, _≤_, _<_};
 ghost use lib.ListN.{length};
-ghost use Rattle.transducer.specs.Format.{weight-good, decode, barred, any};
+ghost use Rattle.transducer.specs.Format.{Transducer, max-arcs, weight-good, decode, barred, any};
 ghost use Rattle.transducer.specs.Leaf.{Opened, Leaving};
 ghost use Rattle.steps.specs.Steps.{left-origin, right-origin};
 ghost use Rattle.steps.specs.Lookup.{Heads, Chain};
 ghost use Rattle.steps.specs.Packing.{Bounded};
-ghost use Rattle.steps.specs.Runs.{run-step, run-at, begin-from, reading-from};
+ghost use Rattle.steps.specs.Runs.{run-step, run-at, begin-from, reading-from, Fits-only};
 use crate::Begin;
 use crate::Origin;
 use crate::Run;
@@ -30,9 +30,66 @@ const AFTER_RIGHT: u32 = 1;
 
 const AFTER_BOTH: u32 = 0;
 
+// What `only_label` tells where more than one label may fit: no label.
+const SEVERAL: u32 = transducer::ANY as u32 + 1;
+
+// The one label that the arcs of a right state, from `from` to below `to`, may fit: that of its one arc, 0 where it has none. `wild` is the first of them for
+// any symbol. With fewer than two left arcs, from `first` to below `last`, nothing is to be gained.
+pub fn only_label(
+    right: &[u8],
+    rfirst: usize,
+    from: usize,
+    wild: usize,
+    to: usize,
+    first: usize,
+    last: usize,
+) -> u32
+    requires { ⌜ Opened (now right) rfirst × (from ≤ to) × (to ≤ length (decode (now right) .arcs)) × (first ≤ last) × (last ≤ max-arcs) ⌝ }
+    ensures { λ r. ⌜ ((q : ℕ) → Leaving (decode (now (right .entry))) q from to →
+        wild ≡ reading-from (decode (now (right .entry))) any (to - from) from → Fits-only (decode (now (right .entry))) from to r) ⌝ }
+{
+    if last < first + 2 {
+        return SEVERAL;
+    }
+    if wild < to {
+        return SEVERAL;
+    }
+    if from + 1 < to {
+        return SEVERAL;
+    }
+    if from == to {
+        return 0;
+    }
+    wire::u16_at(right, rfirst + ARC_BYTES * from + 6) as u32
+}
+
+// The first left arc from `i` on that writes nothing or `only`: those before it have no step. Where several labels may fit it is `i`.
+fn pass_over(left: &[u8], lfirst: usize, i: usize, last: usize, only: u32) -> usize
+    requires { ⌜ Opened (now left) lfirst × (i ≤ last) × (last ≤ length (decode (now left) .arcs)) ⌝ }
+    ensures { λ r. ⌜ (r ≤ last) × ((u : Transducer) (filter from to : ℕ) → from ≤ to → Fits-only u from to only →
+        begin-from (decode (now (left .entry))) u filter from (to - from) (last - r) r
+        ≡ begin-from (decode (now (left .entry))) u filter from (to - from) (last - i) i) ⌝ }
+{
+    if SEVERAL <= only {
+        return i;
+    }
+    let mut k = i;
+    while k < last {
+        let label = wire::u16_at(left, lfirst + ARC_BYTES * k + 8);
+        if label == 0 {
+            return k;
+        }
+        if label as u32 == only {
+            return k;
+        }
+        k += 1;
+    }
+    k
+}
+
 // Where the next run with a step begins, from left arc `i` on: a left arc that writes nothing, where the filter state allows it; one
 // whose output some right arc fits, by name or else as one for any symbol, of which `wild` is the first; or behind the last left arc, with the first
-// right arc that reads nothing.
+// right arc that reads nothing. Where one label alone may fit, `only` tells it, and no other is looked up.
 pub fn next_run(
     left: &[u8],
     lfirst: usize,
@@ -44,16 +101,17 @@ pub fn next_run(
     heads: &[u16; lookup::LABEL_BUCKETS],
     chain: &[u16; MAX_ARCS],
     q: u16,
+    only: u32,
     wild: usize,
     to: usize,
 ) -> Begin
     requires { ⌜ Opened (now left) lfirst × (i ≤ last) × (last ≤ length (decode (now left) .arcs)) ⌝ }
     requires { ⌜ Opened (now right) rfirst × Heads (decode (now right)) 0 (now heads) × Chain (decode (now right)) 0 (now chain) ⌝ }
     ensures { λ r. ⌜ ((from : ℕ) → Leaving (decode (now (right .entry))) q from to →
-        wild ≡ reading-from (decode (now (right .entry))) any (to - from) from →
+        wild ≡ reading-from (decode (now (right .entry))) any (to - from) from → Fits-only (decode (now (right .entry))) from to only →
         r ≡ begin-from (decode (now (left .entry))) (decode (now (right .entry))) filter from (to - from) (last - i) i) ⌝ }
 {
-    let mut k = i;
+    let mut k = pass_over(left, lfirst, i, last, only);
     while k < last {
         let at = k;
         let label = wire::u16_at(left, lfirst + ARC_BYTES * at + 8);

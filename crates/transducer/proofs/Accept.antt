@@ -1,24 +1,24 @@
 -- What refusal and acceptance of bytes rest on.
 --     refused-early, refused-head    where the head does not say where the records stand, the walk says which of 1 to 4 it is
 --     laid-refusal                   where it does, only the content is left to refuse
---     accepted-..                    what acceptance gives; `Bounds` has it as plain bounds on the numbers
+--     accepted-..                    what acceptance gives
 -- Assumes nothing.
 use mathlib.Core.Path.{_≡_}
 use mathlib.Core.Bool.{Bool, true, false, _&&_, not, cond}
 use mathlib.Core.List.{List}
-use Prim.Native.Nat.{ℕ, _+_, _*_, _≤_, _<_}
+use Prim.Native.Nat.{ℕ, _<_}
 use borrow.Author.Tests.{eqb-true, eq-eqb}
 use lib.Dec.{eqb}
 use lib.ListN.{length, getD}
 use Rattle.wire.specs.Bytes.{Bytes}
 use Rattle.wire.proofs.Bool.{and-true, true-and, passed, by-test}
 use Rattle.transducer.specs.declared.Final.{Final}
-use Rattle.transducer.specs.Format.{max-states, max-arcs, arcs-at, arc-bytes, weight-good}
+use Rattle.transducer.specs.Format.{weight-good}
 use Rattle.transducer.specs.Format.{Transducer, framed, records, kinds-good, decode, head-states, head-arcs, head-finals, head-start}
 use Rattle.transducer.specs.Format.{head-good, finals-rise, sources-stay, content-refusal, refusal}
 use Rattle.transducer.specs.Path.{no-arc, arc}
 use Rattle.transducer.specs.Check.{walked}
-use Rattle.transducer.proofs.Good.{Head-range, head-range, Content, content-good, finals-rise-good, sources-stay-good}
+use Rattle.transducer.proofs.Good.{Content, content-good, finals-rise-good, sources-stay-good}
 use Rattle.transducer.proofs.Good.{final-state-below, arc-states-below, arc-labels-below, final-light, arc-light}
 use Rattle.transducer.proofs.Laid.{Laid, laid-framed, laid-kinds, laid-finals-count, laid-arcs-count, kinds-laid}
 
@@ -69,14 +69,14 @@ laid-refusal {bs} b l hd =
     (eq-eqb (length (decode bs .arcs)) (head-arcs bs) (laid-arcs-count b l)) in
     rw (laid-framed b l, laid-kinds b l, hd, cs)
 
-record Passed (bs : List ℕ) : Type 0 where
+record All-passed (bs : List ℕ) : Type 0 where
   framing : framed bs ≡ true
   kinds : kinds-good (records bs) ≡ true
   head : head-fits bs ≡ true
   counts : counts-fit bs ≡ true
   content : content-refusal (decode bs) ≡ 0
 
-all-passed : (bs : List ℕ) → refusal bs ≡ 0 → Passed bs
+all-passed : (bs : List ℕ) → refusal bs ≡ 0 → All-passed bs
 unfolding refusal
 all-passed bs h =
     let r4 = cond (not (counts-fit bs)) 4 (content-refusal (decode bs)) in
@@ -89,7 +89,7 @@ all-passed bs h =
     record { framing = p1 .0; kinds = p2 .0; head = p3 .0; counts = p4 .0; content = p4 .1 }
 
 pub accepted-laid : {bs : List ℕ} → Bytes bs → refusal bs ≡ 0 → Laid bs (head-finals bs) (head-arcs bs)
-accepted-laid {bs} b h = let p : Passed bs = all-passed bs h in counted-laid b (p .framing) (p .kinds) (p .counts)
+accepted-laid {bs} b h = let p : All-passed bs = all-passed bs h in counted-laid b (p .framing) (p .kinds) (p .counts)
 
 pub accepted-head : (bs : List ℕ) → refusal bs ≡ 0 → head-good (head-states bs) (head-arcs bs) (head-finals bs) (head-start bs) ≡ true
 accepted-head bs h = all-passed bs h .head
@@ -123,28 +123,4 @@ content-range t h =
       final-weight = final-light t c;
       rise = finals-rise-good t c;
       stay = sources-stay-good t c;
-    }
-
--- What acceptance gives, as bounds on the numbers; `Content-range` has those of each arc and each final.
-pub record Bounds (bs : List ℕ) : Type 0 where
-  pub states : head-states bs ≤ max-states
-  pub arcs : head-arcs bs ≤ max-arcs
-  pub start : head-start bs < head-states bs
-  pub long : length bs ≡ arcs-at (head-finals bs) + arc-bytes * head-arcs bs
-  pub arcs-long : length (decode bs .arcs) ≡ head-arcs bs
-  pub weight : (i : ℕ) → i < head-arcs bs → weight-good (arc (decode bs) i .weight) ≡ true
-
-pub bounds : {bs : List ℕ} → Bytes bs → refusal bs ≡ 0 → Bounds bs
-bounds {bs} b h =
-    let l : Laid bs (head-finals bs) (head-arcs bs) = accepted-laid b h in
-    let r : Head-range (head-states bs) (head-arcs bs) (head-finals bs) (head-start bs) =
-    head-range (head-states bs) (head-arcs bs) (head-finals bs) (head-start bs) (accepted-head bs h) in
-    let m : length (decode bs .arcs) ≡ head-arcs bs = laid-arcs-count b l in
-    record {
-      states = r .states;
-      arcs = r .arcs;
-      start = r .start;
-      long = l .long;
-      arcs-long = m;
-      weight = λ i k. content-range (decode bs) (accepted-content bs h) .weight i (rw m k);
     }

@@ -5,7 +5,7 @@
 --     all-checked-content                     the same in bytes
 -- Assumes nothing.
 use mathlib.Core.Path.{_≡_, refl, sym, _∙_}
-use mathlib.Core.Bool.{Bool, true, false, _&&_, and-assoc, and-true}
+use mathlib.Core.Bool.{Bool, true, _&&_, and-assoc, and-true}
 use mathlib.Core.List.{List}
 use Prim.Native.Nat.{ℕ, zero, suc, _+_, _*_, _-_, _≤_, _<_}
 use native.Mathlib.Nat.{mul-zero, mul-suc, sub-zero}
@@ -16,7 +16,9 @@ use Rattle.wire.specs.Bytes.{four, places, every}
 use Rattle.transducer.specs.declared.Arc.{Arc}
 use Rattle.transducer.specs.declared.Final.{Final}
 use Rattle.transducer.specs.declared.Checks.{Checks}
-use Rattle.transducer.specs.Format.{Transducer, weight-good, labels-good, final-at, arc-at, finals-rise, sources-stay, states-good, order-good, all-labels-good, weights-good, first-of, content-refusal}
+use Rattle.transducer.specs.Format.{head-bytes, final-bytes, arcs-at}
+use Rattle.transducer.specs.Format.{Transducer, weight-good, labels-good, final-at, arc-at, finals-rise, sources-stay, states-good, order-good}
+use Rattle.transducer.specs.Format.{all-labels-good, weights-good, first-of, content-refusal}
 use Rattle.transducer.specs.Check.{final-checked, arc-checked, finals-checked, arcs-checked, from-0, all-checked, none-failed, final-word, arc-word}
 
 -- A loop over `count` records, the first at `at`, each `step` past the one before, when it has passed i of them.
@@ -138,13 +140,13 @@ module _ (n f at s m at' s' : ℕ) (word word' : ℕ → ℕ) (final : ℕ → F
 -- In bytes, at the places that f finals and m arcs give.
 module _ (bs : List ℕ) (n m f : ℕ) where
   pub all-checked-heads : all-checked bs n m f .heads
-      ≡ every (λ w. eqb w final-word) (places f 12 10 (four bs)) && every (λ w. eqb w arc-word) (places m (12 + 10 * f) 16 (four bs))
+      ≡ every (λ w. eqb w final-word) (places f head-bytes final-bytes (four bs)) && every (λ w. eqb w arc-word) (places m (arcs-at f) 16 (four bs))
   unfolding all-checked
-  all-checked-heads = all-gathered n f 12 10 m (12 + 10 * f) 16 (four bs) (four bs) (final-at bs) (arc-at bs) .heads-are
+  all-checked-heads = all-gathered n f head-bytes final-bytes m (arcs-at f) 16 (four bs) (four bs) (final-at bs) (arc-at bs) .heads-are
 
-  pub all-checked-content : (t : Transducer) → t .states ≡ n → t .finals ≡ places f 12 10 (final-at bs) →
-      t .arcs ≡ places m (12 + 10 * f) 16 (arc-at bs) →
+  pub all-checked-content : (t : Transducer) → t .states ≡ n → t .finals ≡ places f head-bytes final-bytes (final-at bs) →
+      t .arcs ≡ places m (arcs-at f) 16 (arc-at bs) →
       first-of (all-checked bs n m f .states) (all-checked bs n m f .order) (all-checked bs n m f .labels) (all-checked bs n m f .weights)
       ≡ content-refusal t
   unfolding all-checked
-  all-checked-content = content-checked n f 12 10 m (12 + 10 * f) 16 (four bs) (four bs) (final-at bs) (arc-at bs)
+  all-checked-content = content-checked n f head-bytes final-bytes m (arcs-at f) 16 (four bs) (four bs) (final-at bs) (arc-at bs)

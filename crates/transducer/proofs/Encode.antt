@@ -11,7 +11,7 @@ use Rattle.wire.specs.Bytes.{low, signed-low, places, filled, cleared}
 use Rattle.wire.proofs.Places.{length-places, places-snoc, sets-append, cleared-front}
 use Rattle.transducer.specs.declared.Arc.{Arc}
 use Rattle.transducer.specs.declared.Final.{Final}
-use Rattle.transducer.specs.Format.{Transducer}
+use Rattle.transducer.specs.Format.{arc-bytes, arcs-at, Transducer}
 use Rattle.transducer.specs.Encode.{weight-bytes, head-record, final-record, arc-record, final-records, arc-records, encode}
 
 -- Two runs of stores, the second right behind the first, are one.
@@ -122,7 +122,7 @@ sets-finals = sets-run 10 final-record final-records refl (λ f fs. refl) length
 
 -- arc-records
 
-pub length-arc-records : (as' : List Arc) → length (arc-records as') ≡ 16 * length as'
+pub length-arc-records : (as' : List Arc) → length (arc-records as') ≡ arc-bytes * length as'
 unfolding arc-records
 length-arc-records = length-run 16 arc-record arc-records refl (λ a as'. refl) length-arc-record
 
@@ -130,7 +130,7 @@ pub arc-records-append : (as' bs : List Arc) → arc-records (as' ++ bs) ≡ arc
 unfolding arc-records
 arc-records-append = run-append 16 arc-record arc-records refl (λ a as'. refl) length-arc-record
 
-pub sets-arcs : (out : List ℕ) (from at i : ℕ) (f : ℕ → Arc) {mid last : List ℕ} → at ≡ from + 16 * i →
+pub sets-arcs : (out : List ℕ) (from at i : ℕ) (f : ℕ → Arc) {mid last : List ℕ} → at ≡ from + arc-bytes * i →
     mid ≡ sets out from (arc-records (places i 0 1 f)) → last ≡ sets mid at (arc-record (f i)) →
     last ≡ sets out from (arc-records (places (i + 1) 0 1 f))
 unfolding arc-records
@@ -147,7 +147,7 @@ sets-no-arcs out from f = refl
 
 -- encode
 
-pub length-encode : (t : Transducer) → length (encode t) ≡ 12 + 10 * length (t .finals) + 16 * length (t .arcs)
+pub length-encode : (t : Transducer) → length (encode t) ≡ arcs-at (length (t .finals)) + arc-bytes * length (t .arcs)
 unfolding encode
 length-encode t =
     let head = head-record (t .states) (length (t .arcs)) (length (t .finals)) (t .start) in
@@ -165,14 +165,14 @@ length-encode t =
 -- The head, the finals and the arcs stored.
 pub sets-encode : (t : Transducer) (out : List ℕ) (f m : ℕ) {o1 o2 o3 : List ℕ} → length (t .finals) ≡ f → length (t .arcs) ≡ m →
     o1 ≡ sets out 0 (head-record (t .states) m f (t .start)) → o2 ≡ sets o1 12 (final-records (t .finals)) →
-    o3 ≡ sets o2 (12 + 10 * f) (arc-records (t .arcs)) → o3 ≡ sets out 0 (encode t)
+    o3 ≡ sets o2 (arcs-at f) (arc-records (t .arcs)) → o3 ≡ sets out 0 (encode t)
 unfolding encode
 sets-encode t out f m fs ms h1 h2 h3 =
     let head = head-record (t .states) (length (t .arcs)) (length (t .finals)) (t .start) in
     let fins = final-records (t .finals) in
     let sized : length head ≡ 12 = length-head-record (t .states) (length (t .arcs)) (length (t .finals)) (t .start) in
-    let long : length (head ++ fins) ≡ 12 + 10 * f = length-append head fins ∙ omega (arith, sized, length-final-records (t .finals)) in
-    sets-then out 0 (12 + 10 * f) (head ++ fins) (arc-records (t .arcs)) long (sets-then out 0 12 head fins sized (rw (fs, ms) h1) h2) (rw zero-add h3)
+    let long : length (head ++ fins) ≡ arcs-at f = length-append head fins ∙ omega (arith, sized, length-final-records (t .finals)) in
+    sets-then out 0 (arcs-at f) (head ++ fins) (arc-records (t .arcs)) long (sets-then out 0 12 head fins sized (rw (fs, ms) h1) h2) (rw zero-add h3)
 
 -- What is stored from the front, and cleared behind.
 pub cleared-sets : (xs out : List ℕ) (end : ℕ) {stored last : List ℕ} → length xs ≡ end → end ≤ length out → stored ≡ sets out 0 xs →

@@ -14,7 +14,7 @@ use Rattle.wire.specs.Bytes.{Bytes, places, every}
 use Rattle.wire.proofs.Places.{places-snoc, take-places}
 use Rattle.wire.proofs.Bool.{and-true, true-and, by-test}
 use Rattle.transducer.specs.declared.Final.{Final}
-use Rattle.transducer.specs.Format.{decode, refusal, finals-rise, head-finals, final-at, weight-good}
+use Rattle.transducer.specs.Format.{head-bytes, final-bytes, max-states, decode, refusal, finals-rise, head-finals, final-at, weight-good}
 use Rattle.transducer.specs.Path.{is-final, final-weight}
 use Rattle.transducer.specs.Leaf.{final-code, max-code, Finals-by-state}
 use Rattle.transducer.specs.Weight.{Weight, code-of, weight-of}
@@ -120,14 +120,14 @@ weight-final-code fs s h e = rw e (weight-code (final-weight fs s) (final-weight
 -- The codes of the first `i` finals are stored.
 pub record Coded (bs : List ℕ) (i place : ℕ) (codes : List ℕ) : Type 0 where
   pub within : i ≤ head-finals bs
-  pub there : place ≡ 12 + 10 * i
-  pub long : length codes ≡ 1024
-  pub so-far : (s : ℕ) → s < 1024 → getD codes s 0 ≡ final-code (places i 12 10 (final-at bs)) s
+  pub there : place ≡ head-bytes + final-bytes * i
+  pub long : length codes ≡ max-states
+  pub so-far : (s : ℕ) → s < max-states → getD codes s 0 ≡ final-code (places i head-bytes final-bytes (final-at bs)) s
 
-pub coded-first : (bs : List ℕ) → Coded bs 0 12 (replicate 1024 0)
+pub coded-first : (bs : List ℕ) → Coded bs 0 12 (replicate max-states 0)
 unfolding places final-code is-final
 coded-first bs =
-    record { within = omega arith; there = refl; long = length-replicate {A = ℕ} 1024 0; so-far = λ s h. getD-replicate {A = ℕ} 1024 s 0 0 h }
+    record { within = omega arith; there = refl; long = length-replicate {A = ℕ} max-states 0; so-far = λ s h. getD-replicate {A = ℕ} max-states s 0 0 h }
 
 -- What one store of a new state's code leaves at each state.
 stored-code : (codes : List ℕ) (old : List Final) (f : Final) (s : ℕ) → finals-rise 0 (old ++ (f ∷ [])) ≡ true → f .state < length codes →
@@ -145,7 +145,7 @@ module _ (bs : List ℕ) (bytes : Bytes bs) (ok : refusal bs ≡ 0) where
   loaded : {i place : ℕ} {codes : List ℕ} (f : Final) → i < head-finals bs → f ≡ final-at bs place → Coded bs i place codes → getD (decode bs .finals) i f ≡ f
   loaded {i} f h e c = final-offset bs bytes ok i f (omega (arith, length-finals bs bytes ok)) ∙ sym (e ∙ ap (final-at bs) (c .there))
 
-  pub coded-state : {i place : ℕ} {codes : List ℕ} (f : Final) → i < head-finals bs → f ≡ final-at bs place → Coded bs i place codes → f .state < 1024
+  pub coded-state : {i place : ℕ} {codes : List ℕ} (f : Final) → i < head-finals bs → f ≡ final-at bs place → Coded bs i place codes → f .state < max-states
   coded-state {i} f h e c =
       let below = final-state-below (decode bs) (accepted-good bs bytes ok) i f (omega (arith, length-finals bs bytes ok)) in
       let here = ap (λ (g : Final). g .state) (loaded f h e c) in
@@ -160,14 +160,15 @@ module _ (bs : List ℕ) (bytes : Bytes bs) (ok : refusal bs ≡ 0) where
   pub coded-next : {i place : ℕ} {codes : List ℕ} (f : Final) → i < head-finals bs → f ≡ final-at bs place → Coded bs i place codes →
       Coded bs (i + 1) (place + 10) (set codes (f .state) (code-of (f .weight)))
   coded-next {i} {place} {codes} f h e c =
-      let old : List Final = places i 12 10 (final-at bs) in
-      let is : f ≡ final-at bs (12 + 10 * i) = e ∙ ap (final-at bs) (c .there) in
-      let more : places (i + 1) 12 10 (final-at bs) ≡ old ++ (f ∷ []) = rw (add-one, is) (places-snoc i 12 10 (final-at bs)) in
-      let rise : finals-rise 0 (places (head-finals bs) 12 10 (final-at bs)) ≡ true =
+      let old : List Final = places i head-bytes final-bytes (final-at bs) in
+      let is : f ≡ final-at bs (head-bytes + final-bytes * i) = e ∙ ap (final-at bs) (c .there) in
+      let more : places (i + 1) head-bytes final-bytes (final-at bs) ≡ old ++ (f ∷ []) =
+      rw (add-one, is) (places-snoc i head-bytes final-bytes (final-at bs)) in
+      let rise : finals-rise 0 (places (head-finals bs) head-bytes final-bytes (final-at bs)) ≡ true =
       rw (decode-finals bs bytes ok) at (finals-rise-good (decode bs) (accepted-good bs bytes ok)) in
       let rise-more : finals-rise 0 (old ++ (f ∷ [])) ≡ true =
-      rw (← more, ← take-places (i + 1) (head-finals bs) 12 10 (final-at bs) (omega arith))
-      (rise-take 0 (i + 1) (places (head-finals bs) 12 10 (final-at bs)) rise) in
+      rw (← more, ← take-places (i + 1) (head-finals bs) head-bytes final-bytes (final-at bs) (omega arith))
+      (rise-take 0 (i + 1) (places (head-finals bs) head-bytes final-bytes (final-at bs)) rise) in
       let room : f .state < length codes = omega (arith, coded-state f h e c, c .long) in
       record {
         within = omega arith;
@@ -179,8 +180,8 @@ module _ (bs : List ℕ) (bytes : Bytes bs) (ok : refusal bs ≡ 0) where
   pub coded-stop : {i place : ℕ} {codes : List ℕ} → head-finals bs ≤ i → Coded bs i place codes → Finals-by-state (decode bs) codes
   coded-stop {i} {place} {codes} h c =
       let e : i ≡ head-finals bs = omega (arith, c .within) in
-      let all : decode bs .finals ≡ places i 12 10 (final-at bs) = rw e (decode-finals bs bytes ok) in
-      let are : (s : ℕ) → s < 1024 → getD codes s 0 ≡ final-code (decode bs .finals) s = λ s l. rw all (c .so-far s l) in
+      let all : decode bs .finals ≡ places i head-bytes final-bytes (final-at bs) = rw e (decode-finals bs bytes ok) in
+      let are : (s : ℕ) → s < max-states → getD codes s 0 ≡ final-code (decode bs .finals) s = λ s l. rw all (c .so-far s l) in
       record {
         long = c .long;
         at-state = are;

@@ -27,7 +27,7 @@ use Rattle.wire.proofs.Signed.{upper-is}
 use Rattle.transducer.specs.declared.Arc.{Arc}
 use Rattle.transducer.specs.declared.Checks.{Checks}
 use Rattle.transducer.specs.declared.check.Glance.{Glance}
-use Rattle.transducer.specs.Format.{barred, arc-bytes, min-weight, max-weight, weight-good, weight-at, labels-good, arc-at}
+use Rattle.transducer.specs.Format.{weight-limit, barred, arc-bytes, min-weight, max-weight, weight-good, weight-at, labels-good, arc-at}
 use Rattle.transducer.specs.Check.{arc-checked, arcs-checked, with-floor, arc-word, unsure, eight, input-of, output-of, target-of}
 use Rattle.transducer.specs.Check.{Good-up-to, Good-fields, Rows, Between, Passing, None-under, Glanced, Goes-on, None-below, Each-up}
 use Rattle.transducer.specs.Check.{Each-writes, Each-named, Glance-says}
@@ -58,7 +58,7 @@ good-before any x g =
     }
 
 -- Bits are those of a weight from -below on and not too high: their sum with `below`, modulo 2^32, is small.
-pub weight-within : (bits below : ℕ) → bits < 2 ^ 32 → below ≤ 1000000 → (bits + below) % 2 ^ 32 ≤ 1000000 + below →
+pub weight-within : (bits below : ℕ) → bits < 2 ^ 32 → below ≤ weight-limit → (bits + below) % 2 ^ 32 ≤ weight-limit + below →
     Between (rebate below) (toZ w32 bits) max-weight
 weight-within bits below fits small h =
     by-test (ltb (bits + below) 4294967296)
@@ -135,21 +135,21 @@ under-next {bs} {at} {all} {place} arcs b there under =
     x : ℕ
     x = eight bs (place + 4)
 
-    this : (k : ℕ) → eqb k arcs ≡ true → target-of (bitAnd all x) ≤ two bs (at + 16 * k + 10)
+    this : (k : ℕ) → eqb k arcs ≡ true → target-of (bitAnd all x) ≤ two bs (at + arc-bytes * k + 10)
     this k e =
-        let same : at + 16 * k + 10 ≡ place + 4 + 6 = omega (arith, eqb-true k arcs e, there) in
+        let same : at + arc-bytes * k + 10 ≡ place + 4 + 6 = omega (arith, eqb-true k arcs e, there) in
         rw (same, ← eight-target bs (place + 4) b) (and-target-r all x)
 
-    before : (k : ℕ) → at + 16 * k < place + 16 → eqb k arcs ≡ false → target-of (bitAnd all x) ≤ two bs (at + 16 * k + 10)
+    before : (k : ℕ) → at + arc-bytes * k < place + 16 → eqb k arcs ≡ false → target-of (bitAnd all x) ≤ two bs (at + arc-bytes * k + 10)
     before k h e =
         omega (arith, under .leads k (omega (arith, h, there, eqb-false k arcs e)), and-target-l all x)
 
-    this-output : (k : ℕ) → eqb k arcs ≡ true → output-of (bitAnd all x) ≤ two bs (at + 16 * k + 8)
+    this-output : (k : ℕ) → eqb k arcs ≡ true → output-of (bitAnd all x) ≤ two bs (at + arc-bytes * k + 8)
     this-output k e =
-        let same : at + 16 * k + 8 ≡ place + 4 + 4 = omega (arith, eqb-true k arcs e, there) in
+        let same : at + arc-bytes * k + 8 ≡ place + 4 + 4 = omega (arith, eqb-true k arcs e, there) in
         rw (same, ← eight-output bs (place + 4) b) (and-output-r all x)
 
-    before-output : (k : ℕ) → at + 16 * k < place + 16 → eqb k arcs ≡ false → output-of (bitAnd all x) ≤ two bs (at + 16 * k + 8)
+    before-output : (k : ℕ) → at + arc-bytes * k < place + 16 → eqb k arcs ≡ false → output-of (bitAnd all x) ≤ two bs (at + arc-bytes * k + 8)
     before-output k h e =
         omega (arith, under .outputs k (omega (arith, h, there, eqb-false k arcs e)), and-output-l all x)
 
@@ -202,9 +202,9 @@ module _ {bs : List ℕ} {at count n : ℕ} {each : Bool} {floor last any all pl
   unfolding arc-at
   light-more this k h = on (eqb k (g .arcs)) refl
     where
-      on : (b : Bool) → eqb k (g .arcs) ≡ b → At-most least (weight-at bs (at + 16 * k + 12))
+      on : (b : Bool) → eqb k (g .arcs) ≡ b → At-most least (weight-at bs (at + arc-bytes * k + 12))
       on true e =
-          let same : at + 16 * k ≡ place = omega (arith, eqb-true k (g .arcs) e, g .there) in
+          let same : at + arc-bytes * k ≡ place = omega (arith, eqb-true k (g .arcs) e, g .there) in
           rw same this
       on false e = g .light k (omega (arith, h, eqb-false k (g .arcs) e))
 
@@ -212,9 +212,9 @@ module _ {bs : List ℕ} {at count n : ℕ} {each : Bool} {floor last any all pl
   unfolding arc-at
   steps-more source from order k h = on (eqb k (g .arcs)) refl
     where
-      on : (b : Bool) → eqb k (g .arcs) ≡ b → two bs (at + 16 * k + 4) ≤ source
+      on : (b : Bool) → eqb k (g .arcs) ≡ b → two bs (at + arc-bytes * k + 4) ≤ source
       on true e =
-          let same : at + 16 * k ≡ place = omega (arith, eqb-true k (g .arcs) e, g .there) in
+          let same : at + arc-bytes * k ≡ place = omega (arith, eqb-true k (g .arcs) e, g .there) in
           rw same (omega (arith, from))
       on false e = omega (arith, order, g .steps k (omega (arith, h, eqb-false k (g .arcs) e)))
 
@@ -225,9 +225,9 @@ module _ {bs : List ℕ} {at count n : ℕ} {each : Bool} {floor last any all pl
       x : ℕ
       x = eight bs (place + 4)
 
-      on : (t : Bool) → eqb k (g .arcs) ≡ t → two bs (at + 16 * k + 6) ≤ input-of (bitOr any x)
+      on : (t : Bool) → eqb k (g .arcs) ≡ t → two bs (at + arc-bytes * k + 6) ≤ input-of (bitOr any x)
       on true e =
-          let same : at + 16 * k + 6 ≡ place + 4 + 2 = omega (arith, eqb-true k (g .arcs) e, g .there) in
+          let same : at + arc-bytes * k + 6 ≡ place + 4 + 2 = omega (arith, eqb-true k (g .arcs) e, g .there) in
           rw (same, ← eight-input bs (place + 4) b) (or-input-r any x)
       on false e = omega (arith, g .inputs k (omega (arith, h, eqb-false k (g .arcs) e)), or-input-l any x)
 
@@ -307,21 +307,21 @@ module _ {bs : List ℕ} {at count n : ℕ} {each : Bool} {floor last any all pl
         }
 
 -- A run, of which the arcs up to `place` are seen.
-pub record Running (bs : List ℕ) (from end n : ℕ) (each : Bool) (last any all : ℕ) (least : Weight) (before most lowest place : ℕ) : Type 0 where
+pub record Run-seen (bs : List ℕ) (from end n : ℕ) (each : Bool) (last any all : ℕ) (least : Weight) (before most lowest place : ℕ) : Type 0 where
   pub rows : Rows place end
   pub goes-on : Goes-on bs from end n each last any all least before most lowest place
 
 pub running-first : {bs : List ℕ} {from end n : ℕ} {each : Bool} {last any all : ℕ} {least : Weight} → Rows from end →
-    Running bs from end n each last any all least last any all from
+    Run-seen bs from end n each last any all least last any all from
 running-first rows = record { rows = rows; goes-on = λ at count floor e g. g }
 
 module _ {bs : List ℕ} {from end n : ℕ} {each : Bool} {last any all : ℕ} {least : Weight} {before most lowest place : ℕ}
-    (r : Running bs from end n each last any all least before most lowest place) (h : place < end) where
+    (r : Run-seen bs from end n each last any all least before most lowest place) (h : place < end) where
   pub running-room : place + 16 ≤ end
   running-room = omega (arith, h, r .rows .end-is)
 
   pub running-next : (source : ℕ) → Bytes bs → At-most min-weight least → Passing bs place n each before least source →
-      Running bs from end n each last any all least source (bitOr most (eight bs (place + 4))) (bitAnd lowest (eight bs (place + 4))) (place + 16)
+      Run-seen bs from end n each last any all least source (bitOr most (eight bs (place + 4))) (bitAnd lowest (eight bs (place + 4))) (place + 16)
   running-next source b low p =
       record {
         rows = record { many = r .rows .many - 1; end-is = omega (arith, h, r .rows .end-is) };
@@ -330,17 +330,17 @@ module _ {bs : List ℕ} {from end n : ℕ} {each : Bool} {last any all : ℕ} {
 
 -- A run behind a run.
 pub running-on : {bs : List ℕ} {from end n : ℕ} {each : Bool} {last any all : ℕ} {least : Weight} {before most lowest place last' any' all' place' : ℕ} →
-    Running bs from end n each last any all least before most lowest place → Goes-on bs place end n each before most lowest least last' any' all' place' →
+    Run-seen bs from end n each last any all least before most lowest place → Goes-on bs place end n each before most lowest least last' any' all' place' →
     Goes-on bs from end n each last any all least last' any' all' place'
 running-on r more at count floor e g = more at count floor e (r .goes-on at count floor e g)
 
 -- What is known between two runs: no weight is lower than `below` below zero.
 pub record Looking (bs : List ℕ) (at count n : ℕ) (each : Bool) (floor last any all below place : ℕ) : Type 0 where
   pub glanced : Glanced bs at count n each floor last any all (rebate below) place
-  pub small : below ≤ 1000000
+  pub small : below ≤ weight-limit
 
 pub rebate-lower : (a b : ℕ) → a ≤ b → At-most (rebate b) (rebate a)
 rebate-lower a b h = omega (arith, sums, minus (pos a), minus (pos b))
 
-pub rebate-good : (a : ℕ) → a ≤ 1000000 → At-most min-weight (rebate a)
-rebate-good a h = rebate-lower a 1000000 h
+pub rebate-good : (a : ℕ) → a ≤ weight-limit → At-most min-weight (rebate a)
+rebate-good a h = rebate-lower a weight-limit h

@@ -1,9 +1,10 @@
--- What the tests 3 and 5 to 8 say, as plain facts: `Head-range` of the head's numbers, `Content` of a transducer. Assumes nothing.
+-- What the tests 3 and 5 to 8 say, as plain facts: `Head-range` of the head's numbers, `Content` of a transducer. A good one has both, and what has both
+-- is good. Assumes nothing.
 use mathlib.Core.Path.{_≡_}
 use mathlib.Core.Bool.{true, _&&_, not, cond}
 use Prim.Native.Nat.{ℕ, _≤_, _<_}
 use native.Mathlib.Omega.{arith}
-use borrow.Author.Tests.{ltb-true, leb-true}
+use borrow.Author.Tests.{ltb-true, leb-true, lt-ltb, le-leb}
 use lib.Dec.{ltb, leb}
 use lib.ListN.{length, getD}
 use Rattle.wire.specs.Bytes.{every}
@@ -11,9 +12,9 @@ use Rattle.wire.proofs.Places.{every-getD}
 use Rattle.wire.proofs.Bool.{and-true, passed}
 use Rattle.transducer.specs.declared.Arc.{Arc}
 use Rattle.transducer.specs.declared.Final.{Final}
-use Rattle.transducer.specs.Format.{max-states, max-arcs, Transducer, head-good, states-good, order-good, finals-rise, sources-stay}
-use Rattle.transducer.specs.Format.{labels-good, all-labels-good, weight-good, weights-good, first-of, content-refusal}
-use Rattle.transducer.proofs.Labels.{Short, good-short}
+use Rattle.transducer.specs.Format.{max-states, max-arcs, Transducer, Good, head-good, states-good, order-good, all-labels-good, weights-good}
+use Rattle.transducer.specs.Format.{weight-good, labels-good, first-of, content-refusal, finals-rise, sources-stay}
+use Rattle.transducer.proofs.Labels.{Short-labels, good-short}
 
 pub record Head-range (n m f s : ℕ) : Type 0 where
   pub some : 1 ≤ n
@@ -52,6 +53,24 @@ content-good t h =
     let d = passed (weights-good t) 7 0 (c .1) in
     record { states = a .0; order = b .0; labels = c .0; weights = d .0 }
 
+pub good-tests : (t : Transducer) → Good t → Content t
+good-tests t g = content-good t (g .content)
+
+pub tests-good : (t : Transducer) → Head-range (t .states) (length (t .arcs)) (length (t .finals)) (t .start) → Content t → Good t
+unfolding head-good content-refusal first-of
+tests-good t r c =
+    record {
+      head =
+          rw (
+            le-leb 1 (t .states) (r .some),
+            le-leb (t .states) max-states (r .states),
+            le-leb (length (t .arcs)) max-arcs (r .arcs),
+            le-leb (length (t .finals)) (t .states) (r .finals),
+            lt-ltb (t .start) (t .states) (r .start),
+          );
+      content = rw (c .states, c .order, c .labels, c .weights);
+    }
+
 module _ (t : Transducer) (good : Content t) where
   pub finals-rise-good : finals-rise 0 (t .finals) ≡ true
   unfolding order-good
@@ -61,28 +80,34 @@ module _ (t : Transducer) (good : Content t) where
   unfolding order-good
   sources-stay-good = and-true (finals-rise 0 (t .finals)) (sources-stay 0 (t .arcs)) (good .order) .1
 
-  pub final-state-below : (i : ℕ) (d : Final) → i < length (t .finals) → getD (t .finals) i d .state < t .states
+  pub finals-inside : every (λ f. ltb (f .state) (t .states)) (t .finals) ≡ true
   unfolding states-good
+  finals-inside =
+      and-true (every (λ f. ltb (f .state) (t .states)) (t .finals))
+      (every (λ a. ltb (a .source) (t .states) && ltb (a .target) (t .states)) (t .arcs)) (good .states) .0
+
+  pub arcs-inside : every (λ a. ltb (a .source) (t .states) && ltb (a .target) (t .states)) (t .arcs) ≡ true
+  unfolding states-good
+  arcs-inside =
+      and-true (every (λ f. ltb (f .state) (t .states)) (t .finals))
+      (every (λ a. ltb (a .source) (t .states) && ltb (a .target) (t .states)) (t .arcs)) (good .states) .1
+
+  pub final-state-below : (i : ℕ) (d : Final) → i < length (t .finals) → getD (t .finals) i d .state < t .states
   final-state-below i d l =
-      let all = and-true (every (λ f. ltb (f .state) (t .states)) (t .finals))
-      (every (λ a. ltb (a .source) (t .states) && ltb (a .target) (t .states)) (t .arcs)) (good .states) in
-      ltb-true (getD (t .finals) i d .state) (t .states) (every-getD (λ f. ltb (f .state) (t .states)) (t .finals) i d (all .0) l)
+      ltb-true (getD (t .finals) i d .state) (t .states) (every-getD (λ f. ltb (f .state) (t .states)) (t .finals) i d finals-inside l)
 
   pub arc-states-below : (i : ℕ) (d : Arc) → i < length (t .arcs) → (getD (t .arcs) i d .source < t .states) × (getD (t .arcs) i d .target < t .states)
-  unfolding states-good
   arc-states-below i d l =
-      let all = and-true (every (λ f. ltb (f .state) (t .states)) (t .finals))
-      (every (λ a. ltb (a .source) (t .states) && ltb (a .target) (t .states)) (t .arcs)) (good .states) in
       let a : Arc = getD (t .arcs) i d in
       let both = and-true (ltb (a .source) (t .states)) (ltb (a .target) (t .states))
-      (every-getD (λ a. ltb (a .source) (t .states) && ltb (a .target) (t .states)) (t .arcs) i d (all .1) l) in
+      (every-getD (λ a. ltb (a .source) (t .states) && ltb (a .target) (t .states)) (t .arcs) i d arcs-inside l) in
       (ltb-true (a .source) (t .states) (both .0), ltb-true (a .target) (t .states) (both .1))
 
   pub arc-labels-below : (i : ℕ) (d : Arc) → i < length (t .arcs) → (getD (t .arcs) i d .input < 65536) × (getD (t .arcs) i d .output < 65536)
   unfolding all-labels-good
   arc-labels-below i d l =
       let a : Arc = getD (t .arcs) i d in
-      let short : Short (a .input) (a .output) =
+      let short : Short-labels (a .input) (a .output) =
       good-short (a .input) (a .output) (every-getD (λ a. labels-good (a .input) (a .output)) (t .arcs) i d (good .labels) l) in
       (omega (arith, short .read), omega (arith, short .written))
 

@@ -27,11 +27,11 @@ unbarred-good input output r =
     rw (ne-eqb input any (λ e. omega (arith, r .read)), lt-ltb input any (r .read), lt-ltb output any (r .written))
 
 -- Labels of 16 bits.
-pub record Short (input output : ℕ) : Type 0 where
+pub record Short-labels (input output : ℕ) : Type 0 where
   pub read : input ≤ any
   pub written : output ≤ any
 
-pub good-short : (input output : ℕ) → labels-good input output ≡ true → Short input output
+pub good-short : (input output : ℕ) → labels-good input output ≡ true → Short-labels input output
 unfolding labels-good
 good-short input output h =
     by-test (eqb input any)
@@ -48,5 +48,5 @@ module _ (t : Transducer) (i : ℕ) (good : all-labels-good t ≡ true) (below :
   pub arc-unbarred : arc t i .input < any → Unbarred (arc t i .input) (arc t i .output)
   arc-unbarred l = good-unbarred (arc t i .input) (arc t i .output) arc-good l
 
-  pub arc-short : Short (arc t i .input) (arc t i .output)
+  pub arc-short : Short-labels (arc t i .input) (arc t i .output)
   arc-short = good-short (arc t i .input) (arc t i .output) arc-good

@@ -11,7 +11,7 @@ use Rattle.transducer.specs.Path.{arc}
 use Rattle.transducer.specs.Leaf.{arcs-below, Rest, Leaving, Fitting-label}
 use Rattle.transducer.proofs.Good.{content-good}
 use Rattle.transducer.proofs.Index.{arcs-of-state, state-of-arcs}
-use Rattle.transducer.proofs.Ranges.{arcs-below-length, arcs-below-rises}
+use Rattle.transducer.proofs.Index.{arcs-below-length, arcs-below-mono}
 use Rattle.transducer.specs.Each.{unnamed, named}
 use Rattle.transducer.proofs.Fits.{none-unnamed, label-at, label-any, label-named, fits-label, fits-named, fits-none, named-input}
 
@@ -29,7 +29,7 @@ rest-at {u} {q} {from} {to} k r l m =
 pub state-leaving : (u : Transducer) (q : ℕ) → Good u → Leaving u q (arcs-below q (u .arcs)) (arcs-below (suc q) (u .arcs))
 state-leaving u q g =
     let good = content-good u (g .content) in
-    let rises : arcs-below q (u .arcs) ≤ arcs-below (suc q) (u .arcs) = arcs-below-rises q (suc q) (u .arcs) (omega arith) in
+    let rises : arcs-below q (u .arcs) ≤ arcs-below (suc q) (u .arcs) = arcs-below-mono q (suc q) (u .arcs) (omega arith) in
     let end : arcs-below (suc q) (u .arcs) ≤ length (u .arcs) = arcs-below-length (suc q) (u .arcs) in
     record {
       rest =

@@ -1,19 +1,22 @@
+-- Weights: sums, order, range and codes.
+pub mod Weights
+pub mod Magnitudes
 -- Records one after the other, and where the head says that they stand.
 pub mod Records
 pub mod Laid
 -- What the tests 3 and 5 to 8 say of a transducer, and that the code's one pass makes them.
-pub mod Good
-pub mod GoodParts
 pub mod Labels
+pub mod Good
 pub mod Checked
 pub mod Fields
 pub mod Glance
--- Acceptance of bytes: which refusal it is, and what no refusal gives.
+-- Acceptance of bytes: which refusal it is, what no refusal gives, and what it is to fit a symbol.
 pub mod Accept
-pub mod Tested
 pub mod Most
 pub mod Offsets
 pub mod Headed
+pub mod Fits
+pub mod Tested
 -- Records written, and read back.
 pub mod Encode
 pub mod WriteBack
@@ -28,13 +31,10 @@ pub mod Members
 pub mod Each
 pub mod Ranges
 pub mod Opened
-pub mod Fits
 pub mod Named
 pub mod Leaving
--- Paths, their costs, and rings on them.
+-- Paths, their costs, and cycles on them.
 pub mod Paths
 pub mod FitPaths
 pub mod Runs
-pub mod Rings
-pub mod Weights
-pub mod Magnitudes
+pub mod Cycles

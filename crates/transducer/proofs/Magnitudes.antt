@@ -1,6 +1,6 @@
 -- What code works the magnitude of a weight or a cost out from: the number itself from nothing on; below it, -1 less the number, and one more.
 -- Assumes nothing.
-use mathlib.Core.Path.{_≡_, refl}
+use mathlib.Core.Path.{_≡_}
 use mathlib.Core.Bool.{true, false}
 use Prim.Native.Nat.{_+_, _≤_, _^_}
 use native.Mathlib.Omega.{arith}

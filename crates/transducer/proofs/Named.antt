@@ -8,7 +8,7 @@ use lib.Dec.{ltb}
 use borrow.Author.Tests.{lt-ltb, le-ltb}
 use Rattle.wire.specs.Bytes.{Bytes, two, every, places}
 use Rattle.transducer.specs.declared.Arc.{Arc}
-use Rattle.transducer.specs.Format.{any, arc-at, head-finals, head-arcs, refusal, decode}
+use Rattle.transducer.specs.Format.{arc-bytes, arcs-at, any, arc-at, head-finals, head-arcs, refusal, decode}
 use Rattle.transducer.specs.Each.{named}
 use Rattle.transducer.proofs.Offsets.{decode-arcs}
 
@@ -16,17 +16,17 @@ use Rattle.transducer.proofs.Offsets.{decode-arcs}
 abbrev pub named-from : (bs : List ℕ) → (count at : ℕ) → Bool
 named-from bs count at = every (λ a. ltb (a .input) any) (places count at 16 (arc-at bs))
 
-pub record Searching (bs : List ℕ) (at count place i : ℕ) : Type 0 where
+pub record Name-search (bs : List ℕ) (at count place i : ℕ) : Type 0 where
   pub within : i ≤ count
-  pub there : place ≡ at + 16 * i
+  pub there : place ≡ at + arc-bytes * i
   pub same : named-from bs (count - i) place ≡ named-from bs count at
 
-pub searching-first : (bs : List ℕ) (at count : ℕ) → Searching bs at count at 0
+pub searching-first : (bs : List ℕ) (at count : ℕ) → Name-search bs at count at 0
 searching-first bs at count =
     let all : count - 0 ≡ count = omega arith in
     record { within = omega arith; there = omega arith; same = rw all refl }
 
-module _ {bs : List ℕ} {at count place i : ℕ} (s : Searching bs at count place i) where
+module _ {bs : List ℕ} {at count place i : ℕ} (s : Name-search bs at count place i) where
   step : i < count → named-from bs (count - i) place ≡ ltb (two bs (place + 6)) any && named-from bs (count - (i + 1)) (place + 16)
   unfolding every places arc-at
   step l = let more : count - i ≡ suc (count - (i + 1)) = omega arith in rw more
@@ -34,7 +34,7 @@ module _ {bs : List ℕ} {at count place i : ℕ} (s : Searching bs at count pla
   pub searching-any : i < count → two bs (place + 6) ≡ any → false ≡ named-from bs count at
   searching-any l e = (rw (e, le-ltb any any (omega arith)) at (sym (step l))) ∙ s .same
 
-  pub searching-next : i < count → two bs (place + 6) < any → Searching bs at count (place + 16) (i + 1)
+  pub searching-next : i < count → two bs (place + 6) < any → Name-search bs at count (place + 16) (i + 1)
   searching-next l h =
       record {
         within = omega arith;
@@ -46,7 +46,7 @@ module _ {bs : List ℕ} {at count place i : ℕ} (s : Searching bs at count pla
   unfolding every places
   searching-stop l = let none : count - i ≡ 0 = omega arith in rw none at (s .same)
 
-pub named-decode : (bs : List ℕ) (count at : ℕ) → Bytes bs → refusal bs ≡ 0 → count ≡ head-arcs bs → at ≡ 12 + 10 * head-finals bs
+pub named-decode : (bs : List ℕ) (count at : ℕ) → Bytes bs → refusal bs ≡ 0 → count ≡ head-arcs bs → at ≡ arcs-at (head-finals bs)
     → named-from bs count at ≡ named (decode bs)
 unfolding named
 named-decode bs count at bytes ok count-is at-is = rw (count-is, at-is) (ap (every (λ (a : Arc). ltb (a .input) any)) (sym (decode-arcs bs bytes ok)))

@@ -1,6 +1,6 @@
 -- Ranges of arc numbers: where sources never fall, the arcs of a state are those from `arcs-below s` to below `arcs-below (suc s)`. Assumes nothing.
 use mathlib.Core.Path.{_≡_, refl, ap}
-use mathlib.Core.Bool.{Bool, true, false, cond}
+use mathlib.Core.Bool.{true, cond}
 use mathlib.Core.List.{List, [], _∷_, _++_, map, map-append, append-assoc}
 use Prim.Native.Nat.{ℕ, zero, suc, _+_, _-_, _≤_, _<_}
 use native.Mathlib.Nat.{zero-add, add-zero}
@@ -15,7 +15,6 @@ use Rattle.transducer.specs.Path.{arc, no-arc}
 use Rattle.transducer.specs.Each.{by-number, each-arc}
 use Rattle.transducer.specs.Leaf.{arcs-below}
 use Rattle.transducer.proofs.Index.{stay-none}
-pub use Rattle.transducer.proofs.Index.{arcs-below-length, arcs-below-mono as arcs-below-rises}
 
 -- What a function gives for each of `count` numbers from i on, one after the other.
 unfoldable pub from-to : {B : Type 0} → (count i : ℕ) → (ℕ → List B) → List B

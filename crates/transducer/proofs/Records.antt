@@ -1,7 +1,7 @@
 -- The two walks over records, `framed-from` and `records-from`, by one step at a place, and what a loop that goes so knows.
 --     framed-end, framed-more, records-end, records-more     one step, with no word of fuel
 --     framed-short, framed-past, framed-next, framed-fits    the framing at a place
---     Going                                                  a loop over the kinds: what is left decides
+--     Kinds-from                                                  a loop over the kinds: what is left decides
 -- Assumes nothing.
 use mathlib.Core.Path.{_≡_, refl, sym, _∙_}
 use mathlib.Core.Bool.{Bool, true, false, _&&_, not}
@@ -129,12 +129,12 @@ pub kinds-not-8 : (bs : List ℕ) → 0 < length bs → two bs 2 ≡ 1 → (two 
 kinds-not-8 bs h k n = kinds-first bs h ∙ rw (k, ne-eqb (two bs 0) 8 n)
 
 -- A loop at a place: the records from here on decide whether all kinds are good.
-pub record Going (bs : List ℕ) (at : ℕ) (after : Bool) : Type 0 where
+pub record Kinds-from (bs : List ℕ) (at : ℕ) (after : Bool) : Type 0 where
   pub within : at ≤ length bs
   pub framing : framed-at bs at ≡ true
   pub kinds : in-order after (records-at bs at) ≡ kinds-good (records bs)
 
-pub going-first : (bs : List ℕ) → framed bs ≡ true → 0 < length bs → two bs 2 ≡ 1 → two bs 0 ≡ 8 → Going bs 12 false
+pub going-first : (bs : List ℕ) → framed bs ≡ true → 0 < length bs → two bs 2 ≡ 1 → two bs 0 ≡ 8 → Kinds-from bs 12 false
 unfolding framed
 going-first bs fr h kind size =
     let next : 0 + 4 + two bs 0 ≡ 12 = omega arith in
@@ -145,16 +145,16 @@ going-first bs fr h kind size =
       kinds = sym (kinds-first bs h ∙ rw (kind, size));
     }
 
-pub going-fits : {bs : List ℕ} {at : ℕ} {after : Bool} → Going bs at after → at < length bs → at + 4 + two bs at ≤ length bs
+pub going-fits : {bs : List ℕ} {at : ℕ} {after : Bool} → Kinds-from bs at after → at < length bs → at + 4 + two bs at ≤ length bs
 going-fits {bs} {at} g h = framed-fits bs at h (g .framing) .0
 
-going-kind : {bs : List ℕ} {at : ℕ} {after : Bool} → Going bs at after → at < length bs →
+going-kind : {bs : List ℕ} {at : ℕ} {after : Bool} → Kinds-from bs at after → at < length bs →
     kinds-good (records bs) ≡ kind-good after (two bs (at + 2)) (two bs at) && in-order (eqb (two bs (at + 2)) 3) (records-at bs (at + 4 + two bs at))
 unfolding in-order
 going-kind {bs} {at} g h = sym (g .kinds) ∙ rw (records-more bs at h)
 
-pub going-more : {bs : List ℕ} {at : ℕ} {after : Bool} (kind size : ℕ) → Going bs at after → at < length bs → kind ≡ two bs (at + 2) →
-    size ≡ two bs at → kind-good after kind size ≡ true → Going bs (at + (4 + size)) (eqb kind 3)
+pub going-more : {bs : List ℕ} {at : ℕ} {after : Bool} (kind size : ℕ) → Kinds-from bs at after → at < length bs → kind ≡ two bs (at + 2) →
+    size ≡ two bs at → kind-good after kind size ≡ true → Kinds-from bs (at + (4 + size)) (eqb kind 3)
 going-more {bs} {at} {after} kind size g h k s good =
     let next : at + 4 + two bs at ≡ at + (4 + size) = omega arith in
     let fits = framed-fits bs at h (g .framing) in
@@ -164,10 +164,10 @@ going-more {bs} {at} {after} kind size g h k s good =
       kinds = sym (going-kind g h ∙ rw (next, ← k, ← s, good));
     }
 
-pub going-wrong : {bs : List ℕ} {at : ℕ} {after : Bool} (kind size : ℕ) → Going bs at after → at < length bs → kind ≡ two bs (at + 2) →
+pub going-wrong : {bs : List ℕ} {at : ℕ} {after : Bool} (kind size : ℕ) → Kinds-from bs at after → at < length bs → kind ≡ two bs (at + 2) →
     size ≡ two bs at → kind-good after kind size ≡ false → kinds-good (records bs) ≡ false
 going-wrong kind size g h k s bad = going-kind g h ∙ rw (← k, ← s, bad)
 
-pub going-done : {bs : List ℕ} {at : ℕ} {after : Bool} → Going bs at after → length bs ≤ at → kinds-good (records bs) ≡ true
+pub going-done : {bs : List ℕ} {at : ℕ} {after : Bool} → Kinds-from bs at after → length bs ≤ at → kinds-good (records bs) ≡ true
 unfolding in-order
 going-done {bs} {at} g h = sym (g .kinds) ∙ rw (records-end bs at h)

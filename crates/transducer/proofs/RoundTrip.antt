@@ -24,8 +24,10 @@ use Rattle.wire.proofs.Places.{length-places}
 use Rattle.wire.proofs.Bool.{and-true, true-and}
 use Rattle.transducer.specs.declared.Arc.{Arc}
 use Rattle.transducer.specs.declared.Final.{Final}
-use Rattle.transducer.specs.Format.{Transducer, Good, max-bytes, final-at, arc-at, weight-at, weight-good, labels-good, decode, refusal, head-good}
-use Rattle.transducer.specs.Format.{content-refusal, states-good, order-good, all-labels-good, weights-good, head-states, head-arcs, head-finals, head-start}
+use Rattle.transducer.specs.Format.{head-bytes, final-bytes, arcs-at, max-states}
+use Rattle.transducer.specs.Format.{Transducer, Good, max-bytes, final-at, arc-at, weight-at, weight-good, labels-good, decode, refusal}
+use Rattle.transducer.specs.Format.{head-good, content-refusal}
+use Rattle.transducer.specs.Format.{all-labels-good, head-states, head-arcs, head-finals, head-start}
 use Rattle.transducer.specs.Encode.{encode, head-record, final-record, arc-record, final-records, arc-records, weight-bytes}
 use Rattle.transducer.specs.Check.{head-word, final-word, arc-word}
 use Rattle.transducer.specs.Weight.{Weight}
@@ -34,7 +36,7 @@ use Rattle.transducer.proofs.Encode.{length-final-records, length-encod
 use Rattle.transducer.proofs.WriteBack.{encode-laid}
 use Rattle.transducer.proofs.Labels.{good-short}
 use Rattle.transducer.proofs.Accept.{accepted-laid, accepted-head, accepted-content, laid-refusal, Content-range, content-range}
-use Rattle.transducer.proofs.Good.{Head-range, head-range, Content, content-good}
+use Rattle.transducer.proofs.Good.{Head-range, head-range, Content, good-tests, finals-inside, arcs-inside, finals-light, arcs-light}
 use Rattle.transducer.proofs.Weights.{good-fits}
 
 -- What is written: each element is a byte
@@ -51,21 +53,21 @@ none = record { each = λ i. omega arith }
 joined : {xs ys : List ℕ} → Byte-list xs → Byte-list ys → Byte-list (xs ++ ys)
 joined {xs} {ys} p q = record { each = bytes-append xs ys (p .each) (q .each) }
 
-head-bytes : (n m f s : ℕ) → Byte-list (head-record n m f s)
+head-bytes-are : (n m f s : ℕ) → Byte-list (head-record n m f s)
 unfolding head-record
-head-bytes n m f s = joined (joined (joined (joined (joined (lowest 2 8) (lowest 2 1)) (lowest 2 n)) (lowest 2 m)) (lowest 2 f)) (lowest 2 s)
+head-bytes-are n m f s = joined (joined (joined (joined (joined (lowest 2 8) (lowest 2 1)) (lowest 2 n)) (lowest 2 m)) (lowest 2 f)) (lowest 2 s)
 
 weight-bytes-are : (w : Weight) → Byte-list (weight-bytes w)
 unfolding weight-bytes
 weight-bytes-are w = record { each = bytes-signed-low w }
 
-final-bytes : (f : Final) → Byte-list (final-record f)
+final-bytes-are : (f : Final) → Byte-list (final-record f)
 unfolding final-record
-final-bytes f = joined (joined (joined (lowest 2 6) (lowest 2 2)) (lowest 2 (f .state))) (weight-bytes-are (f .weight))
+final-bytes-are f = joined (joined (joined (lowest 2 6) (lowest 2 2)) (lowest 2 (f .state))) (weight-bytes-are (f .weight))
 
-arc-bytes : (a : Arc) → Byte-list (arc-record a)
+arc-bytes-are : (a : Arc) → Byte-list (arc-record a)
 unfolding arc-record
-arc-bytes a =
+arc-bytes-are a =
     let labels : Byte-list (low 2 12 ++ low 2 3 ++ low 2 (a .source) ++ low 2 (a .input) ++ low 2 (a .output)) =
     joined (joined (joined (joined (lowest 2 12) (lowest 2 3)) (lowest 2 (a .source))) (lowest 2 (a .input))) (lowest 2 (a .output)) in
     joined (joined labels (lowest 2 (a .target))) (weight-bytes-are (a .weight))
@@ -73,16 +75,17 @@ arc-bytes a =
 finals-bytes : (fs : List Final) → Byte-list (final-records fs)
 unfolding final-records
 finals-bytes [] = none
-finals-bytes (f ∷ fs) = joined (final-bytes f) (finals-bytes fs)
+finals-bytes (f ∷ fs) = joined (final-bytes-are f) (finals-bytes fs)
 
 arcs-bytes : (xs : List Arc) → Byte-list (arc-records xs)
 unfolding arc-records
 arcs-bytes [] = none
-arcs-bytes (a ∷ xs) = joined (arc-bytes a) (arcs-bytes xs)
+arcs-bytes (a ∷ xs) = joined (arc-bytes-are a) (arcs-bytes xs)
 
 encode-bytes : (t : Transducer) → Byte-list (encode t)
 unfolding encode
-encode-bytes t = joined (joined (head-bytes (t .states) (length (t .arcs)) (length (t .finals)) (t .start)) (finals-bytes (t .finals))) (arcs-bytes (t .arcs))
+encode-bytes t =
+    joined (joined (head-bytes-are (t .states) (length (t .arcs)) (length (t .finals)) (t .start)) (finals-bytes (t .finals))) (arcs-bytes (t .arcs))
 
 pub bytes-encode : (t : Transducer) → Bytes (encode t)
 bytes-encode t = encode-bytes t .each
@@ -100,32 +103,6 @@ length-encode-below t g =
     let r : Head-range (t .states) (length (t .arcs)) (length (t .finals)) (t .start) = good-range t g in
     omega (arith, length-encode t)
 
--- The tests of 5 to 8, each passed.
-pub record Passed (t : Transducer) : Type 0 where
-  pub final-states : every (λ f. ltb (f .state) (t .states)) (t .finals) ≡ true
-  pub arc-states : every (λ a. ltb (a .source) (t .states) && ltb (a .target) (t .states)) (t .arcs) ≡ true
-  pub order : order-good t ≡ true
-  pub labels : every (λ a. labels-good (a .input) (a .output)) (t .arcs) ≡ true
-  pub final-weights : every (λ f. weight-good (f .weight)) (t .finals) ≡ true
-  pub arc-weights : every (λ a. weight-good (a .weight)) (t .arcs) ≡ true
-
-pub good-passed : (t : Transducer) → Good t → Passed t
-unfolding states-good all-labels-good weights-good
-good-passed t g =
-    let tests : Content t = content-good t (g .content) in
-    let states : (every (λ f. ltb (f .state) (t .states)) (t .finals) ≡ true) ×
-    (every (λ a. ltb (a .source) (t .states) && ltb (a .target) (t .states)) (t .arcs) ≡ true) = and-true _ _ (tests .states) in
-    let weights : (every (λ f. weight-good (f .weight)) (t .finals) ≡ true) × (every (λ a. weight-good (a .weight)) (t .arcs) ≡ true) =
-    and-true _ _ (tests .weights) in
-    record {
-      final-states = states .0;
-      arc-states = states .1;
-      order = tests .order;
-      labels = tests .labels;
-      final-weights = weights .0;
-      arc-weights = weights .1;
-    }
-
 -- Accepted bytes
 
 pub encode-decode : (bs : List ℕ) → Bytes bs → refusal bs ≡ 0 → encode (decode bs) ≡ bs
@@ -138,8 +115,8 @@ pub accepted-good : (bs : List ℕ) → Bytes bs → refusal bs ≡ 0 → Good (
 accepted-good bs h e =
     let l : Laid bs (head-finals bs) (head-arcs bs) = accepted-laid h e in
     let is = laid-decode h l in
-    let finals : length (decode bs .finals) ≡ head-finals bs = rw is (length-places (head-finals bs) 12 10 (final-at bs)) in
-    let arcs : length (decode bs .arcs) ≡ head-arcs bs = rw is (length-places (head-arcs bs) (12 + 10 * head-finals bs) 16 (arc-at bs)) in
+    let finals : length (decode bs .finals) ≡ head-finals bs = rw is (length-places (head-finals bs) head-bytes final-bytes (final-at bs)) in
+    let arcs : length (decode bs .arcs) ≡ head-arcs bs = rw is (length-places (head-arcs bs) (arcs-at (head-finals bs)) 16 (arc-at bs)) in
     let states : decode bs .states ≡ head-states bs = rw is in
     let start : decode bs .start ≡ head-start bs = rw is in
     record { head = rw (states, start, finals, arcs) (accepted-head bs e); content = accepted-content bs e }
@@ -175,10 +152,10 @@ record Arc-fits (a : Arc) : Type 0 where
   target : a .target < 65536
   weight : SFits w32 (a .weight)
 
-final-fits : (n : ℕ) (f : Final) → n ≤ 1024 → ltb (f .state) n ≡ true → weight-good (f .weight) ≡ true → Final-fits f
+final-fits : (n : ℕ) (f : Final) → n ≤ max-states → ltb (f .state) n ≡ true → weight-good (f .weight) ≡ true → Final-fits f
 final-fits n f h s w = record { state = omega (arith, ltb-true (f .state) n s); weight = good-fits (f .weight) w }
 
-arc-fits : (n : ℕ) (a : Arc) → n ≤ 1024 → ltb (a .source) n && ltb (a .target) n ≡ true → labels-good (a .input) (a .output) ≡ true →
+arc-fits : (n : ℕ) (a : Arc) → n ≤ max-states → ltb (a .source) n && ltb (a .target) n ≡ true → labels-good (a .input) (a .output) ≡ true →
     weight-good (a .weight) ≡ true → Arc-fits a
 arc-fits n a h s l w =
     let states : (ltb (a .source) n ≡ true) × (ltb (a .target) n ≡ true) = and-true _ _ s in
@@ -237,7 +214,7 @@ final-words-there (f ∷ fs) bs rest at e =
     let next : drop (at + 10) bs ≡ final-records fs ++ rest = final-next bs (final-records fs ++ rest) at f here in
     true-and _ _ (eq-eqb _ _ (final-word-there bs (final-records fs ++ rest) at f here)) (final-words-there fs bs rest (at + 10) next)
 
-finals-there : (fs : List Final) (bs rest : List ℕ) (at n : ℕ) → n ≤ 1024 → every (λ f. ltb (f .state) n) fs ≡ true →
+finals-there : (fs : List Final) (bs rest : List ℕ) (at n : ℕ) → n ≤ max-states → every (λ f. ltb (f .state) n) fs ≡ true →
     every (λ f. weight-good (f .weight)) fs ≡ true → drop at bs ≡ final-records fs ++ rest → places (length fs) at 10 (final-at bs) ≡ fs
 unfolding places every final-records
 finals-there [] bs rest at n h p q e = refl
@@ -257,7 +234,7 @@ arc-words-there [] bs at e = refl
 arc-words-there (a ∷ xs) bs at e =
     true-and _ _ (eq-eqb _ _ (arc-word-there bs (arc-records xs) at a e)) (arc-words-there xs bs (at + 16) (arc-next bs (arc-records xs) at a e))
 
-arcs-there : (xs : List Arc) (bs : List ℕ) (at n : ℕ) → n ≤ 1024 → every (λ a. ltb (a .source) n && ltb (a .target) n) xs ≡ true →
+arcs-there : (xs : List Arc) (bs : List ℕ) (at n : ℕ) → n ≤ max-states → every (λ a. ltb (a .source) n && ltb (a .target) n) xs ≡ true →
     every (λ a. labels-good (a .input) (a .output)) xs ≡ true → every (λ a. weight-good (a .weight)) xs ≡ true → drop at bs ≡ arc-records xs →
     places (length xs) at 16 (arc-at bs) ≡ xs
 unfolding places every arc-records
@@ -276,7 +253,7 @@ finals-stand : (t : Transducer) → drop 12 (encode t) ≡ final-records (t .fin
 unfolding encode head-record low
 finals-stand t = refl
 
-arcs-stand : (t : Transducer) → drop (12 + 10 * length (t .finals)) (encode t) ≡ arc-records (t .arcs)
+arcs-stand : (t : Transducer) → drop (arcs-at (length (t .finals))) (encode t) ≡ arc-records (t .arcs)
 arcs-stand t =
     next-there (encode t) (final-records (t .finals) ++ arc-records (t .arcs)) 12 (10 * length (t .finals)) (finals-stand t)
     ∙ drop-at (final-records (t .finals)) (arc-records (t .arcs)) (10 * length (t .finals)) (length-final-records (t .finals))
@@ -291,7 +268,7 @@ laid-encode t =
       long = length-encode t;
       head = encode-word t;
       finals = final-words-there (t .finals) (encode t) (arc-records (t .arcs)) 12 (finals-stand t);
-      arcs = arc-words-there (t .arcs) (encode t) (12 + 10 * length (t .finals)) (arcs-stand t);
+      arcs = arc-words-there (t .arcs) (encode t) (arcs-at (length (t .finals))) (arcs-stand t);
     }
 
 -- The head's numbers in what is written.
@@ -313,15 +290,16 @@ head-encode t g =
     }
 
 -- What reading finds in what is written.
-finals-encode : (t : Transducer) → Good t → places (length (t .finals)) 12 10 (final-at (encode t)) ≡ t .finals
+finals-encode : (t : Transducer) → Good t → places (length (t .finals)) head-bytes final-bytes (final-at (encode t)) ≡ t .finals
 finals-encode t g =
-    let p : Passed t = good-passed t g in
-    finals-there (t .finals) (encode t) (arc-records (t .arcs)) 12 (t .states) (good-range t g .states) (p .final-states) (p .final-weights) (finals-stand t)
+    let p : Content t = good-tests t g in
+    finals-there (t .finals) (encode t) (arc-records (t .arcs)) 12 (t .states) (good-range t g .states) (finals-inside t p) (finals-light t p) (finals-stand t)
 
-arcs-encode : (t : Transducer) → Good t → places (length (t .arcs)) (12 + 10 * length (t .finals)) 16 (arc-at (encode t)) ≡ t .arcs
+arcs-encode : (t : Transducer) → Good t → places (length (t .arcs)) (arcs-at (length (t .finals))) 16 (arc-at (encode t)) ≡ t .arcs
+unfolding all-labels-good
 arcs-encode t g =
-    let p : Passed t = good-passed t g in
-    arcs-there (t .arcs) (encode t) (12 + 10 * length (t .finals)) (t .states) (good-range t g .states) (p .arc-states) (p .labels) (p .arc-weights)
+    let p : Content t = good-tests t g in
+    arcs-there (t .arcs) (encode t) (arcs-at (length (t .finals))) (t .states) (good-range t g .states) (arcs-inside t p) (p .labels) (arcs-light t p)
     (arcs-stand t)
 
 pub decode-encode : (t : Transducer) → Good t → decode (encode t) ≡ t

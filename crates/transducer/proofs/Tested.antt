@@ -10,16 +10,17 @@ use Rattle.wire.specs.Bytes.{Bytes, four, places, every}
 use Rattle.wire.proofs.Bool.{and-true, true-and, clash}
 use Rattle.transducer.specs.declared.Arc.{Arc}
 use Rattle.transducer.specs.declared.Looked.{Looked}
-use Rattle.transducer.specs.Format.{decode, head-states, head-arcs, head-finals, head-start, head-good, first-of, refusal, arcs-at, arc-bytes, arc-at}
+use Rattle.transducer.specs.Format.{head-bytes, final-bytes, decode, head-states, head-arcs, head-finals, head-start, head-good, first-of}
+use Rattle.transducer.specs.Format.{refusal, arcs-at, arc-bytes, arc-at}
 use Rattle.transducer.specs.Format.{min-weight, weight-good}
 use Rattle.transducer.specs.Path.{arc}
 use Rattle.transducer.specs.Check.{head-word, final-word, arc-word, all-checked, walked, None-below, Each-up, Each-writes, Each-named}
 use Rattle.transducer.specs.Leaf.{Looked-says}
 use Rattle.transducer.proofs.Laid.{Laid, laid-decode}
-use Rattle.transducer.proofs.Accept.{refused-early, laid-refusal, bounds}
+use Rattle.transducer.proofs.Accept.{refused-early, laid-refusal, accepted-content, content-range}
 use Rattle.transducer.proofs.Checked.{all-checked-heads, all-checked-content}
 use Rattle.transducer.proofs.Glance.{none-below-good}
-use Rattle.transducer.proofs.Offsets.{arc-offset}
+use Rattle.transducer.proofs.Offsets.{arc-offset, length-arcs}
 use Rattle.transducer.proofs.Fits.{each-named}
 
 pub refused-short : (bs : List ℕ) → Bytes bs → length bs < 12 → refusal bs ≡ walked bs
@@ -28,7 +29,7 @@ refused-short bs b h = refused-early b (λ l. omega (arith, l .long))
 pub refused-head-word : (bs : List ℕ) → Bytes bs → (four bs 0 ≡ head-word → ⊥) → refusal bs ≡ walked bs
 refused-head-word bs b h = refused-early b (λ l. h (l .head))
 
-pub refused-long : (bs : List ℕ) → Bytes bs → (length bs ≡ 12 + 10 * head-finals bs + 16 * head-arcs bs → ⊥) → refusal bs ≡ walked bs
+pub refused-long : (bs : List ℕ) → Bytes bs → (length bs ≡ arcs-at (head-finals bs) + arc-bytes * head-arcs bs → ⊥) → refusal bs ≡ walked bs
 refused-long bs b h = refused-early b (λ l. h (l .long))
 
 pub refused-heads : (bs : List ℕ) → Bytes bs → all-checked bs (head-states bs) (head-arcs bs) (head-finals bs) .heads ≡ false →
@@ -44,7 +45,7 @@ refused-heads bs b h =
 -- Where the records stand at their places, the gathered tests say which of 5 to 8 it is.
 pub refusal-checked : (bs : List ℕ) → Bytes bs → four bs 0 ≡ head-word →
     head-good (head-states bs) (head-arcs bs) (head-finals bs) (head-start bs) ≡ true →
-    length bs ≡ 12 + 10 * head-finals bs + 16 * head-arcs bs →
+    length bs ≡ arcs-at (head-finals bs) + arc-bytes * head-arcs bs →
     all-checked bs (head-states bs) (head-arcs bs) (head-finals bs) .heads ≡ true →
     first-of (all-checked bs (head-states bs) (head-arcs bs) (head-finals bs) .states)
     (all-checked bs (head-states bs) (head-arcs bs) (head-finals bs) .order)
@@ -55,8 +56,8 @@ refusal-checked bs b word good long heads =
     let n = head-states bs in
     let m = head-arcs bs in
     let f = head-finals bs in
-    let both : (every (λ w. eqb w final-word) (places f 12 10 (four bs)) ≡ true)
-    × (every (λ w. eqb w arc-word) (places m (12 + 10 * f) 16 (four bs)) ≡ true) =
+    let both : (every (λ w. eqb w final-word) (places f head-bytes final-bytes (four bs)) ≡ true)
+    × (every (λ w. eqb w arc-word) (places m (arcs-at f) 16 (four bs)) ≡ true) =
     and-true _ _ (sym (all-checked-heads bs n m f) ∙ heads) in
     let l : Laid bs f m = record { long = long; head = word; finals = both .0; arcs = both .1 } in
     let t = decode bs in
@@ -74,23 +75,22 @@ looked-light bs b r e below up writes named =
     record {
       refusal-is = e;
       light = λ h i l.
-          let k = bounds b h in
           let same : arc (decode bs) i ≡ arc-at bs (arcs-at (head-finals bs) + arc-bytes * i) = arc-offset bs b h i l in
-          let within : i < head-arcs bs = omega (arith, l, k .arcs-long) in
+          let within : i < head-arcs bs = omega (arith, l, length-arcs bs b h) in
           let good : weight-good (arc-at bs (arcs-at (head-finals bs) + arc-bytes * i) .weight) ≡ true =
-          ap (λ (a : Arc). weight-good (a .weight)) (sym same) ∙ k .weight i within in
+          ap (λ (a : Arc). weight-good (a .weight)) (sym same) ∙ content-range (decode bs) (accepted-content bs h) .weight i l in
           rw same (below .light i within good);
       rises = λ h u i l.
           let same : arc (decode bs) i ≡ arc-at bs (arcs-at (head-finals bs) + arc-bytes * i) = arc-offset bs b h i l in
-          rw same (up u .rises i (omega (arith, l, bounds b h .arcs-long)));
+          rw same (up u .rises i (omega (arith, l, length-arcs bs b h)));
       written = λ h u i l.
           let same : arc (decode bs) i ≡ arc-at bs (arcs-at (head-finals bs) + arc-bytes * i) = arc-offset bs b h i l in
-          rw same (writes u .some i (omega (arith, l, bounds b h .arcs-long)));
+          rw same (writes u .some i (omega (arith, l, length-arcs bs b h)));
       by-name = λ h u.
           each-named (decode bs)
           (λ i l.
           let same : arc (decode bs) i ≡ arc-at bs (arcs-at (head-finals bs) + arc-bytes * i) = arc-offset bs b h i l in
-          rw same (named u .by-name i (omega (arith, l, bounds b h .arcs-long))));
+          rw same (named u .by-name i (omega (arith, l, length-arcs bs b h))));
     }
 
 pub looked-misplaced : (bs : List ℕ) → Bytes bs → (r : Looked) → r .refusal ≡ refusal bs → r .least ≡ min-weight → r .up ≡ false → r .writes ≡ false →

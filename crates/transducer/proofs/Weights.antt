@@ -1,20 +1,20 @@
 -- The laws of weights: an ordered commutative group; which are in range; their codes; and that a weight which was good while weights had no
 -- sign is read as it was. `sums` makes `omega` prove what is linear in weights, so that no proof above opens one. Assumes nothing.
 use mathlib.Core.Path.{_≡_, refl, sym, ap, _∙_}
-use mathlib.Core.Bool.{true, _&&_}
+use mathlib.Core.Bool.{true}
 use mathlib.Core.List.{List}
 use Prim.Native.Nat.{ℕ, _+_, _-_, _^_, _≤_, _<_}
 use native.Mathlib.Omega.{arith}
-use lib.IntN.{ℤ, pos, negsuc, negℤ, natAbs, _+ℤ_, _-ℤ_}
-use lib.Signed.{mag, leZ}
+use lib.IntN.{pos, negsuc, negℤ, natAbs, _+ℤ_, _-ℤ_}
+use lib.Signed.{leZ}
 use mir.Syntax.{w32, w64}
 use mir.Val.{SFits}
 use Rattle.wire.specs.Bytes.{four}
 use Rattle.wire.proofs.Bool.{and-true, true-and}
 pub use Rattle.wire.proofs.Ints.{sums, sum, either}
-use Rattle.wire.proofs.Ints.{over, under, size, span, minus, difference}
+use Rattle.wire.proofs.Ints.{over, under, size, minus}
 use Rattle.wire.proofs.Signed.{signed-four-small}
-use Rattle.transducer.specs.Format.{max-weight, min-weight, weight-good, weight-at}
+use Rattle.transducer.specs.Format.{weight-limit, max-weight, min-weight, weight-good, weight-at}
 use Rattle.transducer.specs.Leaf.{max-code}
 use Rattle.transducer.specs.Weight.{Weight, no-weight, rebate, plus, At-most, magnitude, code-of, weight-of}
 
@@ -25,9 +25,6 @@ plus-none a = omega (arith, sums)
 
 pub none-plus : (a : Weight) → plus no-weight a ≡ a
 none-plus a = omega (arith, sums)
-
-pub plus-swap : (a b : Weight) → plus a b ≡ plus b a
-plus-swap a b = omega (arith, sums)
 
 pub plus-assoc : (a b c : Weight) → plus (plus a b) c ≡ plus a (plus b c)
 plus-assoc a b c = omega (arith, sums, sum a b, sum b c)
@@ -43,27 +40,11 @@ rebate-plus a b = omega (arith, sums, minus (pos a), minus (pos b), minus (pos (
 
 -- The order agrees with sums.
 
-pub most-refl : (a : Weight) → At-most a a
-most-refl a = omega (arith, sums)
-
 pub most-trans : (a b c : Weight) → At-most a b → At-most b c → At-most a c
 most-trans a b c p q = omega (arith, sums)
 
 pub most-both : (a b : Weight) → At-most a b → At-most b a → a ≡ b
 most-both a b p q = omega (arith, sums)
-
-pub plus-both : (a b c d : Weight) → At-most a c → At-most b d → At-most (plus a b) (plus c d)
-plus-both a b c d p q = omega (arith, sums)
-
-pub plus-before : (a b c : Weight) → At-most b c → At-most (plus a b) (plus a c)
-plus-before a b c p = omega (arith, sums)
-
-pub plus-cancel : (a b c : Weight) → At-most (plus a b) (plus a c) → At-most b c
-plus-cancel a b c p = omega (arith, sums)
-
--- What is not below nothing makes nothing cheaper: taking a ring that is not below it out of a path makes it no dearer.
-pub plus-more : (a b : Weight) → At-most no-weight a → At-most b (plus a b)
-plus-more a b p = omega (arith, sums)
 
 -- Magnitudes
 
@@ -100,14 +81,14 @@ pub none-good : weight-good no-weight ≡ true
 none-good = range-good no-weight (record { low = omega (arith, sums); high = omega (arith, sums) })
 
 -- A weight of at most the largest size, of either sign, is good.
-pub size-good : (w : Weight) → magnitude w ≤ 1000000 → weight-good w ≡ true
+pub size-good : (w : Weight) → magnitude w ≤ weight-limit → weight-good w ≡ true
 size-good w h = range-good w (on w h)
   where
-    on : (v : Weight) → magnitude v ≤ 1000000 → In-range v
+    on : (v : Weight) → magnitude v ≤ weight-limit → In-range v
     on (pos n) l = record { low = omega (arith, sums); high = omega (arith, sums) }
     on (negsuc n) l = record { low = omega (arith, sums); high = omega (arith, sums) }
 
-pub good-size : (w : Weight) → weight-good w ≡ true → magnitude w ≤ 1000000
+pub good-size : (w : Weight) → weight-good w ≡ true → magnitude w ≤ weight-limit
 good-size w h = let r = good-range w h in omega (arith, sums, magnitude-is w, size w, r .low, r .high)
 
 -- A good weight, and the sum of two, are 32-bit numbers.
@@ -163,7 +144,7 @@ weight-of-good code low high =
     range-good (pos (code - 1) +ℤ min-weight) (record { low = omega (arith, sums); high = omega (arith, sums) })
 
 -- What four bytes were as a weight while weights had no sign, they are now.
-pub weight-as-before : (bs : List ℕ) (at : ℕ) → four bs at ≤ 1000000 → (weight-at bs at ≡ pos (four bs at)) × (weight-good (weight-at bs at) ≡ true)
+pub weight-as-before : (bs : List ℕ) (at : ℕ) → four bs at ≤ weight-limit → (weight-at bs at ≡ pos (four bs at)) × (weight-good (weight-at bs at) ≡ true)
 unfolding weight-at
 weight-as-before bs at h =
     let e = signed-four-small bs at (omega arith) in

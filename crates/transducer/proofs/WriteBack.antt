@@ -15,7 +15,8 @@ use Rattle.wire.proofs.Low.{low-two-drop, four-halves}
 use Rattle.wire.proofs.Signed.{signed-low-four-drop}
 use Rattle.wire.proofs.Places.{length-places}
 use Rattle.wire.proofs.Bool.{and-true}
-use Rattle.transducer.specs.Format.{final-at, arc-at, weight-at, head-states, head-arcs, head-finals, head-start}
+use Rattle.transducer.specs.Format.{head-bytes, final-bytes, arc-bytes, arcs-at, final-at, arc-at, weight-at, head-states, head-arcs}
+use Rattle.transducer.specs.Format.{head-finals, head-start}
 use Rattle.transducer.specs.Encode.{encode, head-record, final-record, arc-record, final-records, arc-records, weight-bytes}
 use Rattle.transducer.specs.Check.{head-word, final-word, arc-word}
 use Rattle.transducer.proofs.Laid.{Laid}
@@ -79,30 +80,35 @@ finals-back (suc f) bs at h l e =
     let next : at + 10 * suc f ≡ at + 10 + 10 * f = omega arith in
     rw (next, append-assoc, finals-back f bs (at + 10) h (omega arith) (words .1)) (final-back bs at h (omega arith) (eqb-true _ _ (words .0)))
 
-arcs-back : (m : ℕ) (bs : List ℕ) (at : ℕ) → Bytes bs → at + 16 * m ≤ length bs → every (λ w. eqb w arc-word) (places m at 16 (four bs)) ≡ true →
-    arc-records (places m at 16 (arc-at bs)) ++ drop (at + 16 * m) bs ≡ drop at bs
+arcs-back : (m : ℕ) (bs : List ℕ) (at : ℕ) → Bytes bs → at + arc-bytes * m ≤ length bs → every (λ w. eqb w arc-word) (places m at 16 (four bs)) ≡ true →
+    arc-records (places m at 16 (arc-at bs)) ++ drop (at + arc-bytes * m) bs ≡ drop at bs
 unfolding arc-records places every
 arcs-back zero bs at h l e = rw add-zero
 arcs-back (suc m) bs at h l e =
     let words : (eqb (four bs at) arc-word ≡ true) × (every (λ w. eqb w arc-word) (places m (at + 16) 16 (four bs)) ≡ true) = and-true _ _ e in
-    let next : at + 16 * suc m ≡ at + 16 + 16 * m = omega arith in
+    let next : at + arc-bytes * suc m ≡ at + 16 + arc-bytes * m = omega arith in
     rw (next, append-assoc, arcs-back m bs (at + 16) h (omega arith) (words .1)) (arc-back bs at h (omega arith) (eqb-true _ _ (words .0)))
 
 records-back : (bs : List ℕ) (f m : ℕ) → Bytes bs → Laid bs f m →
-    final-records (places f 12 10 (final-at bs)) ++ arc-records (places m (12 + 10 * f) 16 (arc-at bs)) ≡ drop 12 bs
+    final-records (places f head-bytes final-bytes (final-at bs)) ++ arc-records (places m (arcs-at f) 16 (arc-at bs)) ≡ drop 12 bs
 records-back bs f m h l =
-    let end : drop (12 + 10 * f + 16 * m) bs ≡ [] = rw (← l .long) (drop-length bs) in
-    let arcs : arc-records (places m (12 + 10 * f) 16 (arc-at bs)) ++ [] ≡ drop (12 + 10 * f) bs =
-    rw end at (arcs-back m bs (12 + 10 * f) h (omega arith) (l .arcs)) in
-    rw (← append-nil (arc-records (places m (12 + 10 * f) 16 (arc-at bs))), arcs) (finals-back f bs 12 h (omega arith) (l .finals))
+    let end : drop (arcs-at f + arc-bytes * m) bs ≡ [] = rw (← l .long) (drop-length bs) in
+    let arcs : arc-records (places m (arcs-at f) 16 (arc-at bs)) ++ [] ≡ drop (arcs-at f) bs =
+    rw end at (arcs-back m bs (arcs-at f) h (omega arith) (l .arcs)) in
+    rw (← append-nil (arc-records (places m (arcs-at f) 16 (arc-at bs))), arcs) (finals-back f bs 12 h (omega arith) (l .finals))
 
 pub encode-laid : (bs : List ℕ) → Bytes bs → Laid bs (head-finals bs) (head-arcs bs) →
-    encode (record { states = head-states bs; start = head-start bs; finals = places (head-finals bs) 12 10 (final-at bs); arcs = places (head-arcs bs) (12 + 10 * head-finals bs) 16 (arc-at bs) }) ≡ bs
+    encode (record {
+      states = head-states bs;
+      start = head-start bs;
+      finals = places (head-finals bs) head-bytes final-bytes (final-at bs);
+      arcs = places (head-arcs bs) (arcs-at (head-finals bs)) 16 (arc-at bs);
+    }) ≡ bs
 unfolding encode
 encode-laid bs h l =
     rw (
-      length-places (head-arcs bs) (12 + 10 * head-finals bs) 16 (arc-at bs),
-      length-places (head-finals bs) 12 10 (final-at bs),
+      length-places (head-arcs bs) (arcs-at (head-finals bs)) 16 (arc-at bs),
+      length-places (head-finals bs) head-bytes final-bytes (final-at bs),
       append-assoc,
       records-back bs (head-finals bs) (head-arcs bs) h l,
     ) (head-back bs h (omega arith) (l .head))

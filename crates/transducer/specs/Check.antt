@@ -102,10 +102,6 @@ pub record None-under (bs : List ℕ) (at all end : ℕ) : Type 0 where
   pub leads : (k : ℕ) → at + arc-bytes * k < end → target-of all ≤ arc-at bs (at + arc-bytes * k) .target
   pub outputs : (k : ℕ) → at + arc-bytes * k < end → output-of all ≤ arc-at bs (at + arc-bytes * k) .output
 
--- How far a good weight is below zero at most.
-abbrev pub most-below : ℕ
-most-below = 1000000
-
 -- A weight is neither below the one nor above the other.
 pub record Between (low weight high : Weight) : Type 0 where
   pub not-below : At-most low weight

@@ -6,8 +6,8 @@ use Prim.Native.Nat.{ℕ, zero, suc, _+_}
 use lib.Dec.{ltb, leb, eqb}
 use lib.ListN.{length}
 use Rattle.wire.specs.Bytes.{two, signed-four, every}
-pub use Rattle.bounds.specs.Bounds.{max-states, max-arcs, index-long, max-weight, min-weight, barred, any, max-symbols, max-path, max-count, max-fields}
-pub use Rattle.bounds.specs.Bounds.{max-origins, head-bytes, final-bytes, arc-bytes, arcs-at, max-bytes}
+pub use Rattle.bounds.specs.Bounds.{max-states, max-arcs, index-long, weight-limit, max-weight, min-weight, barred, any, max-symbols}
+pub use Rattle.bounds.specs.Bounds.{max-path, max-count, max-fields, max-origins, head-bytes, final-bytes, arc-bytes, arcs-at, max-bytes}
 unfoldable pub use Rattle.bounds.specs.Bounds.{head-good, labels-good, weight-good, first-of}
 use Rattle.transducer.specs.declared.Arc.{Arc}
 use Rattle.transducer.specs.declared.Final.{Final}

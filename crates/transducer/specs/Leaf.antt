@@ -39,7 +39,7 @@ arcs-below s [] = 0
 arcs-below s (a ∷ as') = cond (ltb (a .source) s) (suc (arcs-below s as')) (arcs-below s as')
 
 -- One place up from each state stands a number that takes the maximum from the arcs below that state to those below the next.
-pub record Marked (xs : List Arc) (index : List ℕ) : Type 0 where
+pub record Ends-marked (xs : List Arc) (index : List ℕ) : Type 0 where
   pub long : length index ≡ max-states + 1
   pub at-first : getD index 0 0 ≡ 0
   pub at-state : (s : ℕ) → s < max-states → max (arcs-below s xs) (getD index (suc s) 0) ≡ arcs-below (suc s) xs

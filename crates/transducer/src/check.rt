@@ -6,9 +6,9 @@ ghost use lib.ListN.{length};
 ghost use mir.Syntax.{w32};
 ghost use mir.Val.{toZ};
 ghost use Rattle.wire.specs.Bytes.{four};
-ghost use Rattle.transducer.specs.Format.{final-bytes, arc-bytes, final-at, arc-at, first-of, min-weight, max-weight};
+ghost use Rattle.transducer.specs.Format.{final-bytes, arc-bytes, final-at, arc-at, first-of, weight-limit, min-weight, max-weight};
 ghost use Rattle.transducer.specs.Check.{final-checked, arc-checked, finals-checked, arcs-checked, from-0, unsure};
-ghost use Rattle.transducer.specs.Check.{most-below, eight, Good-up-to, Good-fields, Plain, Rows, Between, Passing, Goes-on, Seen, Glance-says};
+ghost use Rattle.transducer.specs.Check.{eight, Good-up-to, Good-fields, Plain, Rows, Between, Passing, Goes-on, Seen, Glance-says};
 ghost use Rattle.transducer.specs.Weight.{rebate};
 use crate::Arc;
 use crate::Checks;
@@ -19,6 +19,9 @@ pub const UNSURE: u32 = 4294967295;
 
 // What is gathered by `&` begins with this.
 const ALL_ONES: u64 = 18446744073709551615;
+
+// One field of the four of an arc that stand side by side in a word.
+const FIELD: u64 = 65535;
 
 // Length and kind of a head's, a final's and an arc's record, as one number of four bytes.
 pub const HEAD_WORD: u32 = 65544;
@@ -211,13 +214,13 @@ pub fn glance_at(bytes: &[u8], at: usize, count: usize, n: u32, floor: u32, clos
         last,
         least: minus(below),
         up: wide64(last) < all >> 48,
-        writes: 0 < (all >> 32) & 65535,
+        writes: 0 < (all >> 32) & FIELD,
     }
 }
 
 // The weight that is so much below zero.
 fn minus(below: u32) -> i32
-    requires { ⌜ below ≤ most-below ⌝ }
+    requires { ⌜ below ≤ weight-limit ⌝ }
     ensures { λ r. ⌜ r ≡ rebate below ⌝ }
 {
     0 - below as i32
@@ -225,7 +228,7 @@ fn minus(below: u32) -> i32
 
 // Whether these are the bits of a weight that is at most so much below zero, and not too high. One comparison, as it is made at each arc.
 fn weight_in(bits: u32, below: u32) -> bool
-    requires { ⌜ below ≤ most-below ⌝ }
+    requires { ⌜ below ≤ weight-limit ⌝ }
     ensures { λ r. ⌜ (r ≡ true → Between (rebate below) (toZ w32 bits) max-weight) ⌝ }
 {
     std::num::wrapping_add_u32(bits, below) <= bounds::MAX_WEIGHT as u32 + below
@@ -258,7 +261,7 @@ struct Run {
 // The source of the arc at `place` if it passes each test but that of what is gathered: its weight is no more than `below` below zero and not too high, and its
 // source is not below `before`. Else UNSURE. The target is tested only if `each`.
 fn passing(bytes: &[u8], place: usize, n: u32, each: bool, before: u32, below: u32) -> u32
-    requires { ⌜ (place + arc-bytes ≤ length (now bytes)) × (below ≤ most-below) ⌝ }
+    requires { ⌜ (place + arc-bytes ≤ length (now bytes)) × (below ≤ weight-limit) ⌝ }
     ensures { λ r. ⌜ ((r ≡ unsure → ⊥) → Passing (now (bytes .entry)) place n each before (rebate below) r) ⌝ }
 {
     if !weight_in(wire::u32_at(bytes, place + 12), below) {
@@ -289,7 +292,7 @@ fn run_on(
     all: u64,
     below: u32,
 ) -> Run
-    requires { ⌜ (end ≤ length (now bytes)) × Rows from end × (below ≤ most-below) ⌝ }
+    requires { ⌜ (end ≤ length (now bytes)) × Rows from end × (below ≤ weight-limit) ⌝ }
     ensures { λ r. ⌜ Goes-on (now (bytes .entry)) from end n each last any all (rebate below) (r .last) (r .any) (r .all) (r .place) ⌝ }
 {
     let mut before = last;
@@ -327,7 +330,7 @@ fn run_by_two(
     all: u64,
     below: u32,
 ) -> Run
-    requires { ⌜ (end ≤ length (now bytes)) × Rows from end × (below ≤ most-below) × (arc-bytes ≤ end) ⌝ }
+    requires { ⌜ (end ≤ length (now bytes)) × Rows from end × (below ≤ weight-limit) × (arc-bytes ≤ end) ⌝ }
     ensures { λ r. ⌜ Goes-on (now (bytes .entry)) from end n each last any all (rebate below) (r .last) (r .any) (r .all) (r .place) ⌝ }
 {
     let mut before = last;
@@ -391,10 +394,10 @@ fn good_at_a_glance(any: u64, n: u32, each: bool) -> bool
 fn labels_at_a_glance(any: u64) -> bool
     ensures { λ r. ⌜ (r ≡ true → Good-up-to any) ⌝ }
 {
-    if bounds::BARRED as u64 <= (any >> 16) & 65535 {
+    if bounds::BARRED as u64 <= (any >> 16) & FIELD {
         return false;
     }
-    (any >> 32) & 65535 < bounds::BARRED as u64
+    (any >> 32) & FIELD < bounds::BARRED as u64
 }
 
 // The tests of these arcs, one by one.

@@ -1,11 +1,11 @@
 // Arcs and finals read straight from accepted bytes, and two indexes by state.
 ghost use mathlib.Core.Path.{_≡_};
 ghost use mathlib.Core.Bool.{true};
-ghost use Prim.Native.Nat.{ℕ, _+_, _*_, _^_, _≤_, _<_, max};
+ghost use Prim.Native.Nat.{_+_, _*_, _^_, _≤_, _<_, max};
 ghost use lib.ListN.{length, take, replicate};
 ghost use Rattle.transducer.specs.Format.{max-states, index-long, head-bytes, Transducer, refusal, decode, head-finals, weight-good};
 ghost use Rattle.transducer.specs.Path.{arc};
-ghost use Rattle.transducer.specs.Leaf.{header-of, Opened, Marked, Indexed, Finals-by-state, max-code};
+ghost use Rattle.transducer.specs.Leaf.{header-of, Opened, Ends-marked, Indexed, Finals-by-state, max-code};
 ghost use Rattle.transducer.specs.Weight.{magnitude, plus, code-of, weight-of};
 use crate::Arc;
 use crate::Header;
@@ -52,8 +52,8 @@ fn mark_each(
     index: &mut [u16; bounds::INDEX_LEN],
 )
     requires { ⌜ Opened (now bytes) first × (from ≤ to) × (to ≤ length (decode (now bytes) .arcs))
-        × Marked (take from (decode (now bytes) .arcs)) (now index) ⌝ }
-    ensures { λ _. ⌜ Marked (take to (decode (now (bytes .entry)) .arcs)) (now (index .exit)) ⌝ }
+        × Ends-marked (take from (decode (now bytes) .arcs)) (now index) ⌝ }
+    ensures { λ _. ⌜ Ends-marked (take to (decode (now (bytes .entry)) .arcs)) (now (index .exit)) ⌝ }
 {
     let mut i = from;
     let mut place = first + bounds::ARC_BYTES * from + 4;
@@ -67,8 +67,9 @@ fn mark_each(
 
 // Marks 128 arcs. Sources never fall: where the first and the last have the same, so have all between, and the last mark stays.
 fn mark_block(bytes: &[u8], first: usize, from: usize, index: &mut [u16; bounds::INDEX_LEN])
-    requires { ⌜ Opened (now bytes) first × (from + 128 ≤ length (decode (now bytes) .arcs)) × Marked (take from (decode (now bytes) .arcs)) (now index) ⌝ }
-    ensures { λ _. ⌜ Marked (take (from + 128) (decode (now (bytes .entry)) .arcs)) (now (index .exit)) ⌝ }
+    requires { ⌜ Opened (now bytes) first × (from + 128 ≤ length (decode (now bytes) .arcs))
+        × Ends-marked (take from (decode (now bytes) .arcs)) (now index) ⌝ }
+    ensures { λ _. ⌜ Ends-marked (take (from + 128) (decode (now (bytes .entry)) .arcs)) (now (index .exit)) ⌝ }
 {
     let place = first + bounds::ARC_BYTES * from + 4;
     let source = wire::u16_at(bytes, place) as usize;
@@ -82,7 +83,7 @@ fn mark_block(bytes: &[u8], first: usize, from: usize, index: &mut [u16; bounds:
 // Takes the running maximum of the marks.
 fn raise(states: usize, index: &mut [u16; bounds::INDEX_LEN])
     requires { ⌜ (states ≤ max-states) × (length (now index) ≡ index-long) ⌝ }
-    ensures { λ _. ⌜ ((t : Transducer) → t .states ≡ states → Marked (t .arcs) (now (index .entry)) → Indexed t (now (index .exit))) ⌝ }
+    ensures { λ _. ⌜ ((t : Transducer) → t .states ≡ states → Ends-marked (t .arcs) (now (index .entry)) → Indexed t (now (index .exit))) ⌝ }
 {
     let mut s = 0;
     let mut most = 0;

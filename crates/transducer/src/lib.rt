@@ -49,6 +49,7 @@ pub use naming::label_at;
 pub use naming::passed;
 pub use preparing::Shape;
 pub use preparing::prepare;
+pub use preparing::shape_of;
 pub use store::put_arc;
 pub use store::put_final;
 pub use store::put_head;

@@ -2,15 +2,33 @@
 ghost use mathlib.Core.Path.{_≡_};
 ghost use lib.ListN.{replicate};
 ghost use Rattle.transducer.specs.Format.{max-states, index-long, refusal};
-ghost use Rattle.transducer.specs.Prepare.{Prepared};
+ghost use Rattle.transducer.specs.Prepare.{Shaped, Prepared};
 use crate::leaf;
 
-// Where the arcs begin, the numbers of states and arcs, and the start.
+// Where the arcs begin, the numbers of states, arcs and finals, and the start.
 pub struct Shape {
     pub first: usize,
     pub states: usize,
     pub arcs: usize,
+    pub finals: usize,
     pub start: usize,
+}
+
+// The shape of accepted bytes.
+pub fn shape_of(bytes: &[u8]) -> Shape
+    requires { ⌜ refusal (now bytes) ≡ 0 ⌝ }
+    ensures { λ r. ⌜ Shaped (now (bytes .entry)) r ⌝ }
+{
+    let head = leaf::header(bytes);
+    let finals = head.finals as usize;
+    let first = bounds::arcs_at(finals);
+    Shape {
+        first,
+        states: head.states as usize,
+        arcs: head.arcs as usize,
+        finals,
+        start: head.start as usize,
+    }
 }
 
 // Puts the first-arc index and the final codes of accepted bytes into arrays of zeros.
@@ -22,17 +40,8 @@ pub fn prepare(
     requires { ⌜ (refusal (now bytes) ≡ 0) × (now index ≡ replicate index-long 0) × (now codes ≡ replicate max-states 0) ⌝ }
     ensures { λ r. ⌜ Prepared (now (bytes .entry)) r (now (index .exit)) (now (codes .exit)) ⌝ }
 {
-    let head = leaf::header(bytes);
-    let states = head.states as usize;
-    let arcs = head.arcs as usize;
-    let finals = head.finals as usize;
-    let first = bounds::arcs_at(finals);
-    leaf::put_index(bytes, first, states, arcs, index);
-    leaf::put_codes(bytes, finals, codes);
-    Shape {
-        first,
-        states,
-        arcs,
-        start: head.start as usize,
-    }
+    let shape = shape_of(bytes);
+    leaf::put_index(bytes, shape.first, shape.states, shape.arcs, index);
+    leaf::put_codes(bytes, shape.finals, codes);
+    shape
 }

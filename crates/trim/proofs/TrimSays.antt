@@ -11,16 +11,13 @@ use lib.Seq.{sets, length-sets, sets-eq, length-take-le}
 use borrow.Author.Tests.{lt-ltb, le-ltb, ne-eqb}
 use Rattle.wire.specs.Bytes.{Bytes, cleared}
 use Rattle.wire.proofs.Places.{sets-append}
-use Rattle.transducer.specs.declared.Header.{Header}
 use Rattle.transducer.specs.declared.Written.{Written}
 use Rattle.transducer.specs.declared.Final.{Final}
-use Rattle.transducer.specs.Format.{max-states, max-arcs, max-bytes, head-bytes, final-bytes, arc-bytes, arcs-at}
-use Rattle.transducer.specs.Format.{Transducer, refusal, decode, head-states, head-arcs, head-finals, head-start}
+use Rattle.transducer.specs.Format.{max-arcs, max-bytes, head-bytes, final-bytes, arc-bytes, arcs-at}
+use Rattle.transducer.specs.Format.{Transducer, refusal, decode}
 use Rattle.transducer.specs.Encode.{head-record, final-records, arc-records, encode}
 use Rattle.transducer.specs.Entry.{or-else, unless, left-in}
-use Rattle.transducer.specs.Leaf.{header-of}
 use Rattle.transducer.proofs.Encode.{sets-then, length-head-record, length-final-records, length-encode, cleared-sets}
-use Rattle.transducer.proofs.Offsets.{decode-states, decode-start, length-arcs, length-finals, accepted-within}
 use Rattle.transducer.proofs.RoundTrip.{accepted-good, length-encode-below}
 use Rattle.trim.specs.Trim.{useful, renumbered, kept-arcs, kept-finals, trimmed, origins-kept}
 use Rattle.trim.specs.Parts.{Renumbered, Arcs-put, Trims}
@@ -91,38 +88,6 @@ module _ (t : Transducer) (out : List ℕ) (u : useful t (t .start) ≡ true) wh
       length-head-record (renumbered t (t .states)) (length (kept-arcs t (t .arcs))) (length (kept-finals t (t .finals))) (renumbered t (t .start)) in
       let all : o3 ≡ sets out 0 (hd ++ (fs ++ as')) = sets-front-last hd out (fs ++ as') head-bytes long room body head in
       rw (trimmed-kept t u, append-assoc hd fs as') all
-
--- The numbers of an accepted head, as trimming uses them.
-pub record Head-numbers (bs : List ℕ) (head : Header) : Type 0 where
-  pub states-are : head .states ≡ decode bs .states
-  pub start-is : head .start ≡ decode bs .start
-  pub arcs-are : head .arcs ≡ length (decode bs .arcs)
-  pub head-finals-are : head .finals ≡ head-finals bs
-  pub finals-are : head .finals ≡ length (decode bs .finals)
-  pub few-states : head .states ≤ max-states
-  pub few-arcs : head .arcs ≤ max-arcs
-  pub few-finals : head .finals ≤ max-states
-  pub start-below : head .start < head .states
-
-pub head-numbers : (bs : List ℕ) → Bytes bs → refusal bs ≡ 0 → (head : Header) → head ≡ header-of bs → Head-numbers bs head
-unfolding header-of
-head-numbers bs bytes ok head h =
-    let within = accepted-within bs bytes ok in
-    let n : head .states ≡ head-states bs = ap (λ (r : Header). r .states) h in
-    let m : head .arcs ≡ head-arcs bs = ap (λ (r : Header). r .arcs) h in
-    let f : head .finals ≡ head-finals bs = ap (λ (r : Header). r .finals) h in
-    let s : head .start ≡ head-start bs = ap (λ (r : Header). r .start) h in
-    record {
-      states-are = omega (arith, decode-states bs bytes ok);
-      start-is = omega (arith, decode-start bs bytes ok);
-      arcs-are = omega (arith, length-arcs bs bytes ok);
-      head-finals-are = f;
-      finals-are = omega (arith, length-finals bs bytes ok);
-      few-states = omega arith;
-      few-arcs = omega arith;
-      few-finals = omega arith;
-      start-below = omega arith;
-    }
 
 pub length-kept-finals : (t : Transducer) (fs : List Final) → length (kept-finals t fs) ≤ length fs
 unfolding kept-finals moved-final

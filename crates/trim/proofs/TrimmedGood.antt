@@ -16,7 +16,8 @@ use Rattle.transducer.specs.Format.{Transducer, head-good, states-good, finals-
 use Rattle.transducer.specs.Format.{any, labels-good, all-labels-good, weight-good, weights-good}
 use Rattle.transducer.specs.Each.{plain}
 use Rattle.transducer.specs.Format.{first-of, content-refusal, Good}
-use Rattle.transducer.proofs.GoodParts.{GoodParts, good-parts, parts-good}
+use Rattle.transducer.proofs.Good.{Content, good-tests, tests-good}
+use Rattle.transducer.proofs.RoundTrip.{good-range}
 use Rattle.trim.specs.Trim.{useful, arc-useful, renumbered, kept-arcs, kept-finals, trimmed}
 use Rattle.reach.proofs.Counted.{count-most}
 use Rattle.trim.proofs.Kept.{renumbered-count, renumbered-rises, renumbered-before, renumbered-next, moved}
@@ -178,22 +179,21 @@ kept-weights-good t h =
 pub kept-good : (t : Transducer) → useful t (t .start) ≡ true → Good t → Good (kept t)
 unfolding kept
 kept-good t u g =
-    let p : GoodParts t = good-parts t g in
-    let first : renumbered t (t .start) < renumbered t (t .states) = renumbered-before t (t .start) (t .states) (p .start-below) u in
+    let p : Content t = good-tests t g in
+    let r = good-range t g in
+    let first : renumbered t (t .start) < renumbered t (t .states) = renumbered-before t (t .start) (t .states) (r .start) u in
     let most : renumbered t (t .states) ≤ t .states = rw renumbered-count (count-most (t .states) (useful t)) in
-    let states : states-good (kept t) ≡ true = kept-states-good t (p .states-are) in
-    let order : order-good (kept t) ≡ true = kept-order-good t (p .order-is) in
-    parts-good (kept t) (record {
-      some-state = omega arith;
-      few-states = omega arith;
-      few-arcs = omega (arith, length-kept-arcs t (t .arcs));
-      few-finals = few-finals (kept t) states order;
-      start-below = first;
-      states-are = states;
-      order-is = order;
-      labels-are = kept-labels-good t (p .labels-are);
-      weights-are = kept-weights-good t (p .weights-are);
+    let states : states-good (kept t) ≡ true = kept-states-good t (p .states) in
+    let order : order-good (kept t) ≡ true = kept-order-good t (p .order) in
+    tests-good (kept t)
+    (record {
+      some = omega arith;
+      states = omega (arith, r .states);
+      arcs = omega (arith, r .arcs, length-kept-arcs t (t .arcs));
+      finals = few-finals (kept t) states order;
+      start = first;
     })
+    (record { states = states; order = order; labels = kept-labels-good t (p .labels); weights = kept-weights-good t (p .weights) })
 
 lone-good : Good lone
 unfolding lone head-good content-refusal first-of states-good order-good all-labels-good weights-good every finals-rise sources-stay

@@ -11,10 +11,11 @@ use Rattle.wire.specs.Bytes.{every}
 use Rattle.wire.proofs.Bool.{and-true}
 use Rattle.transducer.specs.declared.Arc.{Arc}
 use Rattle.transducer.specs.declared.Final.{Final}
-use Rattle.transducer.specs.Format.{Transducer, states-good, Good}
+use Rattle.transducer.specs.Format.{Transducer, Good}
 use Rattle.transducer.specs.Path.{is-final, ends, accepts}
 use Rattle.transducer.proofs.Runs.{accepting-append, accepts-accepting, Within, good-within}
-use Rattle.transducer.proofs.GoodParts.{GoodParts, good-parts}
+use Rattle.transducer.proofs.Good.{Content, good-tests, finals-inside, arcs-inside}
+use Rattle.transducer.proofs.RoundTrip.{good-range}
 use Rattle.reach.specs.Reach.{entered, some-arc, accessible, coaccessible}
 use Rattle.trim.specs.Trim.{useful, arc-useful, renumbered, kept-arcs, kept-finals, kept-numbers, trimmed, through}
 use Rattle.reach.specs.Counted.{count}
@@ -105,14 +106,13 @@ finals-same t (f ∷ l) all h =
     rw (all (f .state) below, same, finals-same t l all (p .1))
 
 pub kept-same : (t : Transducer) → Good t → ((s : ℕ) → s < t .states → useful t s ≡ true) → kept t ≡ t
-unfolding kept states-good
+unfolding kept
 kept-same t g all =
     let n : ℕ = t .states in
-    let p : GoodParts t = good-parts t g in
-    let e = and-true (every (λ f. ltb (f .state) n) (t .finals)) (every (λ a. ltb (a .source) n && ltb (a .target) n) (t .arcs)) (p .states-are) in
+    let p : Content t = good-tests t g in
     let states : renumbered t n ≡ n = renumbered-same t all n (omega arith) in
-    let start : renumbered t (t .start) ≡ t .start = renumbered-same t all (t .start) (omega arith) in
-    rw (states, start, finals-same t (t .finals) all (e .0), arcs-same t (t .arcs) all (e .1))
+    let start : renumbered t (t .start) ≡ t .start = renumbered-same t all (t .start) (omega (arith, good-range t g .start)) in
+    rw (states, start, finals-same t (t .finals) all (finals-inside t p), arcs-same t (t .arcs) all (arcs-inside t p))
 
 lone-twice : trimmed lone ≡ lone
 unfolding lone useful accessible coaccessible entered some-arc is-final

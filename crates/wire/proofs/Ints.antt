@@ -230,23 +230,10 @@ pub ruleset sums = (
   signs,
 )
 
--- Sizes: `span` for one that is known, `size` for one that is asked.
-
-pub span : (x : ℤ) → (over x ≤ mag x) × (under x ≤ mag x + 1)
-span (pos n) = omega arith
-span (negsuc n) = omega arith
-
+-- The size of a number.
 pub size : (x : ℤ) → (mag x ≡ over x + (under x - 1)) × (min (over x) (under x) ≡ 0)
 size (pos n) = omega arith
 size (negsuc n) = omega arith
-
--- A number from -n on as a natural number, n more: for a measure.
-
-abbrev pub raised : ℕ → ℤ → ℕ
-raised n x = over (x +ℤ pos n)
-
-pub raised-is : (n : ℕ) (x : ℤ) → negℤ (pos n) ≤ℤ x → raised n x + under x ≡ over x + n
-raised-is n x h = omega (arith, sums, sum x (pos n), minus (pos n), size (x +ℤ pos n))
 
 -- 32 bits go into 64.
 
@@ -257,8 +244,5 @@ wider x f = record { sfits = omega (arith, sums, size x, f .sfits) }
 
 pub back : {w : Width} (x : ℤ) → SFits w x → over (toZ w (ofZ w x)) + under x ≡ over x + under (toZ w (ofZ w x))
 back x f = same-read _ x (toZ-ofZ f)
-
-pub bits-same : {w : Width} (x y : ℤ) → SFits w x → SFits w y → ofZ w x ≡ ofZ w y → x ≡ y
-bits-same {w} x y f g e = sym (toZ-ofZ f) ∙ (ap (toZ w) e ∙ toZ-ofZ g)
 
 pub ruleset bits = (sums, back)

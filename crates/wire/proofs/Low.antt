@@ -114,4 +114,10 @@ pub low-four-drop : (bs : List ℕ) (at : ℕ) → Bytes bs → at + 4 ≤ lengt
 unfolding four
 low-four-drop bs at h l =
     let e : at + 4 ≡ at + 2 + 2 = omega arith in
-    rw (low-halves (two bs at) (two bs (at + 2)) (two-below bs at h), append-assoc, e, low-two-drop bs (at + 2) h (omega arith), low-two-drop bs at h (omega arith))
+    rw (
+      low-halves (two bs at) (two bs (at + 2)) (two-below bs at h),
+      append-assoc,
+      e,
+      low-two-drop bs (at + 2) h (omega arith),
+      low-two-drop bs at h (omega arith),
+    )

@@ -1,16 +1,14 @@
 -- Laws of `places`, `every`, `sets`, `padded` and `filled`. Assumes nothing.
 use mathlib.Core.Path.{_≡_, refl, sym, ap, _∙_}
-use mathlib.Core.Bool.{Bool, true, false, _&&_, _||_, not}
-pub use mathlib.Core.Bool.{and-assoc}
-use mathlib.Core.List.{List, [], _∷_, _++_, map, append-assoc, append-nil}
+use mathlib.Core.Bool.{Bool, true, false, _&&_, _||_, not, and-assoc}
+use mathlib.Core.List.{List, [], _∷_, _++_, map}
 use Prim.Native.Nat.{ℕ, zero, suc, _+_, _*_, _-_, _≤_, _<_}
-use native.Mathlib.Nat.{not-suc-le-zero, le-of-suc-le-suc, zero-add, add-zero, mul-suc, mul-zero, add-assoc, add-comm, add-suc, suc-add}
-use native.Mathlib.Numerals.{add-one}
+use native.Mathlib.Nat.{not-suc-le-zero, le-of-suc-le-suc, add-zero, mul-suc, mul-zero}
 use native.Mathlib.Omega.{arith}
 use lib.ListN.{length, getD, set, take, drop, replicate, length-append, length-replicate, length-drop}
-use lib.Seq.{sets, take-at, take-append-seam, length-sets}
+use lib.Seq.{sets, take-at, take-append-seam}
 use Rattle.wire.specs.Bytes.{places, every, padded, emptied, filled, cleared}
-pub use Rattle.wire.proofs.Bool.{and-true, true-and}
+use Rattle.wire.proofs.Bool.{and-true, true-and}
 
 -- places
 
@@ -145,10 +143,6 @@ take-filled room xs = take-padded 0 room xs
 pub getD-filled : (room : ℕ) (xs : List ℕ) (i : ℕ) → getD (filled room xs) i 0 ≡ getD xs i 0
 unfolding filled
 getD-filled room xs i = getD-padded 0 room xs i
-
-pub cleared-append : (k : ℕ) (xs ys : List ℕ) → length xs ≡ k → cleared k (xs ++ ys) ≡ filled (length (xs ++ ys)) xs
-unfolding filled cleared
-cleared-append k xs ys e = emptied-append 0 k xs ys e
 
 pub cleared-front : (k : ℕ) (xs out : List ℕ) → length xs ≡ k → k ≤ length out → cleared k (xs ++ drop k out) ≡ filled (length out) xs
 unfolding filled cleared

@@ -3,7 +3,7 @@
 --     minus-is, upper-is, negative, flipped, positive      what `signed_of` and `bits_of` work out
 -- Assumes nothing.
 use mathlib.Core.Path.{_≡_, refl, sym, ap, _∙_, subst}
-use mathlib.Core.Bool.{Bool, true, false}
+use mathlib.Core.Bool.{true, false}
 use mathlib.Core.List.{List, [], _∷_, _++_}
 use Prim.Native.Nat.{ℕ, zero, suc, _+_, _-_, _^_, _≤_, _<_}
 use native.Mathlib.Omega.{arith}
@@ -13,11 +13,11 @@ use lib.IntN.{ℤ, pos, negsuc, _-ℤ_, natAbs}
 use lib.ListN.{length, drop}
 use lib.Signed.{leZ, nonNeg}
 use mir.Syntax.{w32}
-use mir.Val.{Fits, SFits, toZ, ofZ}
-use mir.Facts.{toZ-ofZ, ofZ-toZ, toZ-pos, fits-ofZ, fits-of-lt, sfits-toZ}
+use mir.Val.{SFits, toZ, ofZ}
+use mir.Facts.{toZ-ofZ, ofZ-toZ, toZ-pos, fits-ofZ, fits-of-lt}
 use Rattle.wire.specs.Bytes.{Bytes, two, four, low, signed-four, signed-low}
 use Rattle.wire.proofs.Ints.{false-true}
-use Rattle.wire.proofs.Low.{length-low, bytes-low, four-below, four-low-front, low-four-drop, four-drop}
+use Rattle.wire.proofs.Low.{bytes-low, four-below, four-low-front, low-four-drop, four-drop}
 
 -- Bits
 
@@ -59,18 +59,9 @@ positive z f t = on z (subst (λ (y : ℤ). leZ (pos 0) y ≡ true) (toZ-ofZ f) 
 
 -- Bytes
 
-pub length-signed-low : (z : ℤ) → length (signed-low z) ≡ 4
-unfolding signed-low
-length-signed-low z = length-low 4 (ofZ w32 z)
-
 pub bytes-signed-low : (z : ℤ) → Bytes (signed-low z)
 unfolding signed-low
 bytes-signed-low z = bytes-low 4 (ofZ w32 z)
-
--- What four bytes are fits.
-pub signed-four-fits : (bs : List ℕ) (at : ℕ) → Bytes bs → SFits w32 (signed-four bs at)
-unfolding signed-four
-signed-four-fits bs at h = sfits-toZ (fits-of-lt (four-below bs at h))
 
 pub signed-four-drop : (bs : List ℕ) (at i : ℕ) → signed-four (drop at bs) i ≡ signed-four bs (at + i)
 unfolding signed-four

@@ -4,12 +4,12 @@
 --     Clearing       the loop that puts zeros to the end, whatever the width of an element: `clearing-first`, `clearing-next`, `clearing-stop`
 -- Assumes nothing.
 use mathlib.Core.Path.{_≡_, refl, sym, ap, _∙_}
-use mathlib.Core.List.{List, [], _∷_, _++_}
-use Prim.Native.Nat.{ℕ, zero, suc, _+_, _-_, _≤_, _<_}
+use mathlib.Core.List.{List, _++_}
+use Prim.Native.Nat.{ℕ, zero, _+_, _-_, _≤_, _<_}
 use native.Mathlib.Numerals.{add-one}
 use native.Mathlib.Omega.{arith}
-use lib.ListN.{length, getD, set, take, drop, replicate, length-append, length-take, length-replicate, getD-replicate, length-set, List·getD-append}
-use lib.Seq.{take-suc, take-suc-set, take-all, take-append-le, take-take, getD-append-add, length-take-le}
+use lib.ListN.{length, getD, set, take, replicate, length-append, length-take, length-replicate, getD-replicate, length-set}
+use lib.Seq.{take-suc, take-suc-set, take-all, take-append-le, getD-append-add, length-take-le}
 use Rattle.wire.specs.Bytes.{emptied}
 
 pub store-next : {A : Type 0} (T out : List A) (i : ℕ) (v d : A) → length out ≡ length T → i < length out → getD T i d ≡ v → take i out ≡ take i T →

@@ -1,6 +1,6 @@
 -- Little-endian numbers in a list of bytes, lists made place by place, and what lies behind the written part of a buffer.
 -- Assumes nothing: these are definitions.
-use mathlib.Core.Bool.{Bool, true, false, _&&_}
+use mathlib.Core.Bool.{Bool, true, _&&_}
 use mathlib.Core.List.{List, [], _∷_, _++_}
 use Prim.Native.Nat.{ℕ, zero, suc, _+_, _*_, _-_, _/_, _%_, _<_}
 use lib.ListN.{length, getD, take, replicate}

@@ -3,16 +3,22 @@ use borrow.Author.Needs.{needs}
 use mathlib.Core.Path.{sym}
 use Prim.Native.Nat.{ℕ, _≤_}
 use native.Mathlib.Omega.{arith}
-use lib.ListN.{length, length-replicate}
+use lib.ListN.{length, take, replicate, length-replicate}
 use lib.Seq.{length-take-le}
-use Rattle.wire.specs.Bytes.{Bytes}
-use Rattle.claim.proofs.ReadingsSays.{says-uncomposed, made-fits, says-unapplied, put-fits, says-counted}
+use Rattle.transducer.specs.Format.{max-arcs, max-bytes, max-origins, max-states}
+use Rattle.claim.proofs.ReadingsSays.{Composed-call, Applied-call, says-uncomposed, made-fits, says-unapplied, put-fits, says-counted}
 use Rattle.claim.proofs.readings.Statement.{statement}
 use Rattle.claim.proofs.readings.Tie as tie
 
 -- The way back from a place to an earlier one.
+abbrev lent-right : tie.After-compose → tie.After-shared-slice-known2
+lent-right c = c .before .before .before .before .before
+
+abbrev lent-left : tie.After-compose → tie.After-shared-slice-known
+lent-left c = lent-right c .before
+
 abbrev start : tie.After-compose → tie.Start
-start c = c .before .before .before .before .before .before .before
+start c = lent-left c .before
 
 abbrev composing : tie.Else1 → tie.After-compose
 composing c = c .before .before .before .before .before
@@ -23,29 +29,47 @@ composed c = c .before .before .before .before .before .before
 abbrev applying : tie.Else2 → tie.After-apply
 applying c = c .before .before .before .before .before
 
-left-bytes : (c : tie.After-compose) → Bytes (start c .args .left .now)
-left-bytes c = λ i. omega (arith, c .before .before .before .before .before .before .shared-slice-known .given i)
+abbrev uncomposed : tie.Then1 → tie.After-compose
+uncomposed c = c .before .before .before .before .before
 
-right-bytes : (c : tie.After-compose) → Bytes (start c .args .right .now)
-right-bytes c = λ i. omega (arith, c .before .before .before .before .before .shared-slice-known2 .given i)
+abbrev unapplied : tie.Then2 → tie.After-apply
+unapplied c = c .before .before .before .before .before
+
+-- What the two calls were handed and answered.
+compose-said : (c : tie.After-compose)
+    → Composed-call (start c .args .left .now) (start c .args .right .now) (c .compose .result) (replicate max-bytes 0) (c .compose .last .1 .1 .0)
+    (replicate max-origins 0) (c .compose .last .1 .1 .1 .0) (replicate max-states 0) (c .compose .last .1 .1 .1 .1 .0)
+compose-said c =
+    record {
+      left-bytes = λ i. omega (arith, lent-left c .shared-slice-known .given i);
+      right-bytes = λ i. omega (arith, lent-right c .shared-slice-known2 .given i);
+      table-room = length-replicate {A = ℕ} max-bytes 0;
+      origins-room = length-replicate {A = ℕ} max-origins 0;
+      states-room = length-replicate {A = ℕ} max-states 0;
+      says = c .compose .ensures;
+    }
+
+apply-said : (c : tie.After-apply)
+    → let made = composing (composed c) in
+    Applied-call (start made .args .string .now) (take (made .compose .result .len) (made .compose .last .1 .1 .0)) (c .apply .result)
+    (replicate max-bytes 0) (c .apply .last .1 .1 .0) (replicate max-arcs 0) (c .apply .last .1 .1 .1 .0) (replicate max-states 0)
+    (c .apply .last .1 .1 .1 .1 .0)
+apply-said c =
+    record {
+      lattice-room = length-replicate {A = ℕ} max-bytes 0;
+      origins-room = length-replicate {A = ℕ} max-arcs 0;
+      pairs-room = length-replicate {A = ℕ} max-states 0;
+      says = c .apply .ensures;
+    }
 
 -- What is handed on lies within its array.
 table-fits : (c : tie.Else1) → composing c .compose .result .len ≤ length (composing c .compose .last .1 .1 .0)
-table-fits c =
-    let made = composing c in
-    let x = start made .args in
-    made-fits (x .left .now) (x .right .now) (x .string .now) (made .compose .result) (length-replicate {A = ℕ} 59404 0)
-    (length-replicate {A = ℕ} 6144 0) (length-replicate {A = ℕ} 1024 0) (made .compose .ensures) (left-bytes made) (right-bytes made) (c .if1 .left)
+table-fits c = made-fits (compose-said (composing c)) (c .if1 .left)
 
 lattice-fits : (c : tie.Else2) → applying c .apply .result .len ≤ length (applying c .apply .last .1 .1 .0)
 lattice-fits c =
     let put = applying c in
-    let made = composing (composed put) in
-    let x = start made .args in
-    put-fits (x .left .now) (x .right .now) (x .string .now) (made .compose .result) (length-replicate {A = ℕ} 59404 0)
-    (length-replicate {A = ℕ} 6144 0) (length-replicate {A = ℕ} 1024 0) (made .compose .ensures) (left-bytes made) (right-bytes made)
-    (composed put .if1 .left) (put .apply .result) (length-replicate {A = ℕ} 59404 0) (length-replicate {A = ℕ} 3072 0)
-    (length-replicate {A = ℕ} 1024 0) (put .apply .ensures) (c .if2 .left)
+    put-fits (compose-said (composing (composed put))) (composed put .if1 .left) (apply-said put) (c .if2 .left)
 
 slice-aggregate-compose : tie.Need-slice-aggregate-compose
 slice-aggregate-compose c = search needs
@@ -61,10 +85,8 @@ compose-requires c κs = tt
 
 returns : tie.Need-returns
 returns c =
-    let made = c .before .before .before .before .before in
-    let x = start made .args in
-    says-uncomposed (x .left .now) (x .right .now) (x .string .now) (made .compose .result) (length-replicate {A = ℕ} 59404 0)
-    (length-replicate {A = ℕ} 6144 0) (length-replicate {A = ℕ} 1024 0) (made .compose .ensures) (c .if1 .taken)
+    let made = uncomposed c in
+    says-uncomposed (compose-said made) (start made .args .string .now) (c .if1 .taken)
 
 cast-size : tie.Need-cast-size
 cast-size c = search needs
@@ -91,13 +113,8 @@ apply-requires c κs = tt
 
 returns-2 : tie.Need-returns-2
 returns-2 c =
-    let put = c .before .before .before .before .before in
-    let made = composing (composed put) in
-    let x = start made .args in
-    says-unapplied (x .left .now) (x .right .now) (x .string .now) (made .compose .result) (length-replicate {A = ℕ} 59404 0)
-    (length-replicate {A = ℕ} 6144 0) (length-replicate {A = ℕ} 1024 0) (made .compose .ensures) (left-bytes made) (right-bytes made)
-    (composed put .if1 .left) (put .apply .result) (length-replicate {A = ℕ} 59404 0) (length-replicate {A = ℕ} 3072 0)
-    (length-replicate {A = ℕ} 1024 0) (put .apply .ensures) (c .if2 .taken)
+    let put = unapplied c in
+    says-unapplied (compose-said (composing (composed put))) (composed put .if1 .left) (apply-said put) (c .if2 .taken)
 
 cast-len : tie.Need-cast-len
 cast-len c = search needs
@@ -117,12 +134,8 @@ returns-3 : tie.Need-returns-3
 returns-3 c =
     let else2 = c .before .before .before in
     let put = applying else2 in
-    let made = composing (composed put) in
-    let x = start made .args in
-    says-counted (x .left .now) (x .right .now) (x .string .now) (made .compose .result) (length-replicate {A = ℕ} 59404 0)
-    (length-replicate {A = ℕ} 6144 0) (length-replicate {A = ℕ} 1024 0) (made .compose .ensures) (left-bytes made) (right-bytes made)
-    (composed put .if1 .left) (put .apply .result) (length-replicate {A = ℕ} 59404 0) (length-replicate {A = ℕ} 3072 0)
-    (length-replicate {A = ℕ} 1024 0) (put .apply .ensures) (else2 .if2 .left) (c .count .result) (c .count .ensures)
+    says-counted (compose-said (composing (composed put))) (composed put .if1 .left) (apply-said put) (else2 .if2 .left) (c .count .result)
+    (c .count .ensures)
 
 pub readings-spec : {M : Type 1} → statement M
 readings-spec =

@@ -1,6 +1,6 @@
 -- `arcs-held-next` says what `put_arc` leaves, and `arcs-held-full` that what is written stays where there is no room for more.
 use borrow.Author.Needs.{needs}
-use mathlib.Core.Path.{refl, ap, _∙_}
+use mathlib.Core.Path.{_≡_, refl, ap, _∙_}
 use mathlib.Core.Bool.{Bool, not}
 use lib.Bits.{bitOr}
 use mir.Syntax.{w32}
@@ -11,6 +11,22 @@ use Rattle.explore.proofs.record_arc.Statement.{statement}
 use Rattle.explore.proofs.record_arc.Tie as tie
 use Rattle.transducer.specs.Format.{weight-good}
 
+-- Places to look back to.
+abbrev fits : tie.After-slice-known2 → tie.Then1
+fits c = c .before .before .before .before
+
+abbrev checked : tie.After-struct-known → tie.After-weight-ok
+checked c = c .before
+
+abbrev start : tie.After-weight-ok → tie.Start
+start c = c .before .before .before
+
+-- Whether the weight is one that can be written.
+light : (c : tie.After-weight-ok) → c .weight-ok .result ≡ weight-good (start c .args .arc .weight)
+light c =
+    let told = c .before .struct-told .given in
+    c .weight-ok .ensures ∙ ap weight-good (toZ-ofZ {w = w32} {z = start c .args .arc .weight} (record { sfits = told .1 .1 .1 .1 .0 .1 }))
+
 weight-ok-requires : tie.Need-weight-ok-requires
 weight-ok-requires c κs = search needs
 
@@ -19,9 +35,6 @@ cast-dear c = search needs
 
 mul-put-arc : tie.Need-mul-put-arc
 mul-put-arc c = search needs
-
-add-put-arc : tie.Need-add-put-arc
-add-put-arc c = search needs
 
 put-arc-requires : tie.Need-put-arc-requires
 put-arc-requires c κs = search needs
@@ -34,33 +47,29 @@ same-length c = search needs
 
 returns : tie.Need-returns
 returns c =
-    let checked = c .before .before .before .before .before .before in
-    let a = checked .before .before .before .args in
-    let ok = checked .weight-ok in
-    let weight = toZ-ofZ {w = w32} {z = a .arc .weight} (record { sfits = checked .before .struct-told .given .1 .1 .1 .1 .0 .1 }) in
+    let at = checked (fits c .before) in
+    let a = start at .args in
     record {
       states-stay = refl;
       full-stays = refl;
       one-more = λ as' dear held.
-          arcs-held-next as' dear (a .w) _ (a .table .now) (a .arc) held _ (c .before .before .before .before .if1 .taken) refl
-          (ap (λ (light : Bool). bitOr (a .w .dear) (boolByte (not light))) (ok .ensures ∙ ap weight-good weight)) (c .before .before .put-arc .ensures);
+          arcs-held-next as' dear (a .w) _ (a .table .now) (a .arc) held _ (fits c .if1 .taken) refl
+          (ap (λ (b : Bool). bitOr (a .w .dear) (boolByte (not b))) (light at)) (c .before .before .put-arc .ensures);
     }
 
-add-t14 : tie.Need-add-t14
-add-t14 c = search needs
+add-t13 : tie.Need-add-t13
+add-t13 c = search needs
 
 returns-2 : tie.Need-returns-2
 returns-2 c =
-    let checked = c .before .before in
-    let a = checked .before .before .before .args in
-    let ok = checked .weight-ok in
-    let weight = toZ-ofZ {w = w32} {z = a .arc .weight} (record { sfits = checked .before .struct-told .given .1 .1 .1 .1 .0 .1 }) in
+    let at = checked (c .before) in
+    let a = start at .args in
     record {
       states-stay = refl;
       full-stays = refl;
       one-more = λ as' dear held.
           arcs-held-full as' dear (a .w) _ (a .table .now) (a .arc) held (c .if1 .left) refl
-          (ap (λ (light : Bool). bitOr (a .w .dear) (boolByte (not light))) (ok .ensures ∙ ap weight-good weight));
+          (ap (λ (b : Bool). bitOr (a .w .dear) (boolByte (not b))) (light at));
     }
 
 pub record-arc-spec : {M : Type 1} → statement M
@@ -70,10 +79,9 @@ record-arc-spec =
     weight-ok-requires
     cast-dear
     mul-put-arc
-    add-put-arc
     put-arc-requires
     add-t12
     same-length
     returns
-    add-t14
+    add-t13
     returns-2)

@@ -5,6 +5,10 @@ use Rattle.forthwn.proofs.Handed.{handed}
 use Rattle.forthwn.proofs.forthwn_nth.Statement.{statement}
 use Rattle.forthwn.proofs.forthwn_nth.Tie as tie
 
+-- Places to look back to.
+abbrev called-from : tie.After-struct-known → tie.After-nth
+called-from c = c .before .before .before .before .before
+
 nth-requires : tie.Need-nth-requires
 nth-requires c κs = search needs
 
@@ -23,7 +27,7 @@ same-length-2 c = search needs
 returns : tie.Need-returns
 returns c =
     let known = c .before .before .before in
-    let called = known .before .before .before .before .before in
+    let called = called-from known in
     let r = called .nth .result in
     rw (handed r (record { sfits = c .before .struct-told .given .1 .0 .1 }) (omega (arith, known .struct-known .given))
     (omega (arith, known .struct-known .given)))

@@ -5,6 +5,10 @@ use Rattle.forthwn.proofs.Handed.{handed}
 use Rattle.forthwn.proofs.forthwn_shortest.Statement.{statement}
 use Rattle.forthwn.proofs.forthwn_shortest.Tie as tie
 
+-- Places to look back to.
+abbrev called-from : tie.After-struct-known → tie.After-shortest-path
+called-from c = c .before .before .before .before .before
+
 shortest-path-requires : tie.Need-shortest-path-requires
 shortest-path-requires c κs = search needs
 
@@ -23,7 +27,7 @@ same-length-2 c = search needs
 returns : tie.Need-returns
 returns c =
     let known = c .before .before .before in
-    let called = known .before .before .before .before .before in
+    let called = called-from known in
     let r = called .shortest-path .result in
     rw (handed r (record { sfits = c .before .struct-told .given .1 .0 .1 }) (omega (arith, known .struct-known .given))
     (omega (arith, known .struct-known .given)))

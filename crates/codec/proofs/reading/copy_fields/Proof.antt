@@ -16,12 +16,15 @@ Inv-loop bytes at count out₀ place₀ i₀ out place i = Fields-copied bytes a
 abbrev μ-loop : tie.MeasureT-loop
 μ-loop bytes at count out₀ place₀ i₀ out place i = count - i
 
-loop-holds : tie.Need-loop-holds Inv-loop μ-loop
-loop-holds c = fields-first
-
--- In a turn, the record lies within the bytes and the four fields within the buffer.
+-- Places to look back to, in a turn and behind the loop.
 abbrev start : tie.In-loop Inv-loop μ-loop → tie.Start Inv-loop μ-loop
 start c = c .before .before .before .before
+
+abbrev entry : tie.After-clear16-arg Inv-loop μ-loop → tie.Start Inv-loop μ-loop
+entry c = c .before .before .before .before .before
+
+loop-holds : tie.Need-loop-holds Inv-loop μ-loop
+loop-holds c = fields-first
 
 load-arc-requires : tie.Need-load-arc-requires Inv-loop μ-loop
 load-arc-requires c κs = omega (arith, start c .pre, c .before .loop .inv .there)
@@ -89,23 +92,23 @@ loop-again c =
     fields-next (c .load-arc .result) (start (c .before) .pre .0) (c .before .loop-test .taken) (c .load-arc .ensures) (c .before .before .loop .inv)
 
 mul-clear16 : tie.Need-mul-clear16 Inv-loop μ-loop
-mul-clear16 c = let from = c .before .before .before .before .before in omega (arith, from .pre, from .good)
+mul-clear16 c = let from = entry c in omega (arith, from .pre, from .good)
 
 clear16-requires : tie.Need-clear16-requires Inv-loop μ-loop
 clear16-requires c κs =
-    let from = c .before .before .before .before .before in
+    let from = entry c in
     omega (arith, from .pre .0, fields-length (from .pre .0) (c .before .before .loop .inv))
 
 same-length : tie.Need-same-length Inv-loop μ-loop
 same-length c =
     let after = c .before .before .before in
-    let from = after .before .before .before .before .before in
+    let from = entry after in
     c .before .before .clear16 .kept .0 ∙ fields-length (from .pre .0) (after .before .before .loop .inv)
 
 returns : tie.Need-returns Inv-loop μ-loop
 returns c =
     let after = c .before .before .before in
-    let from = after .before .before .before .before .before in
+    let from = entry after in
     fields-stop
     (c .before .before .clear16 .last .0)
     (from .pre .0)

@@ -1,4 +1,4 @@
--- A store loop. The invariant, `Copied`: the first `i` numbers stand at the front, and what lies behind is as it was.
+-- A store loop. The invariant, `Numbers-copied`: the first `i` numbers stand at the front, and what lies behind is as it was.
 use borrow.Author.Needs.{needs}
 use mathlib.Core.Path.{_∙_}
 use Prim.Native.Nat.{_-_}
@@ -9,12 +9,12 @@ use mir.Syntax.{w32}
 use mir.Facts.{toZ-ofZ}
 use Rattle.wire.specs.Bytes.{signed-filled, signed-cleared}
 use Rattle.transducer.specs.Format.{weight-at}
-use Rattle.codec.proofs.Copy.{Copied, copied-first, copied-inside, copied-length, copied-next, copied-stop}
+use Rattle.codec.proofs.Copy.{Numbers-copied, copied-first, copied-inside, copied-length, copied-next, copied-stop}
 use Rattle.codec.proofs.reading.copy_weights.Statement.{statement}
 use Rattle.codec.proofs.reading.copy_weights.Tie as tie
 
 abbrev Inv-loop : tie.InvT-loop
-Inv-loop bytes at step count out₀ place₀ i₀ out place i = Copied (weight-at bytes) at step count out₀ out place i
+Inv-loop bytes at step count out₀ place₀ i₀ out place i = Numbers-copied (weight-at bytes) at step count out₀ out place i
 
 abbrev μ-loop : tie.MeasureT-loop
 μ-loop bytes at step count out₀ place₀ i₀ out place i = count - i

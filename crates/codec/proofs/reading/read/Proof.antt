@@ -35,6 +35,15 @@ copy-3 c = c .before .before .before .before
 abbrev bytes-of : tie.Else5 → List ℕ
 bytes-of c = entry (tested c) .args .bytes .now
 
+abbrev tested-4 : tie.After-unread4 → tie.After-refusal
+tested-4 c = c .before .before .before .before .before
+
+abbrev tested-5 : tie.After-unread5 → tie.After-refusal
+tested-5 c = c .before .before .before .before .before .before
+
+abbrev good-5 : tie.After-unread5 → tie.Else1
+good-5 c = c .before .before .before .before .before
+
 is-bytes : (c : tie.Else5) → Bytes (bytes-of c)
 is-bytes c = λ i. omega (arith, tested c .before .before .before .shared-slice-known .given i)
 
@@ -78,7 +87,7 @@ unread-requires-4 c κs = search needs
 
 returns-4 : tie.Need-returns-4
 returns-4 c =
-    let at-refusal = c .before .before .before .before .before in
+    let at-refusal = tested-4 c in
     let a = entry at-refusal .args in
     let room = short-fields (length (a .final-states .now)) (length (a .final-weights .now)) (length (a .fields .now)) (length (a .arc-weights .now)) in
     says-short (at-refusal .refusal .ensures) (c .before .before .before .before .if1 .left) (room (c .before .if4 .taken)) (c .unread4 .ensures)
@@ -88,10 +97,10 @@ unread-requires-5 c κs = search needs
 
 returns-5 : tie.Need-returns-5
 returns-5 c =
-    let at-refusal = c .before .before .before .before .before .before in
+    let at-refusal = tested-5 c in
     let a = entry at-refusal .args in
     let room = short-arc-weights (length (a .final-states .now)) (length (a .final-weights .now)) (length (a .fields .now)) (length (a .arc-weights .now)) in
-    says-short (at-refusal .refusal .ensures) (c .before .before .before .before .before .if1 .left) (room (c .before .if5 .taken)) (c .unread5 .ensures)
+    says-short (at-refusal .refusal .ensures) (good-5 c .if1 .left) (room (c .before .if5 .taken)) (c .unread5 .ensures)
 
 header-requires : tie.Need-header-requires
 header-requires c κs = omega (arith, length-accepted (bytes-of c) (is-bytes c) (accepted c))

@@ -4,6 +4,10 @@ use Rattle.codec.proofs.WriteSays.{given-content}
 use Rattle.codec.proofs.writing.content_number.Statement.{statement}
 use Rattle.codec.proofs.writing.content_number.Tie as tie
 
+-- Places to look back to.
+abbrev entry : tie.After-number → tie.Start
+entry c = c .before .before .before .before .before .before
+
 check-given-finals-requires : tie.Need-check-given-finals-requires
 check-given-finals-requires c κs = search needs
 
@@ -19,7 +23,7 @@ number-requires c κs = search needs
 returns : tie.Need-returns
 returns c =
     λ start.
-    let args = c .before .before .before .before .before .before .args in
+    let args = entry c .args in
     rw (
       c .number .ensures,
       c .before .check-given-arcs .ensures,

@@ -4,6 +4,7 @@ use Prim.Native.Nat.{ℕ, _≤_, _+_, _*_, _-_}
 use native.Mathlib.Omega.{arith}
 use lib.ListN.{length}
 use lib.Seq.{sets}
+use Rattle.transducer.specs.Format.{arc-bytes}
 use Rattle.wire.specs.Bytes.{places}
 use Rattle.transducer.specs.declared.Arc.{Arc}
 use Rattle.transducer.specs.Encode.{arc-record, arc-records}
@@ -15,12 +16,16 @@ use Rattle.codec.proofs.writing.put_arcs.Tie as tie
 abbrev Inv-loop : tie.InvT-loop
 Inv-loop fields weights count first out₀ at₀ i₀ out at i =
     (i ≤ count)
-    × (at ≡ first + 16 * i)
+    × (at ≡ first + arc-bytes * i)
     × (length out ≡ length out₀)
     × (out ≡ sets out₀ first (arc-records (places i 0 1 (arc-of fields weights))))
 
 abbrev μ-loop : tie.MeasureT-loop
 μ-loop fields weights count first out₀ at₀ i₀ out at i = count - i
+
+-- Places to look back to.
+abbrev turn-of : tie.After-slice-known2 Inv-loop μ-loop → tie.At-loop Inv-loop μ-loop
+turn-of c = c .before .before .before .before .before .before
 
 loop-holds : tie.Need-loop-holds Inv-loop μ-loop
 loop-holds c =
@@ -45,7 +50,7 @@ loop-less c = omega arith
 loop-again : tie.Need-loop-again Inv-loop μ-loop
 loop-again c =
     let called = c .before .before .put-arc in
-    let h = c .before .before .before .before .before .before in
+    let h = turn-of c in
     let x = h .before .before .before .args in
     let inv = h .loop .inv in
     let same = ap (λ (a : Arc). sets (h .loop .out) (h .loop .at) (arc-record a)) (c .before .before .before .given-arc .ensures) in (

@@ -7,6 +7,7 @@ use lib.ListN.{length, getD}
 use lib.Seq.{sets}
 use mir.Syntax.{w32}
 use mir.Facts.{toZ-ofZ}
+use Rattle.transducer.specs.Format.{head-bytes, final-bytes}
 use Rattle.wire.specs.Bytes.{places}
 use Rattle.transducer.specs.Encode.{final-record, final-records}
 use Rattle.transducer.specs.Weight.{Weight}
@@ -18,17 +19,21 @@ use Rattle.codec.proofs.writing.put_finals.Tie as tie
 abbrev Inv-loop : tie.InvT-loop
 Inv-loop states weights count out₀ at₀ i₀ out at i =
     (i ≤ count)
-    × (at ≡ 12 + 10 * i)
+    × (at ≡ head-bytes + final-bytes * i)
     × (length out ≡ length out₀)
-    × (out ≡ sets out₀ 12 (final-records (places i 0 1 (final-of states weights))))
+    × (out ≡ sets out₀ head-bytes (final-records (places i 0 1 (final-of states weights))))
 
 abbrev μ-loop : tie.MeasureT-loop
 μ-loop states weights count out₀ at₀ i₀ out at i = count - i
 
+-- Places to look back to.
+abbrev turn-of : tie.After-slice-known2 Inv-loop μ-loop → tie.At-loop Inv-loop μ-loop
+turn-of c = c .before .before .before .before .before .before .before
+
 loop-holds : tie.Need-loop-holds Inv-loop μ-loop
 loop-holds c =
     let x = c .before .before .args in
-    (omega arith, refl, refl, sets-no-finals (x .out .now) 12 (final-of (x .states .now) (x .weights .now)))
+    (omega arith, refl, refl, sets-no-finals (x .out .now) head-bytes (final-of (x .states .now) (x .weights .now)))
 
 mul-t9 : tie.Need-mul-t9 Inv-loop μ-loop
 mul-t9 c = omega arith
@@ -58,7 +63,7 @@ loop-again : tie.Need-loop-again Inv-loop μ-loop
 unfolding final-of
 loop-again c =
     let called = c .before .before .put-final in
-    let h = c .before .before .before .before .before .before .before in
+    let h = turn-of c in
     let x = h .before .before .before .args in
     let weight = toZ-ofZ {w = w32} (record { sfits = c .before .before .before .before .t14 .given }) in
     let stored : Weight → List ℕ =
@@ -67,7 +72,7 @@ loop-again c =
       omega arith,
       omega arith,
       called .kept .0 ∙ inv .2,
-      sets-finals (x .out .now) 12 (h .loop .at) (h .loop .i) (final-of (x .states .now) (x .weights .now)) (inv .1) (inv .3)
+      sets-finals (x .out .now) head-bytes (h .loop .at) (h .loop .i) (final-of (x .states .now) (x .weights .now)) (inv .1) (inv .3)
           (called .ensures ∙ ap stored weight),
     )
 
@@ -79,7 +84,7 @@ returns c =
     let h = c .before in
     let x = h .before .before .before .args in
     let all : h .loop .i ≡ x .count = omega arith in
-    h .loop .inv .3 ∙ ap (λ (k : ℕ). sets (x .out .now) 12 (final-records (places k 0 1 (final-of (x .states .now) (x .weights .now))))) all
+    h .loop .inv .3 ∙ ap (λ (k : ℕ). sets (x .out .now) head-bytes (final-records (places k 0 1 (final-of (x .states .now) (x .weights .now))))) all
 
 pub put-finals-spec : {M : Type 1} → statement M
 put-finals-spec =

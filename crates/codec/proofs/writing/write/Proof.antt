@@ -33,6 +33,9 @@ finals-put c = c .before .before .before .before
 abbrev arcs-put : tie.After-clear8 → tie.After-put-arcs
 arcs-put c = c .before .before .before .before
 
+abbrev tested-head : tie.After-refused5 → tie.Else1
+tested-head c = c .before .before .before .before .before
+
 -- What the tests leave.
 head-is-good : (c : tie.Else1) → head-good (entry c .args .n) (entry c .args .m) (entry c .args .f) (entry c .args .start) ≡ true
 head-is-good c = sym (c .before .head-ok .ensures) ∙ not-false (c .before .head-ok .result) (c .if1 .left)
@@ -92,7 +95,7 @@ refused-requires-5 c κs = tt
 
 returns-5 : tie.Need-returns-5
 returns-5 c =
-    says-4-arc-weights _ _ _ _ _ _ _ _ _ (head-is-good (c .before .before .before .before .before)) (c .before .before .before .before .if2 .left)
+    says-4-arc-weights _ _ _ _ _ _ _ _ _ (head-is-good (tested-head c)) (c .before .before .before .before .if2 .left)
     (c .before .before .before .if3 .left) (c .before .before .if4 .left) (c .before .if5 .taken) _ (c .refused5 .ensures)
 
 content-number-requires : tie.Need-content-number-requires

@@ -1,17 +1,64 @@
 -- One test after the other, each with its law in `ComposeSays`.
 use borrow.Author.Needs.{needs}
 use borrow.Author.Tests.{not-true, not-false}
-use mathlib.Core.Path.{sym, _∙_}
-use Rattle.compose.proofs.ComposeSays.{says-left, says-any, says-right, says-table, says-origins, says-states, composable, says-into}
+use mathlib.Core.Path.{_≡_, sym, _∙_}
+use mathlib.Core.Bool.{true}
+use native.Mathlib.Omega.{arith}
+use Rattle.wire.specs.Bytes.{Bytes}
+use Rattle.transducer.specs.Format.{refusal, decode}
+use Rattle.transducer.specs.Each.{named}
+use Rattle.compose.proofs.ComposeSays.{
+  says-left,
+  says-any,
+  says-right,
+  says-table,
+  says-origins,
+  says-states,
+  composable,
+  says-into,
+  says-same,
+}
 use Rattle.compose.proofs.entry.compose.Statement.{statement}
 use Rattle.compose.proofs.entry.compose.Tie as tie
 
--- The way back from a place to an earlier one.
+-- Places to look back to: the start, the left table looked at and asked for arcs for any symbol, both tables passed.
+abbrev entry : tie.After-look → tie.Start
+entry c = c .before .before .before .before .before .before
+
 abbrev first : tie.After-all-named → tie.After-look
 first c = c .before .before
 
-abbrev named : tie.After-look2 → tie.After-all-named
-named c = c .before .before
+abbrev left-asked : tie.After-look2 → tie.After-all-named
+left-asked c = c .before .before
+
+abbrev passed : tie.Else6 → tie.Else3
+passed c = c .before .before .before
+
+abbrev all-tested : tie.After-compose-into → tie.Else6
+all-tested c = c .before .before .before .before .before .before
+
+abbrev composed-into : tie.After-slice-known6 → tie.After-compose-into
+composed-into c = c .before .before .before .before .before .before
+
+abbrev made-again : tie.After-result → tie.After-compose-into2
+made-again c = c .before .before .before .before .before .before .before
+
+-- The bytes are bytes.
+left-bytes : (c : tie.After-look) → Bytes (entry c .args .left .now)
+left-bytes c = λ i. omega (arith, c .before .before .before .before .before .shared-slice-known .given i)
+
+right-bytes : (c : tie.After-look) → Bytes (entry c .args .right .now)
+right-bytes c = λ i. omega (arith, c .before .before .before .before .shared-slice-known2 .given i)
+
+-- What the tests say: the left table is accepted and has no arc for any symbol, and the right one is accepted.
+left-ok : (c : tie.Else1) → refusal (entry (c .before) .args .left .now) ≡ 0
+left-ok c = sym (c .before .look .ensures .refusal-is) ∙ c .if1 .left
+
+all-ok : (c : tie.Else2) → named (decode (entry (first (c .before)) .args .left .now)) ≡ true
+all-ok c = let n = c .before .all-named in sym (n .ensures) ∙ not-false (n .result) (c .if2 .left)
+
+right-ok : (c : tie.Else3) → refusal (entry (first (left-asked (c .before))) .args .right .now) ≡ 0
+right-ok c = sym (c .before .look2 .ensures .refusal-is) ∙ c .if3 .left
 
 look-requires : tie.Need-look-requires
 look-requires c κs = search needs
@@ -23,10 +70,7 @@ returns : tie.Need-returns
 returns c = let a = c .before .before .look in says-left _ _ _ _ _ (a .result .refusal) (a .ensures .refusal-is) (c .before .if1 .taken) _ (c .refused .ensures)
 
 all-named-requires : tie.Need-all-named-requires
-all-named-requires c κs =
-    let a = c .before .look .ensures in
-    let ok = sym (a .refusal-is) ∙ c .if1 .left in
-    (ok, a .by-name ok)
+all-named-requires c κs = (left-ok c, c .before .look .ensures .by-name (left-ok c))
 
 refused-requires-2 : tie.Need-refused-requires-2
 refused-requires-2 c κs = tt
@@ -34,10 +78,8 @@ refused-requires-2 c κs = tt
 returns-2 : tie.Need-returns-2
 returns-2 c =
     let left = c .before .before in
-    let a = first left .look in
     let n = left .all-named in
-    says-any _ _ _ _ _ (a .result .refusal) (a .ensures .refusal-is) (left .before .if1 .left) (n .result) (n .ensures)
-    (not-true (n .result) (c .before .if2 .taken)) _ (c .refused2 .ensures)
+    says-any _ _ _ _ _ (left-ok (left .before)) (sym (n .ensures) ∙ not-true (n .result) (c .before .if2 .taken)) _ (c .refused2 .ensures)
 
 look-requires-2 : tie.Need-look-requires-2
 look-requires-2 c κs = search needs
@@ -48,12 +90,8 @@ refused-requires-3 c κs = tt
 returns-3 : tie.Need-returns-3
 returns-3 c =
     let right = c .before .before in
-    let left = named right in
-    let a = first left .look in
-    let n = left .all-named in
     let b = right .look2 in
-    says-right _ _ _ _ _ (a .result .refusal) (a .ensures .refusal-is) (left .before .if1 .left) (n .result) (n .ensures)
-    (not-false (n .result) (right .before .if2 .left)) (b .result .refusal) (b .ensures .refusal-is)
+    says-right _ _ _ _ _ (left-ok (left-asked right .before)) (all-ok (right .before)) (b .result .refusal) (b .ensures .refusal-is)
     (c .before .if3 .taken) _ (c .refused3 .ensures)
 
 refused-requires-4 : tie.Need-refused-requires-4
@@ -61,67 +99,68 @@ refused-requires-4 c κs = tt
 
 returns-4 : tie.Need-returns-4
 returns-4 c =
-    let right = c .before .before .before in
-    let left = named right in
-    let a = first left .look in
-    let n = left .all-named in
-    let b = right .look2 in
-    says-table _ _ _ _ _ (a .result .refusal) (a .ensures .refusal-is) (left .before .if1 .left) (n .result) (n .ensures)
-    (not-false (n .result) (right .before .if2 .left)) (b .result .refusal) (b .ensures .refusal-is)
-    (c .before .before .if3 .left) (c .before .if4 .taken) _ (c .refused4 .ensures)
+    let both = c .before .before in
+    let right = both .before in
+    says-table _ _ _ _ _ (left-ok (left-asked right .before)) (all-ok (right .before)) (right-ok both) (c .before .if4 .taken) _ (c .refused4 .ensures)
 
 refused-requires-5 : tie.Need-refused-requires-5
 refused-requires-5 c κs = tt
 
 returns-5 : tie.Need-returns-5
 returns-5 c =
-    let right = c .before .before .before .before in
-    let left = named right in
-    let a = first left .look in
-    let n = left .all-named in
-    let b = right .look2 in
-    says-origins _ _ _ _ _ (a .result .refusal) (a .ensures .refusal-is) (left .before .if1 .left) (n .result) (n .ensures)
-    (not-false (n .result) (right .before .if2 .left)) (b .result .refusal) (b .ensures .refusal-is)
-    (c .before .before .before .if3 .left) (c .before .before .if4 .left) (c .before .if5 .taken) _ (c .refused5 .ensures)
+    let both = c .before .before .before in
+    let right = both .before in
+    says-origins _ _ _ _ _ (left-ok (left-asked right .before)) (all-ok (right .before)) (right-ok both) (c .before .before .if4 .left)
+    (c .before .if5 .taken) _ (c .refused5 .ensures)
 
 refused-requires-6 : tie.Need-refused-requires-6
 refused-requires-6 c κs = tt
 
 returns-6 : tie.Need-returns-6
 returns-6 c =
-    let right = c .before .before .before .before .before in
-    let left = named right in
-    let a = first left .look in
-    let n = left .all-named in
-    let b = right .look2 in
-    says-states _ _ _ _ _ (a .result .refusal) (a .ensures .refusal-is) (left .before .if1 .left) (n .result) (n .ensures)
-    (not-false (n .result) (right .before .if2 .left)) (b .result .refusal) (b .ensures .refusal-is)
-    (c .before .before .before .before .if3 .left) (c .before .before .before .if4 .left)
-    (c .before .before .if5 .left) (c .before .if6 .taken) _ (c .refused6 .ensures)
+    let long = c .before .before in
+    let both = long .before .before in
+    let right = both .before in
+    says-states _ _ _ _ _ (left-ok (left-asked right .before)) (all-ok (right .before)) (right-ok both) (long .before .if4 .left) (long .if5 .left)
+    (c .before .if6 .taken) _ (c .refused6 .ensures)
 
--- The right table is accepted too.
 all-named-requires-2 : tie.Need-all-named-requires-2
-all-named-requires-2 c κs =
-    let b = c .before .before .before .before .look2 .ensures in
-    let ok = sym (b .refusal-is) ∙ c .before .before .before .if3 .left in
-    (ok, b .by-name ok)
+all-named-requires-2 c κs = let both = passed c in (right-ok both, both .before .look2 .ensures .by-name (right-ok both))
+
+room-for-requires : tie.Need-room-for-requires
+room-for-requires c κs =
+    let both = passed (c .before) in
+    let right = both .before in
+    (left-ok (left-asked right .before), right-ok both)
 
 compose-into-requires : tie.Need-compose-into-requires
 compose-into-requires c κs =
-    let exact = c .before .before .before in
+    let exact = c .before .before .before .before in
     let else6 = exact .before in
-    let right = else6 .before .before .before .before in
-    let left = named right in
-    let a = first left .look in
-    let n = left .all-named in
-    let b = right .look2 in
-    let x = first left .before .before .before .before .before .before .args in (
-      composable (x .left .now) (x .right .now) (x .table .now) (x .origins .now) (x .states .now)
-          (a .result .refusal) (a .ensures .refusal-is) (left .before .if1 .left) (n .result) (n .ensures)
-          (not-false (n .result) (right .before .if2 .left)) (b .result .refusal) (b .ensures .refusal-is)
-          (else6 .before .before .before .if3 .left) (else6 .before .before .if4 .left) (else6 .before .if5 .left)
-          (else6 .if6 .left),
+    let both = passed else6 in
+    let right = both .before in
+    let x = entry (first (left-asked right)) .args in (
+      composable (x .left .now) (x .right .now) (x .table .now) (x .origins .now) (x .states .now) (left-ok (left-asked right .before))
+          (all-ok (right .before)) (right-ok both) (else6 .before .before .if4 .left) (else6 .before .if5 .left) (else6 .if6 .left),
       λ e. sym (exact .all-named2 .ensures) ∙ e,
+      c .before .before .before .room-for .ensures,
+    )
+
+-- The second attempt, should there be one: the buffers are as long as before.
+compose-into-requires-2 : tie.Need-compose-into-requires-2
+compose-into-requires-2 c κs =
+    let into = composed-into (c .before .before .before .before) in
+    let else6 = all-tested into in
+    let both = passed else6 in
+    let right = both .before in
+    let x = entry (first (left-asked right)) .args in
+    let out = into .compose-into .last .1 .1 .1 .1 in
+    let kept = into .compose-into .kept .1 .1 .1 .1 in (
+      composable (x .left .now) (x .right .now) (out .0) (out .1 .0) (out .1 .1 .0) (left-ok (left-asked right .before))
+          (all-ok (right .before)) (right-ok both) (omega (arith, kept .0, else6 .before .before .if4 .left))
+          (omega (arith, kept .1 .0, else6 .before .if5 .left)) (omega (arith, kept .1 .1 .0, else6 .if6 .left)),
+      λ e. sym (into .before .before .before .before .before .all-named2 .ensures) ∙ e,
+      omega arith,
     )
 
 same-length : tie.Need-same-length
@@ -135,16 +174,36 @@ same-length-3 c = search needs
 
 returns-7 : tie.Need-returns-7
 returns-7 c =
-    let else6 = c .before .before .before .before .before .before .before .before .before .before .before in
-    let right = else6 .before .before .before .before in
-    let left = named right in
-    let a = first left .look in
-    let n = left .all-named in
-    let b = right .look2 in
-    says-into _ _ _ _ _ (a .result .refusal) (a .ensures .refusal-is) (left .before .if1 .left) (n .result) (n .ensures)
-    (not-false (n .result) (right .before .if2 .left)) (b .result .refusal) (b .ensures .refusal-is)
-    (else6 .before .before .before .if3 .left) (else6 .before .before .if4 .left) (else6 .before .if5 .left)
-    (else6 .if6 .left) _ _ _ _ (c .before .before .before .before .before .before .compose-into .ensures)
+    let whole = made-again c in
+    let into = composed-into (whole .before .before .before .before .before) in
+    let else6 = all-tested into in
+    let both = passed else6 in
+    let right = both .before in
+    let look = first (left-asked right) in
+    let kept = into .compose-into .kept .1 .1 .1 .1 in
+    let said = whole .compose-into2 .ensures in
+    says-into _ _ _ _ _ (left-ok (left-asked right .before)) (all-ok (right .before)) (right-ok both) (else6 .before .before .if4 .left)
+    (else6 .before .if5 .left) (else6 .if6 .left) _ _ _ _
+    (says-same _ _ (left-bytes look) (right-bytes look) (left-ok (left-asked right .before)) (all-ok (right .before)) (right-ok both) _ _ _ _ _ _ _ _ _ _
+    (kept .0) (kept .1 .0) (kept .1 .1 .0) (said .says (said .enough (omega arith))))
+
+same-length-4 : tie.Need-same-length-4
+same-length-4 c = search needs
+
+same-length-5 : tie.Need-same-length-5
+same-length-5 c = search needs
+
+same-length-6 : tie.Need-same-length-6
+same-length-6 c = search needs
+
+returns-8 : tie.Need-returns-8
+returns-8 c =
+    let into = composed-into (c .before .before) in
+    let else6 = all-tested into in
+    let both = passed else6 in
+    let right = both .before in
+    says-into _ _ _ _ _ (left-ok (left-asked right .before)) (all-ok (right .before)) (right-ok both) (else6 .before .before .if4 .left)
+    (else6 .before .if5 .left) (else6 .if6 .left) _ _ _ _ (into .compose-into .ensures .says (c .before .if7 .left))
 
 pub compose-spec : {M : Type 1} → statement M
 compose-spec =
@@ -166,8 +225,14 @@ compose-spec =
     refused-requires-6
     returns-6
     all-named-requires-2
+    room-for-requires
     compose-into-requires
+    compose-into-requires-2
     same-length
     same-length-2
     same-length-3
-    returns-7)
+    returns-7
+    same-length-4
+    same-length-5
+    same-length-6
+    returns-8)

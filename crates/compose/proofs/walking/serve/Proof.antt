@@ -6,12 +6,13 @@ use mathlib.Core.Bool.{cond}
 use Prim.Native.Nat.{ℕ, _+_, _-_, _≤_, _<_}
 use native.Mathlib.Omega.{arith}
 use lib.ListN.{length, getD}
-use Rattle.transducer.specs.Format.{decode, Good}
+use Rattle.transducer.specs.Format.{max-arcs, max-states, decode, Good}
+use Rattle.transducer.specs.Leaf.{Leaving}
 use Rattle.transducer.proofs.RoundTrip.{accepted-good, good-range}
 use Rattle.explore.specs.Walk.{Sofar, all-taken, state-served, Walked, Went}
 use Rattle.steps.specs.declared.Run.{Run}
 use Rattle.steps.specs.declared.State.{State}
-use Rattle.steps.specs.Runs.{run-at, In-both}
+use Rattle.steps.specs.Runs.{run-at, begin-from, In-both}
 use Rattle.compose.specs.Walk.{key-steps}
 use Rattle.steps.proofs.Reading.{right-from, Run-here, next-run-here}
 use Rattle.compose.specs.Taking.{run-left}
@@ -31,7 +32,7 @@ use Rattle.compose.proofs.walking.serve.Statement.{statement}
 use Rattle.compose.proofs.walking.serve.Tie as tie
 
 abbrev Inv-loop : tie.InvT-loop
-Inv-loop left lfirst lindex right rfirst rindex rheads chain again exact source table₀ origins₀ states₀ heads₀ links₀ x p q to last wild walk₀ i₀
+Inv-loop left lfirst lindex right rfirst rindex rheads chain again exact source table₀ origins₀ states₀ heads₀ links₀ x p q from to last wild walk₀ i₀ only
     table origins states heads links walk i =
     ((b : Sofar) → Walked 2 b walk₀ table₀ origins₀ states₀ heads₀ links₀
     → Serving (decode left) (decode right) x source last (state-served (key-steps (decode left) (decode right)) source b) i walk table origins states
@@ -40,11 +41,11 @@ Inv-loop left lfirst lindex right rfirst rindex rheads chain again exact source 
     × (length states ≡ length states₀)
 
 abbrev μ-loop : tie.MeasureT-loop
-μ-loop left lfirst lindex right rfirst rindex rheads chain again exact source table₀ origins₀ states₀ heads₀ links₀ x p q to last wild walk₀ i₀
+μ-loop left lfirst lindex right rfirst rindex rheads chain again exact source table₀ origins₀ states₀ heads₀ links₀ x p q from to last wild walk₀ i₀ only
     table origins states heads links walk i =
     last + 1 - i
 
--- Places to look back to: the start, the state unpacked, the loop's head in a turn, the run made, the run taken.
+-- Places to look back to: the start, the state unpacked, the loop's head in a turn, the run made and its end, the run taken.
 abbrev start : tie.After-shared-slice-known2 Inv-loop μ-loop → tie.Start Inv-loop μ-loop
 start c = c .before .before
 
@@ -54,14 +55,23 @@ lent c = c .before .before .before .before .before
 abbrev entry : tie.After-unpack Inv-loop μ-loop → tie.Start Inv-loop μ-loop
 entry c = start (lent c)
 
+abbrev placing : tie.After-to Inv-loop μ-loop → tie.After-unpack Inv-loop μ-loop
+placing c = c .before .before .before .before
+
+abbrev unpacked : tie.After-first-any Inv-loop μ-loop → tie.After-unpack Inv-loop μ-loop
+unpacked c = placing (c .before .before)
+
 abbrev state : tie.At-loop Inv-loop μ-loop → tie.After-unpack Inv-loop μ-loop
-state c = c .before .before .before .before .before .before .before
+state c = unpacked (c .before .before .before)
 
 abbrev head : tie.After-next-run Inv-loop μ-loop → tie.At-loop Inv-loop μ-loop
 head c = c .before .before
 
+abbrev ended : tie.After-take-run Inv-loop μ-loop → tie.After-end-of Inv-loop μ-loop
+ended c = c .before .before .before .before .before .before
+
 abbrev made : tie.After-take-run Inv-loop μ-loop → tie.After-run-of Inv-loop μ-loop
-made c = c .before .before .before .before .before .before .before
+made c = ended c .before
 
 abbrev taken : tie.After-struct-known3 Inv-loop μ-loop → tie.After-take-run Inv-loop μ-loop
 taken c = c .before .before .before .before .before .before .before
@@ -69,7 +79,7 @@ taken c = c .before .before .before .before .before .before .before
 abbrev turn : tie.After-take-run Inv-loop μ-loop → tie.At-loop Inv-loop μ-loop
 turn c = head (made c .before)
 
--- The state's parts, and where the arcs of the left one begin and end and those of the right one end.
+-- The state's parts, and where the arcs of each begin and end.
 abbrev both : tie.After-unpack Inv-loop μ-loop → State
 both c = c .unpack .result
 
@@ -78,6 +88,9 @@ first-of c = getD (entry c .args .lindex .now) (both c .left) 0
 
 abbrev last-of : tie.After-unpack Inv-loop μ-loop → ℕ
 last-of c = getD (entry c .args .lindex .now) (both c .left + 1) 0
+
+abbrev from-of : tie.After-unpack Inv-loop μ-loop → ℕ
+from-of c = getD (entry c .args .rindex .now) (both c .right) 0
 
 abbrev to-of : tie.After-unpack Inv-loop μ-loop → ℕ
 to-of c = getD (entry c .args .rindex .now) (both c .right + 1) 0
@@ -92,7 +105,7 @@ right-good c =
     accepted-good (start c .args .right .now) (λ i. omega (arith, c .shared-slice-known2 .given i)) (start c .pre .0 .0 .right-open .accepted)
 
 -- The state's number is that of a stored one.
-source-lt : (c : tie.After-shared-slice-known2 Inv-loop μ-loop) → start c .args .source < 1024
+source-lt : (c : tie.After-shared-slice-known2 Inv-loop μ-loop) → start c .args .source < max-states
 source-lt c = let k = start c .pre .1 .1 .1 in omega (arith, start c .pre .0 .1, k .states-are, k .chained .few)
 
 mul-unpack : tie.Need-mul-unpack Inv-loop μ-loop
@@ -112,7 +125,7 @@ inside c =
     let a = entry c .args in
     subst (λ (y : State). In-both (decode (a .left .now)) (decode (a .right .now)) y) (sym (c .unpack .ensures)) (entry c .pre .1 .0)
 
-parts : (c : tie.After-unpack Inv-loop μ-loop) → (both c .left < 1024) × (both c .right < 1024)
+parts : (c : tie.After-unpack Inv-loop μ-loop) → (both c .left < max-states) × (both c .right < max-states)
 parts c =
     let a = entry c .args in
     let i = inside c in
@@ -129,14 +142,23 @@ bounds c =
     placed (decode (a .left .now)) (decode (a .right .now)) (both c) (a .lindex .now) (a .rindex .now) (walkable .left-index)
     (walkable .right-index) (inside c)
 
-left-most : (c : tie.After-unpack Inv-loop μ-loop) → (first-of c ≤ 3072) × (last-of c ≤ 3072)
+left-most : (c : tie.After-unpack Inv-loop μ-loop) → (first-of c ≤ max-arcs) × (last-of c ≤ max-arcs)
 left-most c =
     let p = placed-left (bounds c) in
     let m = good-range (decode (entry c .args .left .now)) (left-good (lent c)) .arcs in
     (omega (arith, p .0, p .1, m), omega (arith, p .1, m))
 
-right-most : (c : tie.After-unpack Inv-loop μ-loop) → to-of c ≤ 3072
+right-most : (c : tie.After-unpack Inv-loop μ-loop) → to-of c ≤ max-arcs
 right-most c = omega (arith, placed-right (bounds c), good-range (decode (entry c .args .right .now)) (right-good (lent c)) .arcs)
+
+from-is : (c : tie.After-unpack Inv-loop μ-loop) → from-of c ≡ right-from (decode (entry c .args .right .now)) (both c)
+from-is c = entry c .pre .0 .0 .right-index .at-state (both c .right) (omega (arith, inside c .right-in))
+
+-- The arcs of the right one.
+leaving : (c : tie.After-unpack Inv-loop μ-loop) → Leaving (decode (entry c .args .right .now)) (both c .right) (from-of c) (to-of c)
+leaving c =
+    subst (λ (n : ℕ). Leaving (decode (entry c .args .right .now)) (both c .right) n (to-of c)) (sym (from-is c))
+    (placed-leaving (bounds c) (right-good (lent c)))
 
 cast-p : tie.Need-cast-p Inv-loop μ-loop
 cast-p c = omega (arith, parts (c .before) .0)
@@ -144,50 +166,72 @@ cast-p c = omega (arith, parts (c .before) .0)
 cast-q : tie.Need-cast-q Inv-loop μ-loop
 cast-q c = omega (arith, parts (c .before .before) .1)
 
+mul-from : tie.Need-mul-from Inv-loop μ-loop
+mul-from c = omega (arith, parts (c .before .before) .1)
+
+element-copy-out-from : tie.Need-element-copy-out-from Inv-loop μ-loop
+element-copy-out-from c = omega (arith, parts (c .before .before) .1)
+
+cast-from : tie.Need-cast-from Inv-loop μ-loop
+cast-from c =
+    let k = c .before .before .before in
+    omega (arith, leaving k .rest .order, right-most k)
+
 add-to : tie.Need-add-to Inv-loop μ-loop
-add-to c = omega (arith, parts (c .before .before) .1)
+add-to c = omega (arith, parts (c .before .before .before) .1)
 
 mul-to : tie.Need-mul-to Inv-loop μ-loop
-mul-to c = omega (arith, parts (c .before .before) .1)
+mul-to c = omega (arith, parts (c .before .before .before) .1)
 
 element-copy-out-to : tie.Need-element-copy-out-to Inv-loop μ-loop
-element-copy-out-to c = omega (arith, parts (c .before .before) .1)
+element-copy-out-to c = omega (arith, parts (c .before .before .before) .1)
 
 cast-to : tie.Need-cast-to Inv-loop μ-loop
-cast-to c = omega (arith, right-most (c .before .before .before))
+cast-to c = omega (arith, right-most (placing c))
 
 add-last : tie.Need-add-last Inv-loop μ-loop
-add-last c = omega (arith, parts (c .before .before .before) .0)
+add-last c = omega (arith, parts (placing c) .0)
 
 mul-last : tie.Need-mul-last Inv-loop μ-loop
-mul-last c = omega (arith, parts (c .before .before .before) .0)
+mul-last c = omega (arith, parts (placing c) .0)
 
 element-copy-out-last : tie.Need-element-copy-out-last Inv-loop μ-loop
-element-copy-out-last c = omega (arith, parts (c .before .before .before) .0)
+element-copy-out-last c = omega (arith, parts (placing c) .0)
 
 cast-last : tie.Need-cast-last Inv-loop μ-loop
-cast-last c = omega (arith, left-most (c .before .before .before .before) .1)
+cast-last c = omega (arith, left-most (placing (c .before)) .1)
 
 cast-first-any : tie.Need-cast-first-any Inv-loop μ-loop
-cast-first-any c = omega (arith, parts (c .before .before .before .before) .1)
+cast-first-any c = omega (arith, parts (placing (c .before)) .1)
 
 first-any-requires : tie.Need-first-any-requires Inv-loop μ-loop
 first-any-requires c κs =
-    let walkable = entry (c .before .before .before .before) .pre .0 .0 in
+    let walkable = entry (placing (c .before)) .pre .0 .0 in
     (walkable .right-open, walkable .right-lookup .headed, walkable .right-lookup .chained, walkable .right-named)
 
 mul-i : tie.Need-mul-i Inv-loop μ-loop
-mul-i c = omega (arith, parts (c .before .before .before .before .before) .0)
+mul-i c = omega (arith, parts (unpacked c) .0)
 
 element-copy-out-i : tie.Need-element-copy-out-i Inv-loop μ-loop
-element-copy-out-i c = omega (arith, parts (c .before .before .before .before .before) .0)
+element-copy-out-i c = omega (arith, parts (unpacked c) .0)
 
 cast-i : tie.Need-cast-i Inv-loop μ-loop
-cast-i c = omega (arith, left-most (c .before .before .before .before .before .before) .0)
+cast-i c = omega (arith, left-most (unpacked (c .before)) .0)
+
+only-label-requires : tie.Need-only-label-requires Inv-loop μ-loop
+only-label-requires c κs =
+    let k = unpacked (c .before) in
+    let p = bounds k in (
+      entry k .pre .0 .0 .right-open,
+      leaving k .rest .order,
+      placed-right p,
+      placed-left p .0,
+      left-most k .1,
+    )
 
 loop-holds : tie.Need-loop-holds Inv-loop μ-loop
 loop-holds c =
-    let k = c .before .before .before .before .before .before in
+    let k = unpacked (c .before .before) in
     let a = entry k .args in
     let p = bounds k in (
       λ b was.
@@ -220,10 +264,13 @@ begins c r r-is =
     let a = entry k .args in
     let p = bounds k in
     let u = decode (a .right .now) in
+    let wild-is = head c .before .before .before .first-any .ensures (from-of k) (leaving k) in
+    let begun = c .next-run .ensures (from-of k) (leaving k) wild-is (head c .before .only-label .ensures (both k .right) (leaving k) wild-is) in
     next-run-here (decode (a .left .now)) u (both k) (head c .loop .i) (last-of k) (to-of k) (c .next-run .result) r (left-good (lent k))
     (right-good (lent k)) (p .inside) (p .to-is) (c .before .loop-test .taken) (placed-left p .1)
-    (c .next-run .ensures (right-from u (both k)) (placed-leaving p (right-good (lent k)))
-    (head c .before .before .first-any .ensures (right-from u (both k)) (placed-leaving p (right-good (lent k))))) r-is
+    (subst (λ (n : ℕ). c .next-run .result
+    ≡ begin-from (decode (a .left .now)) u (both k .filter) n (to-of k - n) (last-of k - head c .loop .i) (head c .loop .i)) (from-is k) begun)
+    r-is
 
 run-of-requires : tie.Need-run-of-requires Inv-loop μ-loop
 run-of-requires c κs =
@@ -263,7 +310,7 @@ went : (c : tie.After-take-run Inv-loop μ-loop) (b : Sofar)
     (c .take-run .result) (c .take-run .last .1 .1 .1 .1 .1 .1 .1 .1 .0) (c .take-run .last .1 .1 .1 .1 .1 .1 .1 .1 .1 .0)
     (c .take-run .last .1 .1 .1 .1 .1 .1 .1 .1 .1 .1 .0) (c .take-run .last .1 .1 .1 .1 .1 .1 .1 .1 .1 .1 .1 .0)
     (c .take-run .last .1 .1 .1 .1 .1 .1 .1 .1 .1 .1 .1 .1 .0)
-went c b k = rw (← c .before .before .before .before .before .before .end-of .ensures) (c .take-run .ensures b k)
+went c b k = rw (← ended c .end-of .ensures) (c .take-run .ensures b k)
 
 same-length : tie.Need-same-length Inv-loop μ-loop
 same-length c = let k = taken (c .before) in k .take-run .kept .1 .1 .1 .1 .1 .1 .1 .1 .0 ∙ turn k .loop .inv .2
@@ -331,6 +378,9 @@ serve-spec =
     unpack-requires
     cast-p
     cast-q
+    mul-from
+    element-copy-out-from
+    cast-from
     add-to
     mul-to
     element-copy-out-to
@@ -344,6 +394,7 @@ serve-spec =
     mul-i
     element-copy-out-i
     cast-i
+    only-label-requires
     loop-holds
     cast-next-run
     next-run-requires

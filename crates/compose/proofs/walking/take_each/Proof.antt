@@ -9,7 +9,7 @@ use Prim.Native.Nat.{ℕ, suc, _-_, _≤_, _<_}
 use native.Mathlib.Omega.{arith}
 use lib.ListN.{length, getD}
 use Rattle.wire.specs.Bytes.{Bytes}
-use Rattle.transducer.specs.Format.{decode}
+use Rattle.transducer.specs.Format.{max-arcs, max-states, decode}
 use Rattle.explore.specs.Chain.{Chained}
 use Rattle.explore.specs.Walk.{Sofar, Walked, all-taken}
 use Rattle.explore.proofs.Search.{Searching, search-first, search-le, search-in, search-less, search-found, search-next, search-none}
@@ -165,7 +165,7 @@ sub-next : tie.Need-sub-next Inv-loop2 μ-loop2 Inv-loop μ-loop
 sub-next c = search needs
 
 -- The key at hand is stored.
-in-range : (c : tie.Else1 Inv-loop2 μ-loop2 Inv-loop μ-loop) → c .before .loop2 .next - 1 < 1024
+in-range : (c : tie.Else1 Inv-loop2 μ-loop2 Inv-loop μ-loop) → c .before .loop2 .next - 1 < max-states
 in-range c =
     let k = keys (c .before) in
     omega (arith, search-in (k .1) (c .before .loop2 .inv .0 (k .0) (k .1)) (c .if1 .left) .0, k .1 .few)
@@ -263,7 +263,7 @@ gone-on c k next b was =
 
 -- The link to the next step
 
-few : (c : tie.At-loop Inv-loop2 μ-loop2 Inv-loop μ-loop) → length (decode (start c .args .right .now) .arcs) ≤ 3072
+few : (c : tie.At-loop Inv-loop2 μ-loop2 Inv-loop μ-loop) → length (decode (start c .args .right .now) .arcs) ≤ max-arcs
 few c =
     let s = start c in
     let bytes : Bytes (s .args .right .now) = λ i. omega (arith, c .before .before .before .before .shared-slice-known .given i) in
@@ -273,7 +273,7 @@ few c =
 below : (c : tie.After-record-step Inv-loop2 μ-loop2 Inv-loop μ-loop) → turn c .loop .j < start (turn c) .args .to
 below c = stepped (found c .before) .before .loop-test .taken
 
-in-links : (c : tie.After-record-step Inv-loop2 μ-loop2 Inv-loop μ-loop) → turn c .loop .j < 3072
+in-links : (c : tie.After-record-step Inv-loop2 μ-loop2 Inv-loop μ-loop) → turn c .loop .j < max-arcs
 in-links c =
     let t = turn c in
     omega (arith, below c, few t, t .loop .inv .1 .inside (start t .pre .0 .3))

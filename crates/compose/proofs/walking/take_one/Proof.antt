@@ -6,7 +6,7 @@ use Prim.Native.Nat.{ℕ, suc, _≤_, _<_}
 use native.Mathlib.Omega.{arith}
 use lib.Dec.{eqb}
 use lib.ListN.{length}
-use Rattle.transducer.specs.Format.{decode}
+use Rattle.transducer.specs.Format.{max-states, decode}
 use Rattle.explore.specs.Explore.{place}
 use Rattle.explore.specs.Chain.{Chained}
 use Rattle.explore.specs.Walk.{Sofar, Walked, all-taken}
@@ -69,7 +69,7 @@ number-is : (c : tie.After-find) (xs : List ℕ) → Chained xs (start c .args .
     → length xs ≡ start c .args .w .states → c .find .result ≡ place eqb (stepped c .step-of .result .target) xs
 number-is c xs chained long = c .find .ensures xs chained long
 
-number-le : (c : tie.After-find) → c .find .result ≤ 1024
+number-le : (c : tie.After-find) → c .find .result ≤ max-states
 number-le c =
     let k = start c .pre .1 in
     omega (
@@ -98,7 +98,7 @@ returns-2 c = λ b k.
     (number-is found (g .sofar .keys) (w .chained) (sym (w .states-are))) (c .if2 .taken))
 
 -- Fewer than 1,024 keys, or the key is one of them.
-number-lt : (c : tie.Else2) → c .before .find .result < 1024
+number-lt : (c : tie.Else2) → c .before .find .result < max-states
 number-lt c = omega (arith, number-le (c .before), c .if2 .left)
 
 store-new-requires : tie.Need-store-new-requires

@@ -5,7 +5,7 @@ use mathlib.Core.List.{[]}
 use Prim.Native.Nat.{_-_, _<_}
 use native.Mathlib.Omega.{arith}
 use lib.ListN.{length}
-use Rattle.transducer.specs.Format.{decode, Good}
+use Rattle.transducer.specs.Format.{max-states, decode, Good}
 use Rattle.transducer.proofs.RoundTrip.{accepted-good}
 use Rattle.explore.specs.Explore.{there}
 use Rattle.explore.proofs.Chain.{chained-zeros}
@@ -29,7 +29,7 @@ Inv-loop left lfirst lindex right rfirst rindex rheads chain again exact first t
 abbrev μ-loop : tie.MeasureT-loop
 μ-loop left lfirst lindex right rfirst rindex rheads chain again exact first table₀ origins₀ states₀ heads₀ links₀ walk₀ s₀
     table origins states heads links walk s =
-    1024 - s
+    max-states - s
 
 -- Places to look back to: the start, the first state stored, the loop's head, the turn in which a state is served.
 abbrev start : tie.After-shared-slice-known2 Inv-loop μ-loop → tie.Start Inv-loop μ-loop
@@ -98,7 +98,7 @@ serve-requires c κs =
     )
 
 -- The state served has a number below 1,024.
-small : (c : tie.Then1 Inv-loop μ-loop) → head c .loop .s < 1024
+small : (c : tie.Then1 Inv-loop μ-loop) → head c .loop .s < max-states
 small c = walking-small (keying (lent (begun (head c)))) 2 (head c .loop .inv .0) (c .if1 .taken)
 
 same-length : tie.Need-same-length Inv-loop μ-loop

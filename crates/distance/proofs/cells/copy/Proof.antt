@@ -5,7 +5,8 @@ use Prim.Native.Nat.{_-_, _≤_}
 use native.Mathlib.Omega.{arith}
 use mir.Syntax.{w64}
 use mir.Facts.{toZ-ofZ}
-use Rattle.distance.specs.Nearest.{cost-at, cost-told}
+use Rattle.relax.specs.Nearest.{cost-at}
+use Rattle.distance.specs.Ended.{cost-told}
 use Rattle.distance.specs.Entry.{Copied}
 use Rattle.distance.proofs.Written.{cost-back, copied-first, copied-next}
 use Rattle.distance.proofs.cells.copy.Statement.{statement}
@@ -23,20 +24,20 @@ loop-holds c = (omega arith, copied-first _ _)
 mul-told : tie.Need-mul-told Inv-loop μ-loop
 mul-told c = search needs
 
-element-copy-out-told : tie.Need-element-copy-out-told Inv-loop μ-loop
-element-copy-out-told c = search needs
+shared-slice-copy-out-told : tie.Need-shared-slice-copy-out-told Inv-loop μ-loop
+shared-slice-copy-out-told c = search needs
 
 told-requires : tie.Need-told-requires Inv-loop μ-loop
 told-requires c κs = tt
 
-mul-t11 : tie.Need-mul-t11 Inv-loop μ-loop
-mul-t11 c = search needs
+mul-t10 : tie.Need-mul-t10 Inv-loop μ-loop
+mul-t10 c = search needs
 
 slice-set-from-cells : tie.Need-slice-set-from-cells Inv-loop μ-loop
 slice-set-from-cells c =
     let turn = c .before .before in
     let pre = turn .before .before .pre in
-    omega (arith, turn .loop-test .taken, pre .0, pre .1, turn .before .loop .inv .1 .long)
+    omega (arith, turn .loop-test .taken, pre .0, pre .2, turn .before .loop .inv .1 .long)
 
 add-s : tie.Need-add-s Inv-loop μ-loop
 add-s c = search needs
@@ -50,9 +51,9 @@ loop-again c =
     let start = turn .before .before in
     let now' = turn .before .loop in
     let costs = start .args .costs .now in
-    let is = c .told .ensures ∙ ap cost-told (cost-back (cost-at costs (now' .s)) (start .pre .2 (now' .s)) (start .pre .3 (now' .s))) in (
+    let is = c .told .ensures ∙ ap cost-told (cost-back (cost-at costs (now' .s)) (start .pre .3 (now' .s)) (start .pre .4 (now' .s))) in (
       omega (arith, turn .loop-test .taken),
-      copied-next (now' .s) costs (start .args .cells .now) (now' .cells) (now' .inv .1) (omega (arith, turn .loop-test .taken, start .pre .0, start .pre .1)) _
+      copied-next (now' .s) costs (start .args .cells .now) (now' .cells) (now' .inv .1) (omega (arith, turn .loop-test .taken, start .pre .0, start .pre .2)) _
           (toZ-ofZ {w = w64} {z = c .told .result} (record { sfits = c .told .ok }) ∙ is),
     )
 
@@ -72,9 +73,9 @@ copy-spec =
     μ-loop
     loop-holds
     mul-told
-    element-copy-out-told
+    shared-slice-copy-out-told
     told-requires
-    mul-t11
+    mul-t10
     slice-set-from-cells
     add-s
     loop-less

@@ -9,13 +9,13 @@ copy-requires : tie.Need-copy-requires
 copy-requires c κs = c .before .pre
 
 fill-requires : tie.Need-fill-requires
-fill-requires c κs = let copied = c .before .before in let pre = copied .before .before .pre in (pre .0, omega (arith, pre .1, copied .copy .ensures .long))
+fill-requires c κs = let copied = c .before .before in let pre = copied .before .before .pre in (pre .0, omega (arith, pre .2, copied .copy .ensures .long))
 
 fill-requires-2 : tie.Need-fill-requires-2
 fill-requires-2 c κs =
     let filled = c .before .before in
     let copied = filled .before .before .before in
-    (omega (arith, copied .before .before .pre .1, copied .copy .ensures .long, filled .fill .ensures .long), omega arith)
+    (omega (arith, copied .before .before .pre .2, copied .copy .ensures .long, filled .fill .ensures .long), omega arith)
 
 same-length : tie.Need-same-length
 same-length c =
@@ -28,7 +28,7 @@ returns c =
     let filled = c .before .before .before .before in
     let copied = filled .before .before .before in
     let start = copied .before .before in
-    put-all (start .args .states) _ (start .args .costs .now) (start .args .cells .now) _ _ _ (start .pre .0) (start .pre .1) refl (copied .copy .ensures)
+    put-all (start .args .states) _ (start .args .costs .now) (start .args .cells .now) _ _ _ (start .pre .0) (start .pre .2) refl (copied .copy .ensures)
     (filled .fill .ensures) (c .before .fill2 .ensures)
 
 pub put-spec : {M : Type 1} → statement M

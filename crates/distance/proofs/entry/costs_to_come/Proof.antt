@@ -1,15 +1,15 @@
--- `costs-bad` to `costs-told` say what is answered in each case; what the calls ask for is what was prepared.
+-- `costs-bad` and `costs-short` say what is refused at once; the rest is answered by arrays of zeros that are long enough (`cleared`).
 use borrow.Author.Needs.{needs}
-use borrow.Author.Tests.{not-true, not-false}
-use mathlib.Core.Path.{_≡_, refl, sym, _∙_}
+use mathlib.Core.Path.{_≡_, sym, _∙_}
+use Prim.Native.Nat.{ℕ}
 use native.Mathlib.Omega.{arith}
-use mir.Syntax.{w32}
-use mir.Facts.{toZ-ofZ}
 use Rattle.wire.specs.Bytes.{Bytes}
-use Rattle.transducer.specs.Format.{refusal, decode}
-use Rattle.paths.proofs.Ready.{Sized, sized}
-use Rattle.distance.proofs.EmptyPaths.{nearing-first, no-sizes, none-yet, cells-first, plain-rising}
-use Rattle.distance.proofs.Answers.{costs-bad, costs-short, costs-fall, costs-told}
+use Rattle.transducer.specs.Format.{max-states, refusal, decode}
+use Rattle.transducer.specs.Weight.{no-weight}
+use Rattle.reach.proofs.Sized.{Sized, sized}
+use Rattle.relax.specs.Begun.{small}
+use Rattle.relax.proofs.EmptyPaths.{cleared}
+use Rattle.distance.proofs.Answers.{costs-bad, costs-short}
 use Rattle.distance.proofs.entry.costs_to_come.Statement.{statement}
 use Rattle.distance.proofs.entry.costs_to_come.Tie as tie
 
@@ -19,18 +19,6 @@ at-refusal c = c .before .before
 
 abbrev start : tie.Else2 → tie.Start
 start c = at-refusal c .before .before
-
-abbrev passed : tie.After-begin → tie.Else2
-passed c = c .before .before .before
-
-abbrev begun-at : tie.After-is-plain → tie.After-begin
-begun-at c = c .before .before .before
-
-abbrev looked : tie.After-by-states → tie.After-is-plain
-looked c = c .before .before
-
-abbrev shape : tie.After-distances → tie.After-begin
-shape c = begun-at (looked (c .before .before .before .before .before))
 
 -- The bytes are accepted.
 is-bytes : (c : tie.Else2) → Bytes (start c .args .table .now)
@@ -55,72 +43,47 @@ returns-2 c =
     let a = c .before .before .before .before .args in
     costs-short (a .table .now) (a .cells .now) (c .before .before .look .ensures .refusal-is) (c .before .if1 .left) (c .if2 .taken)
 
-begin-requires : tie.Need-begin-requires
-begin-requires c κs = (accepted (c .before .before), refl, refl)
+is-small-requires : tie.Need-is-small-requires
+is-small-requires c κs = accepted c
 
-is-plain-requires : tie.Need-is-plain-requires
-is-plain-requires c κs = c .before .before .begin .ensures .few-states
+slice-aggregate-costs-by : tie.Need-slice-aggregate-costs-by
+slice-aggregate-costs-by c = search needs
 
-by-states-requires : tie.Need-by-states-requires
-by-states-requires c κs = tt
+slice-aggregate-costs-by-2 : tie.Need-slice-aggregate-costs-by-2
+slice-aggregate-costs-by-2 c = search needs
 
-distances-requires : tie.Need-distances-requires
-distances-requires c κs =
-    let asked = c .before .before .before .before in
-    let look = looked asked in
-    let begun = begun-at look in
-    let known = begun .begin .ensures in
-    let own = known .own in
-    let costs = begun .begin .last .1 .1 .0 in
-    let at = passed begun in
-    let least = toZ-ofZ {w = w32} {z = at-refusal at .look .result .least} (record { sfits = look .before .struct-told .given .1 .0 .1 }) in (
-      known .opened,
-      known .states-are,
-      known .arcs-are,
-      known .start-is,
-      known .indexed,
-      (λ e.
-          let told = look .is-plain .ensures e in
-          plain-rising (decode (start at .args .table .now)) (size at) (own .codes) costs (own .finals) (own .made) (known .states-are)
-          (at-refusal at .look .ensures .light (accepted at)) (at-refusal at .look .ensures .written (accepted at) (told .0)) (rw least at (told .1))),
-      (λ e.
-          let known' = asked .by-states .ensures e in
-          record {
-            up = at-refusal at .look .ensures .rises (accepted at) (known' .1);
-            writes = at-refusal at .look .ensures .written (accepted at) (known' .0);
-            good = known' .2;
-            negative = known' .3;
-            light = rw least (at-refusal at .look .ensures .light (accepted at));
-          }),
-      nearing-first (decode (start at .args .table .now)) (size at) (own .codes) costs no-sizes (own .finals) (own .made) none-yet,
-      cells-first costs (own .long) (own .low) (own .high),
-    )
-
-returns-3 : tie.Need-returns-3
-returns-3 c =
-    let at = c .before in
-    let all = passed (shape at) in
-    let a = start all .args in
-    costs-fall (a .table .now) (a .cells .now) (at-refusal all .look .ensures .refusal-is) (all .before .if1 .left) (all .if2 .left) (size all)
-    (at .distances .ensures) (not-true (at .distances .result) (c .if3 .taken))
-
-put-requires : tie.Need-put-requires
-put-requires c κs =
-    let at = c .before .before .before in
-    let cells = at .distances .ensures .cells in
-    (shape at .begin .ensures .few-states, passed (shape at) .if2 .left, cells .low, cells .high)
+costs-by-requires : tie.Need-costs-by-requires
+costs-by-requires c κs =
+    let few = c .before .before .before in
+    let at = few .before .before in
+    let n = decode (start at .args .table .now) .states in
+    let most = few .before .is-small .ensures (few .if3 .taken) in
+    (at-refusal at .look .ensures, at .before .if1 .left, cleared no-weight n small most, cleared {A = ℕ} 0 n small most, at .if2 .left)
 
 same-length : tie.Need-same-length
 same-length c = search needs
 
+returns-3 : tie.Need-returns-3
+returns-3 c = c .before .before .before .costs-by .ensures
+
+slice-aggregate-costs-by-3 : tie.Need-slice-aggregate-costs-by-3
+slice-aggregate-costs-by-3 c = search needs
+
+slice-aggregate-costs-by-4 : tie.Need-slice-aggregate-costs-by-4
+slice-aggregate-costs-by-4 c = search needs
+
+costs-by-requires-2 : tie.Need-costs-by-requires-2
+costs-by-requires-2 c κs =
+    let at = c .before .before .before .before .before in
+    let n = decode (start at .args .table .now) .states in
+    let most = size at .states in
+    (at-refusal at .look .ensures, at .before .if1 .left, cleared no-weight n max-states most, cleared {A = ℕ} 0 n max-states most, at .if2 .left)
+
+same-length-2 : tie.Need-same-length-2
+same-length-2 c = search needs
+
 returns-4 : tie.Need-returns-4
-returns-4 c =
-    let settled = c .before .before .before .before in
-    let at = settled .before in
-    let all = passed (shape at) in
-    let a = start all .args in
-    costs-told (a .table .now) (a .cells .now) (at-refusal all .look .ensures .refusal-is) (all .before .if1 .left) (all .if2 .left) (size all)
-    (at .distances .ensures) (not-false (at .distances .result) (settled .if3 .left)) (shape at .begin .ensures .states-are) (c .before .put .ensures)
+returns-4 c = c .before .before .before .costs-by2 .ensures
 
 pub costs-to-come-spec : {M : Type 1} → statement M
 costs-to-come-spec =
@@ -129,11 +92,14 @@ costs-to-come-spec =
     look-requires
     returns
     returns-2
-    begin-requires
-    is-plain-requires
-    by-states-requires
-    distances-requires
-    returns-3
-    put-requires
+    is-small-requires
+    slice-aggregate-costs-by
+    slice-aggregate-costs-by-2
+    costs-by-requires
     same-length
+    returns-3
+    slice-aggregate-costs-by-3
+    slice-aggregate-costs-by-4
+    costs-by-requires-2
+    same-length-2
     returns-4)

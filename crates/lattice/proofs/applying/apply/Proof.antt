@@ -3,6 +3,7 @@ use borrow.Author.Needs.{needs}
 use borrow.Author.Tests.{not-true, not-false}
 use mathlib.Core.Path.{_≡_, sym, _∙_}
 use mathlib.Core.Bool.{true}
+use Rattle.transducer.specs.Format.{refusal}
 use Rattle.lattice.specs.Apply.{string-good}
 use Rattle.lattice.proofs.ApplySays.{says-bytes, says-string, says-table, says-origins, says-pairs, ready, says-into}
 use Rattle.lattice.proofs.applying.apply.Statement.{statement}
@@ -18,7 +19,16 @@ entry c = c .before .before .before .before .before .before
 abbrev all-tested : tie.After-apply-into → tie.Else5
 all-tested c = c .before .before .before .before .before
 
--- The string is good where its test is passed.
+abbrev string-tested : tie.Else5 → tie.Else1
+string-tested c = c .before .before .before .before .before
+
+abbrev applied-into : tie.After-slice-known6 → tie.After-apply-into
+applied-into c = c .before .before .before .before .before .before
+
+-- The table is accepted and the string is good where their tests are passed.
+accepted : (c : tie.Else1) → refusal (entry (c .before) .args .table .now) ≡ 0
+accepted c = sym (c .before .look .ensures .refusal-is) ∙ c .if1 .left
+
 fine : (c : tie.Else2) → true ≡ string-good (entry (read c) .args .string .now)
 fine c = let s = c .before .string-ok in sym (not-false (s .result) (c .if2 .left)) ∙ s .ensures
 
@@ -41,9 +51,9 @@ refused-requires-2 c κs = tt
 
 returns-2 : tie.Need-returns-2
 returns-2 c =
-    let s = c .before .before .string-ok in
-    let n = c .before .before .before .before .look in
-    says-string _ _ _ _ _ (n .result .refusal) (n .ensures .refusal-is) (c .before .before .before .if1 .left)
+    let tested = c .before .before in
+    let s = tested .string-ok in
+    says-string _ _ _ _ _ (accepted (tested .before))
     (sym (not-true (s .result) (c .before .if2 .taken)) ∙ s .ensures) _ (c .refused2 .ensures)
 
 refused-requires-3 : tie.Need-refused-requires-3
@@ -52,9 +62,7 @@ refused-requires-3 c κs = tt
 returns-3 : tie.Need-returns-3
 returns-3 c =
     let else2 = c .before .before in
-    let n = read else2 .look in
-    says-table _ _ _ _ _ (n .result .refusal) (n .ensures .refusal-is) (else2 .before .before .if1 .left) (fine else2)
-    (c .before .if3 .taken) _ (c .refused3 .ensures)
+    says-table _ _ _ _ _ (accepted (else2 .before .before)) (fine else2) (c .before .if3 .taken) _ (c .refused3 .ensures)
 
 refused-requires-4 : tie.Need-refused-requires-4
 refused-requires-4 c κs = tt
@@ -62,8 +70,7 @@ refused-requires-4 c κs = tt
 returns-4 : tie.Need-returns-4
 returns-4 c =
     let else2 = c .before .before .before in
-    let n = read else2 .look in
-    says-origins _ _ _ _ _ (n .result .refusal) (n .ensures .refusal-is) (else2 .before .before .if1 .left) (fine else2) (c .before .before .if3 .left)
+    says-origins _ _ _ _ _ (accepted (else2 .before .before)) (fine else2) (c .before .before .if3 .left)
     (c .before .if4 .taken) _ (c .refused4 .ensures)
 
 refused-requires-5 : tie.Need-refused-requires-5
@@ -72,27 +79,22 @@ refused-requires-5 c κs = tt
 returns-5 : tie.Need-returns-5
 returns-5 c =
     let else2 = c .before .before .before .before in
-    let n = read else2 .look in
-    says-pairs _ _ _ _ _ (n .result .refusal) (n .ensures .refusal-is) (else2 .before .before .if1 .left) (fine else2) (c .before .before .before .if3 .left)
+    says-pairs _ _ _ _ _ (accepted (else2 .before .before)) (fine else2) (c .before .before .before .if3 .left)
     (c .before .before .if4 .left) (c .before .if5 .taken) _ (c .refused5 .ensures)
 
 all-named-requires : tie.Need-all-named-requires
 all-named-requires c κs =
-    let else2 = c .before .before .before in
-    let n = read else2 .look .ensures in
-    let ok = sym (n .refusal-is) ∙ else2 .before .before .if1 .left in
-    (ok, n .by-name ok)
+    let tested = string-tested c in
+    (accepted tested, tested .before .look .ensures .by-name (accepted tested))
 
 apply-into-requires : tie.Need-apply-into-requires
 apply-into-requires c κs =
     let told = c .before .before .before .all-named in
     let else5 = c .before .before .before .before in
     let else2 = else5 .before .before .before in
-    let n = read else2 .look in
     let x = entry (read else2) .args in
-    ready (x .string .now) (x .table .now) (x .lattice .now) (x .origins .now) (x .pairs .now) (n .result .refusal) (n .ensures .refusal-is)
-    (else2 .before .before .if1 .left) (fine else2) (else5 .before .before .if3 .left) (else5 .before .if4 .left) (else5 .if5 .left)
-    (told .result) (told .ensures)
+    ready (x .string .now) (x .table .now) (x .lattice .now) (x .origins .now) (x .pairs .now) (accepted (else2 .before .before)) (fine else2)
+    (else5 .before .before .if3 .left) (else5 .before .if4 .left) (else5 .if5 .left) (told .result) (told .ensures)
 
 same-length : tie.Need-same-length
 same-length c = search needs
@@ -105,12 +107,11 @@ same-length-3 c = search needs
 
 returns-6 : tie.Need-returns-6
 returns-6 c =
-    let into = c .before .before .before .before .before .before in
+    let into = applied-into c in
     let else5 = all-tested into in
     let else2 = else5 .before .before .before in
-    let n = read else2 .look in
-    says-into _ _ _ _ _ (n .result .refusal) (n .ensures .refusal-is) (else2 .before .before .if1 .left) (fine else2)
-    (else5 .before .before .if3 .left) (else5 .before .if4 .left) (else5 .if5 .left) _ _ _ _ (into .apply-into .ensures)
+    says-into _ _ _ _ _ (accepted (else2 .before .before)) (fine else2) (else5 .before .before .if3 .left) (else5 .before .if4 .left)
+    (else5 .if5 .left) _ _ _ _ (into .apply-into .ensures)
 
 pub apply-spec : {M : Type 1} → statement M
 apply-spec =

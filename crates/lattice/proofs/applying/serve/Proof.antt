@@ -87,6 +87,9 @@ arc-read c = at-arc (at-pack c .before)
 abbrev join-of : tie.After-take-step Inv-loop μ-loop → tie.Joined1 Inv-loop μ-loop
 join-of c = at-join (at-pack c .before)
 
+abbrev packed : tie.After-take-step-arg5 Inv-loop μ-loop → tie.After-struct-known2 Inv-loop μ-loop
+packed c = c .before .before .before .before .before .before
+
 -- The transducer, and the key of the state served.
 abbrev table-of : tie.Start Inv-loop μ-loop → Transducer
 table-of c = decode (c .args .bytes .now)
@@ -339,7 +342,7 @@ went c b k =
 
 take-step-requires : tie.Need-take-step-requires Inv-loop μ-loop
 take-step-requires c κs =
-    let at = at-arc (c .before .before .before .before .before .before) in
+    let at = at-arc (packed c) in
     let pre = start (opened (at-turn at)) .pre in
     let g = at-turn at .loop .inv .0 (pre .1 .0) (pre .1 .1) in
     (omega (arith, number-lt (at .before)), (g .sofar, g .walked))

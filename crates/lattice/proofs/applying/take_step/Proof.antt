@@ -39,9 +39,12 @@ at-record c = c .before .before
 abbrev joined : tie.After-slice-known5 → tie.Joined2
 joined c = at-record c .before .before .before
 
+abbrev start-of-find : tie.After-find-arg3 → tie.Start
+start-of-find c = c .before .before .before .before .before .before
+
 find-requires : tie.Need-find-requires
 find-requires c κs =
-    let k = c .before .before .before .before .before .before .pre .1 in
+    let k = start-of-find c .pre .1 in
     (k .0 .keys, k .1 .chained, sym (k .1 .states-are))
 
 same-length : tie.Need-same-length

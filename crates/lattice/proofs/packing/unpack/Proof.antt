@@ -1,7 +1,8 @@
 -- The code is the definition: a mask of ones is the remainder.
 use mathlib.Core.Path.{_≡_}
-use Prim.Native.Nat.{_%_}
+use Prim.Native.Nat.{_-_, _%_}
 use lib.Bits.{bitAnd, and-mask}
+use Rattle.transducer.specs.Format.{max-states}
 use Rattle.lattice.specs.Pack.{unpacked}
 use Rattle.lattice.proofs.packing.unpack.Statement.{statement}
 use Rattle.lattice.proofs.packing.unpack.Tie as tie
@@ -9,7 +10,7 @@ use Rattle.lattice.proofs.packing.unpack.Tie as tie
 returns : tie.Need-returns
 unfolding unpacked
 returns c =
-    let state : bitAnd (c .args .key) 1023 ≡ c .args .key % 1024 = and-mask (c .args .key) 10 in
+    let state : bitAnd (c .args .key) (max-states - 1) ≡ c .args .key % max-states = and-mask (c .args .key) 10 in
     rw state
 
 pub unpack-spec : {M : Type 1} → statement M

@@ -18,6 +18,10 @@ Inv-loop bytes string₀ i₀ string i =
 abbrev μ-loop : tie.MeasureT-loop
 μ-loop bytes string₀ i₀ string i = most-loaded - i
 
+-- Places to look back to.
+abbrev start : tie.After-u16-at Inv-loop μ-loop → tie.Start Inv-loop μ-loop
+start c = c .before .before .before .before .before
+
 loop-holds : tie.Need-loop-holds Inv-loop μ-loop
 loop-holds c = (omega arith, omega arith, c .before .pre, refl)
 
@@ -53,7 +57,7 @@ loop-less c = omega arith
 loop-again : tie.Need-loop-again Inv-loop μ-loop
 loop-again c =
     let l = c .before .before .before .loop in
-    let x = c .before .before .before .before .before .args in (
+    let x = start c .args in (
       omega arith,
       omega arith,
       length-set (l .string) (l .i) (c .u16-at .result) ∙ l .inv .2,

@@ -12,11 +12,30 @@ use Rattle.listing.proofs.Steps.{Applying, odd-refused, apply-refused, 
 use Rattle.listing.proofs.entry.list_applied.Statement.{statement}
 use Rattle.listing.proofs.entry.list_applied.Tie as tie
 
+-- Places to look back to.
 abbrev loaded : tie.After-apply → tie.After-load-labels
 loaded c = c .before .before .before .before .before
 
 abbrev start : tie.After-apply → tie.Start
 start c = loaded c .before .before .before .before .before .before
+
+abbrev lent : tie.After-load-labels → tie.After-shared-slice-known
+lent c = c .before .before .before .before .before
+
+abbrev at-odd : tie.After-refuse-into-arg → tie.Start
+at-odd c = c .before .before .before .before .before
+
+abbrev at-refused : tie.After-refuse-into-arg2 → tie.After-apply
+at-refused c = c .before .before .before .before .before
+
+abbrev at-listed : tie.After-slice-known4 → tie.After-struct-known
+at-listed c = c .before .before .before .before .before
+
+abbrev refused-by : tie.Then2 → tie.After-apply
+refused-by c = c .before .before .before .before
+
+abbrev called : tie.After-struct-known → tie.After-apply
+called c = c .before .before .before .before .before
 
 abbrev string : tie.After-apply → List ℕ
 string c = take (loaded c .load-labels .result) (loaded c .load-labels .last .1 .0)
@@ -26,7 +45,7 @@ applying : (c : tie.After-apply)
     (replicate max-arcs 0) (c .apply .last .1 .1 .1 .0) (replicate max-states 0) (c .apply .last .1 .1 .1 .1 .0)
 applying c =
     record {
-      bytes = λ i. omega (arith, loaded c .before .before .before .before .before .shared-slice-known .given i);
+      bytes = λ i. omega (arith, lent (loaded c) .shared-slice-known .given i);
       accepted = start c .pre .0;
       even = loaded c .before .before .if1 .left;
       string = loaded c .load-labels .ensures .labels;
@@ -36,14 +55,8 @@ applying c =
       says = c .apply .ensures;
     }
 
-abbrev refused-by : tie.Then2 → tie.After-apply
-refused-by c = c .before .before .before .before
-
-abbrev called : tie.After-struct-known → tie.After-apply
-called c = c .before .before .before .before .before
-
 refuse-into-requires : tie.Need-refuse-into-requires
-refuse-into-requires c κs = c .before .before .before .before .before .pre .1
+refuse-into-requires c κs = at-odd c .pre .1
 
 same-length : tie.Need-same-length
 same-length c = c .before .before .refuse-into .kept .1 .0
@@ -79,7 +92,7 @@ apply-requires : tie.Need-apply-requires
 apply-requires c κs = tt
 
 refuse-into-requires-2 : tie.Need-refuse-into-requires-2
-refuse-into-requires-2 c κs = start (c .before .before .before .before .before) .pre .1
+refuse-into-requires-2 c κs = start (at-refused c) .pre .1
 
 same-length-2 : tie.Need-same-length-2
 same-length-2 c = c .before .before .refuse-into2 .kept .1 .0
@@ -115,7 +128,7 @@ same-length-3 c = c .before .before .list-into .kept .1 .0
 
 returns-3 : tie.Need-returns-3
 returns-3 c =
-    let known = c .before .before .before .before .before in
+    let known = at-listed c in
     let asked = called known in
     lattice-listed (applying asked) (known .before .if2 .left) (c .before .before .list-into .ensures)
 

@@ -10,27 +10,40 @@ use Rattle.listing.proofs.Steps.{Composing, compose-refused, composed-f
 use Rattle.listing.proofs.entry.list_composed.Statement.{statement}
 use Rattle.listing.proofs.entry.list_composed.Tie as tie
 
-abbrev start : tie.After-compose → tie.Start
-start c = c .before .before .before .before .before .before .before .before
+-- Places to look back to.
+abbrev lent-right : tie.After-compose → tie.After-shared-slice-known2
+lent-right c = c .before .before .before .before .before .before
 
-composing : (c : tie.After-compose)
-    → Composing (start c .args .left .now) (start c .args .right .now) (c .compose .result) (replicate max-bytes 0) (c .compose .last .1 .1 .0)
-    (replicate max-origins 0) (c .compose .last .1 .1 .1 .0) (replicate max-states 0) (c .compose .last .1 .1 .1 .1 .0)
-composing c =
-    record {
-      left = λ i. omega (arith, c .before .before .before .before .before .before .before .shared-slice-known .given i);
-      right = λ i. omega (arith, c .before .before .before .before .before .before .shared-slice-known2 .given i);
-      table-room = length-replicate {A = ℕ} max-bytes 0;
-      origins-room = length-replicate {A = ℕ} max-origins 0;
-      states-room = length-replicate {A = ℕ} max-states 0;
-      says = c .compose .ensures;
-    }
+abbrev lent-left : tie.After-compose → tie.After-shared-slice-known
+lent-left c = lent-right c .before
+
+abbrev start : tie.After-compose → tie.Start
+start c = lent-left c .before
+
+abbrev at-refused : tie.After-refuse-into-arg → tie.After-compose
+at-refused c = c .before .before .before .before .before
+
+abbrev at-applied : tie.After-slice-known3 → tie.After-struct-known
+at-applied c = c .before .before .before .before .before
 
 abbrev refused-by : tie.Then1 → tie.After-compose
 refused-by c = c .before .before .before .before
 
 abbrev called : tie.After-struct-known → tie.After-compose
 called c = c .before .before .before .before .before
+
+composing : (c : tie.After-compose)
+    → Composing (start c .args .left .now) (start c .args .right .now) (c .compose .result) (replicate max-bytes 0) (c .compose .last .1 .1 .0)
+    (replicate max-origins 0) (c .compose .last .1 .1 .1 .0) (replicate max-states 0) (c .compose .last .1 .1 .1 .1 .0)
+composing c =
+    record {
+      left = λ i. omega (arith, lent-left c .shared-slice-known .given i);
+      right = λ i. omega (arith, lent-right c .shared-slice-known2 .given i);
+      table-room = length-replicate {A = ℕ} max-bytes 0;
+      origins-room = length-replicate {A = ℕ} max-origins 0;
+      states-room = length-replicate {A = ℕ} max-states 0;
+      says = c .compose .ensures;
+    }
 
 slice-aggregate-compose : tie.Need-slice-aggregate-compose
 slice-aggregate-compose c = search needs
@@ -45,7 +58,7 @@ compose-requires : tie.Need-compose-requires
 compose-requires c κs = tt
 
 refuse-into-requires : tie.Need-refuse-into-requires
-refuse-into-requires c κs = start (c .before .before .before .before .before) .pre
+refuse-into-requires c κs = start (at-refused c) .pre
 
 same-length : tie.Need-same-length
 same-length c = c .before .before .refuse-into .kept .1 .0
@@ -82,7 +95,7 @@ same-length-2 c = c .before .before .list-applied .kept .1 .1 .0
 
 returns-2 : tie.Need-returns-2
 returns-2 c =
-    let known = c .before .before .before .before .before in
+    let known = at-applied c in
     let asked = called known in
     composed-listed (start asked .args .bytes .now) (composing asked) (known .before .if1 .left) (c .before .before .list-applied .ensures)
 

@@ -4,9 +4,13 @@ use Rattle.listing.proofs.Steps.{says-short, says-whole}
 use Rattle.listing.proofs.entry.listing.Statement.{statement}
 use Rattle.listing.proofs.entry.listing.Tie as tie
 
+-- Places to look back to.
+abbrev start : tie.Then1 → tie.Start
+start c = c .before .before .before .before .before
+
 returns : tie.Need-returns
 returns c =
-    let x = c .before .before .before .before .before .args in
+    let x = start c .args in
     says-short (x .left .now) (x .right .now) (x .bytes .now) (x .out .now) (omega (arith, c .if1 .taken))
 
 list-composed-requires : tie.Need-list-composed-requires

@@ -17,33 +17,46 @@ use Rattle.listing.proofs.NthLine.{counted-many, counted-few}
 use Rattle.listing.proofs.lines.put_counted.Statement.{statement}
 use Rattle.listing.proofs.lines.put_counted.Tie as tie
 
+-- Places to look back to.
 abbrev start : tie.After-slice-known → tie.Start
 start c = c .before .before
+
+abbrev many : tie.Then1 → tie.After-slice-known
+many c = c .before .before .before
+
+abbrev few : tie.Else1 → tie.After-slice-known
+few c = c .before .before .before
+
+abbrev many-put : tie.After-slice-known2 → tie.Then1
+many-put c = c .before .before .before .before .before
+
+abbrev at-number : tie.After-put-decimal → tie.Else1
+at-number c = c .before .before
+
+abbrev newline-of : tie.After-slice-known5 → tie.After-put-byte
+newline-of c = c .before .before .before .before .before .before
+
+abbrev at-newline : tie.After-put-byte → tie.After-put-decimal
+at-newline c = c .before .before .before .before
 
 size : (c : tie.After-slice-known) → Sized (decode (start c .args .table .now))
 size c =
     let x = start c in
-    sized (x .args .table .now) (λ i. omega (arith, c .before .shared-slice-known .given i)) (x .pre .0 .prepared .opened .accepted)
+    sized (x .args .table .now) (λ i. omega (arith, c .before .shared-slice-known .given i)) (x .pre .0 .prepared .shaped .opened .accepted)
 
 -- The count at the start is that of all paths.
 count : (c : tie.After-slice-known) → at-state (start c .args .t5) (start c .args .shape .start) ≡ path-count (decode (start c .args .table .now))
 count c =
     let x = start c in
     let w = x .pre .0 in
-    start-count (decode (x .args .table .now)) (size c) (x .args .t5) (x .args .shape .start) {is = false} (w .settled) (w .prepared .start-is)
+    start-count (decode (x .args .table .now)) (size c) (x .args .t5) (x .args .shape .start) {is = false} (w .counts-are) (w .prepared .shaped .start-is)
     (sym (w .finite)) refl
-
-abbrev many : tie.Then1 → tie.After-slice-known
-many c = c .before .before .before
 
 is-many : (c : tie.Then1) → counted-text (decode (start (many c) .args .table .now)) ≡ many-word
 unfolding at-state
 is-many c =
     let x = start (many c) in
     counted-many (decode (x .args .table .now)) (at-state (x .args .t5) (x .args .shape .start)) (count (many c)) (c .if1 .taken)
-
-abbrev few : tie.Else1 → tie.After-slice-known
-few c = c .before .before .before
 
 abbrev number : (c : tie.Else1) → ℕ
 number c = at-state (start (few c) .args .t5) (start (few c) .args .shape .start)
@@ -63,7 +76,7 @@ room c =
     omega (arith, ap length (is-few c) ∙ length-append (decimal (number c)) (newline ∷ lines t (number c)), start (few c) .pre .1)
 
 array-copy-out-all : tie.Need-array-copy-out-all
-array-copy-out-all c = start c .pre .0 .prepared .start-below
+array-copy-out-all c = start c .pre .0 .prepared .shaped .start-below
 
 cast-count : tie.Need-cast-count
 cast-count c = search needs
@@ -82,7 +95,7 @@ same-length c = c .before .before .put-bytes .kept .0
 
 returns : tie.Need-returns
 unfolding many-word
-returns c = rw (is-many (c .before .before .before .before .before)) (c .before .before .put-bytes .ensures)
+returns c = rw (is-many (many-put c)) (c .before .before .put-bytes .ensures)
 
 cast-put-decimal : tie.Need-cast-put-decimal
 cast-put-decimal c = search needs
@@ -91,20 +104,11 @@ put-decimal-requires : tie.Need-put-decimal-requires
 unfolding at-state
 put-decimal-requires c κs = omega (arith, room (c .before))
 
-abbrev at-number : tie.After-put-decimal → tie.Else1
-at-number c = c .before .before
-
 put-byte-requires : tie.Need-put-byte-requires
 unfolding at-state
 put-byte-requires c κs =
     let put = c .before .before .before in
     omega (arith, put .put-decimal .ensures .ends, put .put-decimal .kept .0, room (at-number put))
-
-abbrev newline-of : tie.After-slice-known5 → tie.After-put-byte
-newline-of c = c .before .before .before .before .before .before
-
-abbrev at-newline : tie.After-put-byte → tie.After-put-decimal
-at-newline c = c .before .before .before .before
 
 put-paths-requires : tie.Need-put-paths-requires
 unfolding at-state

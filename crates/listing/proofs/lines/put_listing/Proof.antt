@@ -1,4 +1,4 @@
--- Two ways, by whether paths are infinitely many; what the calls ask for is what was prepared, and `walkable` is what the lines are handed.
+-- Two ways, by whether paths are infinitely many; what the calls ask for is what was prepared, and `all-counted` is what the lines are handed.
 use mathlib.Core.Path.{_≡_, refl, sym, ap, _∙_}
 use mathlib.Core.Bool.{true, false}
 use Prim.Native.Nat.{_≤_}
@@ -10,7 +10,7 @@ use Rattle.transducer.specs.Format.{decode}
 use Rattle.paths.specs.Count.{endless}
 use Rattle.paths.proofs.Ready.{sized, prepared-ready}
 use Rattle.listing.specs.Text.{readings-word, endless-word, listing-text, least-room}
-use Rattle.listing.specs.Walkable.{Walkable}
+use Rattle.listing.specs.PathsCounted.{Paths-counted}
 use Rattle.listing.proofs.Wrote.{wrote-then}
 use Rattle.listing.proofs.NthLine.{listing-endless, listing-finite, listing-short}
 use Rattle.listing.proofs.lines.put_listing.Statement.{statement}
@@ -38,24 +38,30 @@ word c = c .before .before
 abbrev finite-of : tie.After-put-counted-arg → tie.Else1
 finite-of c = c .before .before .before .before
 
+abbrev finite-way : tie.Else1 → tie.After-counts-by-state
+finite-way c = counted (word (c .before))
+
+abbrev word-put : tie.After-slice-known3 → tie.After-slice-known2
+word-put c = c .before .before .before .before .before .before
+
+abbrev endless-put : tie.After-slice-known3 → tie.Then1
+endless-put c = c .before .before .before .before .before
+
 short : (c : tie.After-slice-known) → length (listing-text (decode (start c .args .table .now))) ≤ least-room
 short c =
     let x = start c in
     let bytes : Bytes (x .args .table .now) = λ i. omega (arith, c .before .shared-slice-known .given i) in
     listing-short (decode (x .args .table .now)) (sized (x .args .table .now) bytes (x .pre .0))
 
-abbrev finite-way : tie.Else1 → tie.After-counts-by-state
-finite-way c = counted (word (c .before))
-
 finite : (c : tie.Else1) → endless (decode (start-of (finite-way c) .args .table .now)) ≡ false
 finite c = sym (finite-way c .counts-by-state .ensures .endless-is) ∙ c .if1 .left
 
-walkable : (c : tie.Else1)
-    → Walkable (start-of (finite-way c) .args .table .now) (prepared (finite-way c) .prepare .result) (prepared (finite-way c) .prepare .last .1 .0)
+all-counted : (c : tie.Else1)
+    → Paths-counted (start-of (finite-way c) .args .table .now) (prepared (finite-way c) .prepare .result) (prepared (finite-way c) .prepare .last .1 .0)
     (prepared (finite-way c) .prepare .last .1 .1 .0) (finite-way c .counts-by-state .result .counts)
-walkable c =
+all-counted c =
     let at = finite-way c in
-    record { prepared = prepared at .prepare .ensures; settled = at .counts-by-state .ensures .settled; finite = finite c }
+    record { prepared = prepared at .prepare .ensures; counts-are = at .counts-by-state .ensures .settled; finite = finite c }
 
 prepare-requires : tie.Need-prepare-requires
 prepare-requires c κs = (start (c .before .before) .pre .0, refl, refl)
@@ -63,7 +69,7 @@ prepare-requires c κs = (start (c .before .before) .pre .0, refl, refl)
 counts-by-state-requires : tie.Need-counts-by-state-requires
 counts-by-state-requires c κs =
     let known = c .before .before .prepare .ensures in
-    (prepared-ready known, known .start-is, known .finals)
+    (prepared-ready known, known .shaped .start-is, known .finals)
 
 slice-aggregate-put-bytes : tie.Need-slice-aggregate-put-bytes
 slice-aggregate-put-bytes c = search needs
@@ -80,12 +86,12 @@ put-bytes-requires-2 c κs =
     omega (arith, put .put-bytes .ensures .ends, put .put-bytes .kept .0, start-of (counted put) .pre .1)
 
 same-length : tie.Need-same-length
-same-length c = c .before .before .put-bytes2 .kept .0 ∙ word (c .before .before .before .before .before .before) .put-bytes .kept .0
+same-length c = c .before .before .put-bytes2 .kept .0 ∙ word (word-put c) .put-bytes .kept .0
 
 returns : tie.Need-returns
 unfolding readings-word endless-word
 returns c =
-    let at = c .before .before .before .before .before in
+    let at = endless-put c in
     let put = word (at .before) in
     let asked = counted put in
     let ends : endless (decode (start-of asked .args .table .now)) ≡ true = sym (asked .counts-by-state .ensures .endless-is) ∙ at .if1 .taken in
@@ -98,7 +104,7 @@ put-counted-requires c κs =
     let put = word (at .before) in
     let asked = counted put in
     let t = decode (start-of asked .args .table .now) in (
-      walkable at,
+      all-counted at,
       omega (
         arith,
         put .put-bytes .ensures .ends,

@@ -15,13 +15,20 @@ use Rattle.listing.proofs.NthLine.{Got, got, same-line}
 use Rattle.listing.proofs.lines.put_path.Statement.{statement}
 use Rattle.listing.proofs.lines.put_path.Tie as tie
 
+-- Places to look back to.
 abbrev start : tie.After-walk → tie.Start
 start c = c .before .before .before .before
+
+abbrev tell-of : tie.After-struct-known → tie.After-tell
+tell-of c = c .before .before .before .before
+
+abbrev behind-walk : tie.After-tell → tie.After-walk
+behind-walk c = c .before .before .before .before
 
 size : (c : tie.After-walk) → Sized (decode (start c .args .table .now))
 size c =
     let x = start c in
-    sized (x .args .table .now) (λ i. omega (arith, c .before .before .before .shared-slice-known .given i)) (x .pre .0 .prepared .opened .accepted)
+    sized (x .args .table .now) (λ i. omega (arith, c .before .before .before .shared-slice-known .given i)) (x .pre .0 .prepared .shaped .opened .accepted)
 
 abbrev walked : tie.After-walk → List ℕ
 walked c = c .walk .last .1 .1 .1 .1 .1 .1 .1 .1 .0
@@ -31,12 +38,6 @@ path c =
     let x = start c in
     found (decode (x .args .table .now)) (size c) (x .args .k) (c .walk .result) (replicate max-path 0) (walked c) (x .pre .0 .finite) (x .pre .1)
     (omega (arith, length-replicate {A = ℕ} max-path 0)) (c .walk .ensures .0) (c .walk .ensures .1)
-
-abbrev tell-of : tie.After-struct-known → tie.After-tell
-tell-of c = c .before .before .before .before
-
-abbrev behind-walk : tie.After-tell → tie.After-walk
-behind-walk c = c .before .before .before .before
 
 told : (c : tie.After-tell)
     → Got (decode (start (behind-walk c) .args .table .now)) (start (behind-walk c) .args .k) (c .tell .result) (c .tell .last .1 .1 .1 .1 .1 .1 .0)
@@ -58,7 +59,7 @@ walk-requires c κs =
     let x = c .before .before .before in
     let w = x .pre .0 in
     let p = w .prepared in
-    (prepared-ready p, p .finals, w .settled, p .start-is, w .finite, x .pre .1, omega (arith, length-replicate {A = ℕ} max-path 0))
+    (prepared-ready p, p .finals, w .counts-are, p .shaped .start-is, w .finite, x .pre .1, omega (arith, length-replicate {A = ℕ} max-path 0))
 
 slice-aggregate-tell : tie.Need-slice-aggregate-tell
 slice-aggregate-tell c = search needs
@@ -71,7 +72,7 @@ tell-requires c κs =
     let at = c .before .before .before in
     let w = start at .pre .0 .prepared in
     let p = path at in
-    (w .opened, w .start-is, w .finals, p .inside, p .few, p .accepted, omega (arith, length-replicate {A = ℕ} max-path 0))
+    (w .shaped .opened, w .shaped .start-is, w .finals, p .inside, p .few, p .accepted, omega (arith, length-replicate {A = ℕ} max-path 0))
 
 slice-aggregate-put-line : tie.Need-slice-aggregate-put-line
 slice-aggregate-put-line c = search needs

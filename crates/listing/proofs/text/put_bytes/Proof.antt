@@ -20,6 +20,10 @@ Inv-loop out₀ at text end₀ i₀ out end i =
 abbrev μ-loop : tie.MeasureT-loop
 μ-loop out₀ at text end₀ i₀ out end i = length text - i
 
+-- Places to look back to.
+abbrev turn-of : tie.After-slice-known2 Inv-loop μ-loop → tie.In-loop Inv-loop μ-loop
+turn-of c = c .before .before .before .before .before
+
 loop-holds : tie.Need-loop-holds Inv-loop μ-loop
 loop-holds c = (omega arith, omega arith, refl, wrote-none _ _)
 
@@ -38,7 +42,7 @@ loop-less c = omega arith
 loop-again : tie.Need-loop-again Inv-loop μ-loop
 loop-again c =
     let called = c .before .before .put-byte in
-    let turn = c .before .before .before .before .before in
+    let turn = turn-of c in
     let l = turn .before .loop in
     let x = turn .before .before .before .before .args in
     let next = wrote-next (x .text .now) (l .i) (turn .loop-test .taken) (l .inv .3) (called .ensures) in

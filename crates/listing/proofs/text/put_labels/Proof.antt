@@ -16,6 +16,16 @@ Inv-loop out₀ at labels count end₀ i₀ out end i =
 abbrev μ-loop : tie.MeasureT-loop
 μ-loop out₀ at labels count end₀ i₀ out end i = count - i
 
+-- Places to look back to: the start, and the head of a turn.
+abbrev start : tie.In-loop Inv-loop μ-loop → tie.Start Inv-loop μ-loop
+start c = c .before .before .before .before
+
+abbrev turn : tie.After-shared-slice-known2 Inv-loop μ-loop → tie.In-loop Inv-loop μ-loop
+turn c = c .before .before .before .before .before .before
+
+abbrev blank-put : tie.After-put-decimal Inv-loop μ-loop → tie.After-put-byte Inv-loop μ-loop
+blank-put c = c .before .before .before .before .before
+
 loop-holds : tie.Need-loop-holds Inv-loop μ-loop
 loop-holds c =
     let x = c .before .before .args in
@@ -23,11 +33,11 @@ loop-holds c =
 
 -- The next label fits.
 room : (c : tie.In-loop Inv-loop μ-loop)
-    → c .before .before .before .before .args .at + (length (labels-text (take (c .before .loop .i) (c .before .before .before .before .args .labels .now)))
-    + (1 + length (decimal (getD (c .before .before .before .before .args .labels .now) (c .before .loop .i) 0))))
-    ≤ length (c .before .before .before .before .args .out .now)
+    → start c .args .at + (length (labels-text (take (c .before .loop .i) (start c .args .labels .now)))
+    + (1 + length (decimal (getD (start c .args .labels .now) (c .before .loop .i) 0))))
+    ≤ length (start c .args .out .now)
 room c =
-    let x = c .before .before .before .before in
+    let x = start c in
     omega (arith, label-fits (x .args .labels .now) (c .before .loop .i) (x .args .count) (c .loop-test .taken) (x .pre .0), x .pre .1)
 
 put-byte-requires : tie.Need-put-byte-requires Inv-loop μ-loop
@@ -42,10 +52,7 @@ shared-slice-read-put-decimal : tie.Need-shared-slice-read-put-decimal Inv-loop 
 shared-slice-read-put-decimal c = omega arith
 
 cast-put-decimal : tie.Need-cast-put-decimal Inv-loop μ-loop
-cast-put-decimal c = omega (arith, c .shared-slice-known2 .given (c .before .before .before .before .before .before .before .loop .i))
-
-abbrev turn : tie.After-shared-slice-known2 Inv-loop μ-loop → tie.In-loop Inv-loop μ-loop
-turn c = c .before .before .before .before .before .before
+cast-put-decimal c = omega (arith, c .shared-slice-known2 .given (turn c .before .loop .i))
 
 put-decimal-requires : tie.Need-put-decimal-requires Inv-loop μ-loop
 put-decimal-requires c κs =
@@ -62,10 +69,10 @@ loop-less c = omega arith
 loop-again : tie.Need-loop-again Inv-loop μ-loop
 loop-again c =
     let second = c .before .before in
-    let first = second .before .before .before .before .before in
+    let first = blank-put second in
     let at = turn (second .before) in
     let l = at .before .loop in
-    let x = at .before .before .before .before in (
+    let x = start at in (
       omega arith,
       second .put-decimal .kept .0 ∙ (first .put-byte .kept .0 ∙ l .inv .1),
       labels-next (x .args .labels .now) (l .i) (omega (arith, at .loop-test .taken, x .pre .0)) (l .inv .2) (first .put-byte .ensures)

@@ -10,15 +10,9 @@ use Rattle.listing.proofs.Short.{same-cost, length-line}
 use Rattle.listing.proofs.text.put_line.Statement.{statement}
 use Rattle.listing.proofs.text.put_line.Tie as tie
 
+-- Places to look back to.
 abbrev start : tie.After-put-decimal → tie.Start
 start c = c .before .before .before .before
-
--- What the parts take, and that it is there.
-room : (x : tie.Start)
-    → x .args .at + (length (decimal (x .args .k)) + (1 + (length (cost-text (x .args .cost))
-    + (length (labels-text (take (x .args .count) (x .args .labels .now))) + 1))))
-    ≤ length (x .args .out .now)
-room x = omega (arith, length-line (x .args .k) (x .args .cost) (take (x .args .count) (x .args .labels .now)), x .pre .1)
 
 abbrev behind-gap : tie.After-put-byte → tie.After-put-decimal
 behind-gap c = c .before .before .before .before
@@ -28,6 +22,16 @@ behind-cost c = c .before .before .before .before
 
 abbrev behind-labels : tie.After-put-labels → tie.After-put-cost
 behind-labels c = c .before .before .before .before
+
+abbrev behind-all : tie.After-slice-known6 → tie.After-put-labels
+behind-all c = c .before .before .before .before .before .before
+
+-- What the parts take, and that it is there.
+room : (x : tie.Start)
+    → x .args .at + (length (decimal (x .args .k)) + (1 + (length (cost-text (x .args .cost))
+    + (length (labels-text (take (x .args .count) (x .args .labels .now))) + 1))))
+    ≤ length (x .args .out .now)
+room x = omega (arith, length-line (x .args .k) (x .args .cost) (take (x .args .count) (x .args .labels .now)), x .pre .1)
 
 put-decimal-requires : tie.Need-put-decimal-requires
 put-decimal-requires c κs = omega (arith, room (c .before .before .before))
@@ -89,7 +93,7 @@ put-byte-requires-2 c κs =
 
 same-length : tie.Need-same-length
 same-length c =
-    let told = c .before .before .before .before .before .before in
+    let told = behind-all c in
     let cost = behind-labels told in
     let gap = behind-cost cost in
     c .before .before .put-byte2 .kept .0

@@ -1,8 +1,7 @@
 -- Two loops. The inner one follows the arcs that lead to the state on top (`Releasing`); the outer one has counted the marked states, and the others
 -- wait (`Underway`).
-use mathlib.Core.Path.{_≡_, refl, sym, _∙_}
+use mathlib.Core.Path.{_≡_, refl, sym}
 use mathlib.Core.Bool.{true, false, not}
-use mathlib.Core.List.{List}
 use Prim.Native.Nat.{ℕ, _+_, _-_, _≤_, _<_}
 use native.Mathlib.Omega.{arith}
 use lib.ListN.{length, getD, set}
@@ -12,10 +11,11 @@ use Rattle.reach.specs.Counted.{count}
 use Rattle.reach.specs.Cell.{link-of}
 use Rattle.reach.proofs.Cell.{Parts}
 use Rattle.reach.proofs.Chains.{chain-link, chain-less}
-use Rattle.paths.specs.Sweep.{at-state, marked}
+use Rattle.tally.specs.Marks.{marked}
+use Rattle.paths.specs.Sweep.{at-state}
 use Rattle.paths.specs.Counting.{Underway, Grown}
 use Rattle.paths.proofs.Ready.{Sized, sized}
-use Rattle.paths.proofs.MarksInPlace.{marked-grows}
+use Rattle.tally.proofs.MarksInPlace.{marked-grows}
 use Rattle.paths.proofs.Counting.{top-state, unmarked-less}
 use Rattle.paths.proofs.Releasing.{Releasing, releasing-first, releasing-source, releasing-some, releasing-room, releasing-next, releasing-stop}
 use Rattle.paths.proofs.Rested.{underway-rested}
@@ -101,8 +101,8 @@ source c =
     let o = outer (i .before) in
     let l = i .before .loop2 in
     let z = size (entry o) in
-    let below = releasing-source (decode (start (entry o) .args .table .now)) z (set (o .before .loop .marks) (state o) true) (state o) _ (l .left) (l .stack) (l .top)
-    (l .counts) (l .cell) (l .inv) (i .loop2-test .taken) (parts c) in
+    let below = releasing-source (decode (start (entry o) .args .table .now)) z (set (o .before .loop .marks) (state o) true) (state o) _ (l .left)
+    (l .stack) (l .top) (l .counts) (l .cell) (l .inv) (i .loop2-test .taken) (parts c) in
     omega (arith, below, z .states)
 
 link : (c : Inner) → (0 < c .link-of .result) × (c .link-of .result ≤ 3072)

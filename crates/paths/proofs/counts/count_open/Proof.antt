@@ -1,11 +1,11 @@
 -- The invariant, `Opened-arcs`: the open arcs among the first `i` are counted.
-use mathlib.Core.Path.{_≡_, refl}
+use mathlib.Core.Path.{_≡_}
 use Prim.Native.Nat.{_-_, _≤_, _<_}
 use native.Mathlib.Omega.{arith}
 use lib.ListN.{length, getD}
 use Rattle.wire.specs.Bytes.{Bytes}
 use Rattle.transducer.specs.Format.{decode}
-use Rattle.paths.specs.Sweep.{marked}
+use Rattle.tally.specs.Marks.{marked}
 use Rattle.paths.specs.Counting.{by-marks, Opened-arcs}
 use Rattle.paths.proofs.Ready.{Sized, sized}
 use Rattle.paths.proofs.Counting.{opened-first, opened-kept, opened-next, opened-few, by-target-mark}

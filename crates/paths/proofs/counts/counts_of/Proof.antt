@@ -1,5 +1,5 @@
 -- What each call asks for is what those before it leave.
-use mathlib.Core.Path.{_≡_, refl}
+use mathlib.Core.Path.{refl}
 use Prim.Native.Nat.{ℕ, _≤_}
 use native.Mathlib.Omega.{arith}
 use lib.ListN.{length-replicate, replicate}
@@ -36,8 +36,11 @@ linking c = c .before .before .before .before
 abbrev pushing : tie.After-push-shut → tie.After-link-arcs
 pushing c = c .before .before .before .before
 
+abbrev stacked : tie.After-stack2 → tie.After-push-shut
+stacked c = c .before .before .before .before .before
+
 abbrev counting : tie.After-count-all → tie.After-push-shut
-counting c = c .before .before .before .before .before .before
+counting c = stacked (c .before)
 
 abbrev asking : tie.After-all-marked → tie.After-count-all
 asking c = c .before .before
@@ -52,7 +55,7 @@ push-shut-requires c κs = (few (linking (c .before .before .before)), length-re
 
 count-all-requires : tie.Need-count-all-requires
 count-all-requires c κs =
-    let put = c .before .before .before .before .before in
+    let put = stacked c in
     let linked = pushing put in
     let e = linking linked in
     let a = start e .args in

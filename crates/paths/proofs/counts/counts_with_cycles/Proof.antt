@@ -1,14 +1,14 @@
 -- Where no dead state is unmarked the counts stand (`rested-live`); else those that wait are counted too (`underway-dead`, `rested-dead`).
 use mathlib.Core.Path.{_≡_, refl}
-use mathlib.Core.Bool.{false}
 use Prim.Native.Nat.{ℕ, _+_, _*_, _≤_, _<_}
 use native.Mathlib.Omega.{arith}
 use lib.ListN.{length-replicate}
 use borrow.Author.Tests.{not-true}
 use Rattle.wire.specs.Bytes.{Bytes}
 use Rattle.transducer.specs.Format.{decode, head-finals}
-use Rattle.paths.specs.Sweep.{marked}
-use Rattle.paths.specs.Counting.{by-marks, With-dead}
+use Rattle.tally.specs.Marks.{marked}
+use Rattle.tally.specs.Marks.{With-dead}
+use Rattle.paths.specs.Counting.{by-marks}
 use Rattle.paths.proofs.Ready.{Sized, sized}
 use Rattle.paths.proofs.Counting.{opened-all, stacked-all}
 use Rattle.paths.proofs.Rested.{rested-live, dead-all, underway-dead, rested-dead}

@@ -1,7 +1,7 @@
 -- The invariant: the first `i` arcs are in chains (`Chaining`) and counted at their sources (`Opened-arcs`), no state being marked.
-use mathlib.Core.Path.{_≡_, refl}
+use mathlib.Core.Path.{_≡_}
 use mathlib.Core.Bool.{true, false}
-use Prim.Native.Nat.{ℕ, _+_, _-_, _≤_, _<_}
+use Prim.Native.Nat.{_-_, _≤_, _<_}
 use native.Mathlib.Omega.{arith}
 use lib.ListN.{length, replicate}
 use Rattle.wire.specs.Bytes.{Bytes}
@@ -27,6 +27,9 @@ Turn = tie.After-target Inv-loop μ-loop
 
 abbrev at : Turn → tie.At-loop Inv-loop μ-loop
 at c = c .before .before .before
+
+abbrev turn : tie.After-cell-of Inv-loop μ-loop → Turn
+turn c = c .before .before .before
 
 abbrev start : tie.At-loop Inv-loop μ-loop → tie.Start Inv-loop μ-loop
 start c = c .before .before
@@ -106,25 +109,25 @@ cell-of-requires : tie.Need-cell-of-requires Inv-loop μ-loop
 cell-of-requires c κs = (source-low (c .before .before), omega (arith, few (c .before .before)))
 
 mul-heads : tie.Need-mul-heads Inv-loop μ-loop
-mul-heads c = omega (arith, target-low (c .before .before .before))
+mul-heads c = omega (arith, target-low (turn c))
 
 element-write-heads : tie.Need-element-write-heads Inv-loop μ-loop
-element-write-heads c = omega (arith, target-low (c .before .before .before))
+element-write-heads c = omega (arith, target-low (turn c))
 
 loop-less : tie.Need-loop-less Inv-loop μ-loop
-loop-less c = omega (arith, c .before .before .before .before .before .loop-test .taken)
+loop-less c = omega (arith, turn c .before .before .loop-test .taken)
 
 loop-again : tie.Need-loop-again Inv-loop μ-loop
 loop-again c =
-    let turn = c .before .before .before in
-    let h = at turn in
+    let here = turn c in
+    let h = at here in
     let t = decode (start h .args .table .now) in
-    let from = turn .before .source in (
-      omega (arith, turn .before .before .loop-test .taken),
+    let from = here .before .source in (
+      omega (arith, here .before .before .loop-test .taken),
       rw (c .cell-of .ensures)
-          (chaining-next (turn .target .result) (from .result) (few turn) (target-low turn) (turn .target .ensures .0) (from .ensures .0) (h .loop .inv .1)),
+          (chaining-next (here .target .result) (from .result) (few here) (target-low here) (here .target .ensures .0) (from .ensures .0) (h .loop .inv .1)),
       opened-next t (by-marks t (replicate 1024 false)) (h .loop .i) (h .loop .left) (from .result) (h .loop .inv .2) (none-done t (h .loop .i))
-          (from .ensures .0) (source-low turn),
+          (from .ensures .0) (source-low here),
     )
 
 returns : tie.Need-returns Inv-loop μ-loop

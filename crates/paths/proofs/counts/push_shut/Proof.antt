@@ -1,9 +1,9 @@
 -- The invariant, `Stacked`: of the states below `s` those that are not marked and have no open arc are on the stack.
-use mathlib.Core.Path.{_≡_, refl}
+use mathlib.Core.Path.{_≡_}
 use Prim.Native.Nat.{_-_, _≤_, _<_}
 use native.Mathlib.Omega.{arith}
 use Rattle.wire.proofs.Bool.{clash}
-use Rattle.paths.specs.Sweep.{marked}
+use Rattle.tally.specs.Marks.{marked}
 use Rattle.paths.specs.Counting.{Stacked}
 use Rattle.paths.proofs.Counting.{stacked-first, stacked-top, stacked-kept, stacked-push}
 use Rattle.paths.proofs.counts.push_shut.Statement.{statement}

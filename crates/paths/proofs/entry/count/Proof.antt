@@ -1,28 +1,21 @@
--- `count-bad`, `count-endless` and `count-found` say what is answered in each case; `headed` has the numbers that the calls ask for.
+-- `count-bad`, `count-endless`, `count-known` and `count-found` say what is answered in each case; the shape has the numbers that the calls ask for.
 use borrow.Author.Needs.{needs}
-use mathlib.Core.Path.{_≡_, refl, sym, ap, _∙_}
-use mathlib.Core.Bool.{false}
+use mathlib.Core.Path.{_≡_, sym, _∙_}
 use native.Mathlib.Omega.{arith}
 use Rattle.wire.specs.Bytes.{Bytes}
 use Rattle.transducer.specs.Format.{refusal, decode}
-use Rattle.transducer.specs.Leaf.{Opened}
-use Rattle.transducer.proofs.Offsets.{length-accepted}
-use Rattle.paths.specs.declared.Counted.{Counted}
 use Rattle.paths.specs.Sweep.{at-state}
-use Rattle.paths.proofs.Ready.{Sized, Headed, sized, headed, headed-opened}
-use Rattle.paths.proofs.CountSays.{count-bad, count-endless, count-found}
+use Rattle.paths.proofs.Ready.{Sized, sized}
+use Rattle.paths.proofs.CountSays.{count-bad, count-endless, count-known, count-found}
 use Rattle.paths.proofs.entry.count.Statement.{statement}
 use Rattle.paths.proofs.entry.count.Tie as tie
 
 -- Places to look back to, from the last one to the first.
-abbrev at-pass : tie.After-counts-of → tie.After-counts-sorted
-at-pass c = c .before .before
+abbrev at-other : tie.After-counts-of → tie.Else2
+at-other c = c .before .before
 
-abbrev at-first : tie.After-counts-sorted → tie.After-arcs-at
-at-first c = c .before .before
-
-abbrev at-header : tie.After-struct-known4 → tie.After-header
-at-header c = c .before .before .before .before
+abbrev shape : tie.Else2 → tie.After-shape-of
+shape c = c .before .before .before
 
 abbrev start : tie.Else1 → tie.Start
 start c = c .before .before .before
@@ -37,77 +30,53 @@ accepted c = sym (c .before .refusal .ensures) ∙ c .if1 .left
 size : (c : tie.Else1) → Sized (decode (start c .args .table .now))
 size c = sized (start c .args .table .now) (is-bytes c) (accepted c)
 
-head : (c : tie.After-header) → Headed (start (c .before) .args .table .now) (c .header .result)
-head c = headed (start (c .before) .args .table .now) (is-bytes (c .before)) (accepted (c .before)) (c .header .result) (c .header .ensures)
-
-opened : (c : tie.After-arcs-at) → Opened (start (at-header (c .before) .before) .args .table .now) (c .arcs-at .result)
-opened c =
-    let header = at-header (c .before) in
-    headed-opened (start (header .before) .args .table .now) (header .header .result) (c .arcs-at .result) (head header) (c .arcs-at .ensures)
-
 refusal-requires : tie.Need-refusal-requires
 refusal-requires c κs = tt
 
 returns : tie.Need-returns
 returns c = count-bad (c .before .refusal .ensures) (c .if1 .taken)
 
-header-requires : tie.Need-header-requires
-header-requires c κs = omega (arith, length-accepted (start c .args .table .now) (is-bytes c) (accepted c))
-
-cast-n : tie.Need-cast-n
-cast-n c = search needs
-
-cast-f : tie.Need-cast-f
-cast-f c = search needs
-
-cast-start : tie.Need-cast-start
-cast-start c = search needs
+shape-of-requires : tie.Need-shape-of-requires
+shape-of-requires c κs = accepted c
 
 cast-m : tie.Need-cast-m
-cast-m c = search needs
+cast-m c = omega (arith, c .before .shape-of .ensures .arcs-are, size (c .before .before) .arcs)
 
-arcs-at-requires : tie.Need-arcs-at-requires
-arcs-at-requires c κs = omega (arith, head (at-header c) .few-finals)
+cast-m-2 : tie.Need-cast-m-2
+cast-m-2 c = search needs
 
-empty-paths-requires : tie.Need-empty-paths-requires
-empty-paths-requires c κs = (opened c .accepted, head (at-header (c .before)) .finals-are)
-
-counts-sorted-requires : tie.Need-counts-sorted-requires
-counts-sorted-requires c κs = (opened (c .before), head (at-header (c .before .before)) .arcs-are, c .empty-paths .ensures)
-
-element-copy-out-all : tie.Need-element-copy-out-all
-element-copy-out-all c = head (at-header (at-first (c .before) .before)) .start-below
+count-from-start-requires : tie.Need-count-from-start-requires
+count-from-start-requires c κs =
+    let known = c .before .shape-of .ensures in
+    (known .opened, known .arcs-are, known .finals-are, known .start-is)
 
 counted-requires : tie.Need-counted-requires
 counted-requires c κs = tt
 
 returns-2 : tie.Need-returns-2
-unfolding at-state
 returns-2 c =
-    let passed = c .before .before in
-    let pass = passed .before .counts-sorted in
-    let header = at-header (at-first (passed .before) .before) in
-    let accepted = header .before in
-    let totals = pass .ensures .complete (passed .if2 .taken) in
-    rw (c .counted .ensures) (count-found {b = false} {cs = pass .result .counts} {start = header .header .result .start} (size accepted)
-    (accepted .before .refusal .ensures)
-    (accepted .if1 .left) (totals .endless-is) refl (totals .settled) (head header .start-is))
+    let pass = c .before .before in
+    let accepted = pass .before .before .before in
+    let sorted = c .before .if2 .taken in
+    rw (c .counted .ensures) (count-known (accepted .before .refusal .ensures) (accepted .if1 .left)
+    (pass .count-from-start .ensures .finite sorted) (pass .count-from-start .ensures .complete sorted))
+
+empty-paths-requires : tie.Need-empty-paths-requires
+empty-paths-requires c κs = let known = shape c .shape-of .ensures in (known .opened .accepted, known .finals-are)
 
 counts-of-requires : tie.Need-counts-of-requires
 counts-of-requires c κs =
-    let pass = c .before in
-    let first = at-first pass in
-    let known = head (at-header (first .before)) in
-    (opened first, known .states-are, known .arcs-are, known .start-is, pass .before .empty-paths .ensures)
+    let known = shape (c .before) .shape-of .ensures in
+    (known .opened, known .states-are, known .arcs-are, known .start-is, c .empty-paths .ensures)
 
 returns-3 : tie.Need-returns-3
 returns-3 c =
     let asked = c .before in
-    let accepted = at-header (at-first (at-pass asked) .before) .before in
+    let accepted = shape (at-other asked) .before in
     count-endless (accepted .before .refusal .ensures) (accepted .if1 .left) (asked .counts-of .ensures .endless-is) (c .if3 .taken)
 
-element-copy-out-all-2 : tie.Need-element-copy-out-all-2
-element-copy-out-all-2 c = head (at-header (at-first (at-pass (c .before)) .before)) .start-below
+element-copy-out-all : tie.Need-element-copy-out-all
+element-copy-out-all c = shape (at-other (c .before)) .shape-of .ensures .start-below
 
 counted-requires-2 : tie.Need-counted-requires-2
 counted-requires-2 c κs = tt
@@ -117,11 +86,11 @@ unfolding at-state
 returns-4 c =
     let finite = c .before .before in
     let totals = finite .before .counts-of in
-    let header = at-header (at-first (at-pass (finite .before)) .before) in
-    let accepted = header .before in
-    rw (c .counted2 .ensures) (count-found {cs = totals .result .counts} {start = header .header .result .start} (size accepted)
+    let made = shape (at-other (finite .before)) in
+    let accepted = made .before in
+    rw (c .counted2 .ensures) (count-found {cs = totals .result .counts} {start = made .shape-of .result .start} (size accepted)
     (accepted .before .refusal .ensures)
-    (accepted .if1 .left) (totals .ensures .endless-is) (finite .if3 .left) (totals .ensures .settled) (head header .start-is))
+    (accepted .if1 .left) (totals .ensures .endless-is) (finite .if3 .left) (totals .ensures .settled) (made .shape-of .ensures .start-is))
 
 pub count-spec : {M : Type 1} → statement M
 count-spec =
@@ -129,19 +98,15 @@ count-spec =
     (tie.spec
     refusal-requires
     returns
-    header-requires
-    cast-n
-    cast-f
-    cast-start
+    shape-of-requires
     cast-m
-    arcs-at-requires
-    empty-paths-requires
-    counts-sorted-requires
-    element-copy-out-all
+    cast-m-2
+    count-from-start-requires
     counted-requires
     returns-2
+    empty-paths-requires
     counts-of-requires
     returns-3
-    element-copy-out-all-2
+    element-copy-out-all
     counted-requires-2
     returns-4)

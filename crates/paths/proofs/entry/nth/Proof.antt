@@ -33,11 +33,11 @@ prepared c = c .before .before .before
 abbrev start-of : tie.After-counts-by-state → tie.Start
 start-of c = start (passed (prepared c))
 
-abbrev not-endless : tie.Else5 → tie.Else4
-not-endless c = c .before .before .before .before
+abbrev not-endless : tie.After-struct-known → tie.Else4
+not-endless c = c .before .before .before
 
 abbrev tested : tie.Else5 → tie.After-counts-by-state
-tested c = not-endless c .before
+tested c = not-endless (c .before) .before
 
 -- The bytes are accepted.
 is-bytes : (c : tie.Else3) → Bytes (start c .args .table .now)
@@ -57,7 +57,7 @@ counted c =
     let totals = c .before .counts-by-state in
     let shape = prepared (c .before) .prepare in
     start-count (decode (start-of (c .before) .args .table .now)) (size (passed (prepared (c .before)))) (totals .result .counts) (shape .result .start)
-    (totals .ensures .settled) (shape .ensures .start-is) (totals .ensures .endless-is) (c .if4 .left)
+    (totals .ensures .settled) (shape .ensures .shaped .start-is) (totals .ensures .endless-is) (c .if4 .left)
 
 finite : (c : tie.Else4) → endless (decode (start-of (c .before) .args .table .now)) ≡ false
 finite c = sym (c .before .counts-by-state .ensures .endless-is) ∙ c .if4 .left
@@ -68,7 +68,8 @@ there c =
     let asked = tested c in
     let begin = prepared asked .prepare .result .start in
     let below : start-of asked .args .k < at-state (asked .counts-by-state .result .counts) begin = c .if5 .left in
-    let is : at-state (asked .counts-by-state .result .counts) begin ≡ path-count (decode (start-of asked .args .table .now)) = counted (not-endless c) in
+    let is : at-state (asked .counts-by-state .result .counts) begin ≡ path-count (decode (start-of asked .args .table .now)) =
+    counted (not-endless (c .before)) in
     omega arith
 
 -- The path that was walked.
@@ -90,7 +91,7 @@ path c =
     let at = walking c in
     let before-all = passed (prepared (tested at)) in
     let a = start before-all .args in
-    found (decode (a .table .now)) (size before-all) (a .k) (c .walk .result) (a .arcs .now) (walked c) (finite (not-endless at)) (there at)
+    found (decode (a .table .now)) (size before-all) (a .k) (c .walk .result) (a .arcs .now) (walked c) (finite (not-endless (at .before))) (there at)
     (before-all .before .if2 .left) (c .walk .ensures .0) (c .walk .ensures .1)
 
 refusal-requires : tie.Need-refusal-requires
@@ -128,7 +129,7 @@ prepare-requires c κs = (accepted (c .before .before), refl, refl)
 counts-by-state-requires : tie.Need-counts-by-state-requires
 counts-by-state-requires c κs =
     let known = c .before .before .prepare .ensures in
-    (prepared-ready known, known .start-is, known .finals)
+    (prepared-ready known, known .shaped .start-is, known .finals)
 
 refused-requires-4 : tie.Need-refused-requires-4
 refused-requires-4 c κs = tt
@@ -142,7 +143,7 @@ returns-4 c =
     (all .if3 .left) (asked .counts-by-state .ensures .endless-is) (c .before .if4 .taken) (c .refused4 .ensures)
 
 array-copy-out-all : tie.Need-array-copy-out-all
-array-copy-out-all c = prepared (c .before .before) .prepare .ensures .start-below
+array-copy-out-all c = prepared (c .before .before) .prepare .ensures .shaped .start-below
 
 cast-if5 : tie.Need-cast-if5
 cast-if5 c = search needs
@@ -153,7 +154,7 @@ refused-requires-5 c κs = tt
 returns-5 : tie.Need-returns-5
 unfolding at-state
 returns-5 c =
-    let at = c .before .before .before .before .before in
+    let at = not-endless (c .before .before) in
     let asked = at .before in
     let begin = prepared asked .prepare .result .start in
     let all = passed (prepared asked) in
@@ -171,8 +172,8 @@ walk-requires c κs =
       prepared-ready known,
       known .finals,
       asked .counts-by-state .ensures .settled,
-      known .start-is,
-      finite (not-endless at),
+      known .shaped .start-is,
+      finite (not-endless (at .before)),
       there at,
       passed (prepared asked) .before .if2 .left,
     )
@@ -183,7 +184,7 @@ tell-requires c κs =
     let shape = prepared (tested (walking told)) in
     let known = shape .prepare .ensures in
     let p = path told in
-    (known .opened, known .start-is, known .finals, p .inside, p .few, p .accepted, passed shape .if3 .left)
+    (known .shaped .opened, known .shaped .start-is, known .finals, p .inside, p .few, p .accepted, passed shape .if3 .left)
 
 same-length : tie.Need-same-length
 same-length c = search needs
@@ -199,7 +200,7 @@ returns-6 c =
     let all = passed (prepared asked) in
     let a = start all .args in
     nth-found (a .table .now) (a .k) (at-refusal all .refusal .ensures) (all .before .before .if1 .left) (all .before .if2 .left)
-    (all .if3 .left) (asked .counts-by-state .ensures .endless-is) (not-endless at .if4 .left) (there at)
+    (all .if3 .left) (asked .counts-by-state .ensures .endless-is) (not-endless (at .before) .if4 .left) (there at)
     (told .walk .ensures .0) (path told) (tell-of c .tell .ensures)
 
 pub nth-spec : {M : Type 1} → statement M

@@ -1,7 +1,6 @@
 -- A loop from the last arc to the first. The invariant, `Passed`: from arc `i` on the states are topologically sorted, and the counts are sums over
 -- these arcs.
 use mathlib.Core.Path.{_≡_, refl}
-use mathlib.Core.Bool.{false}
 use Prim.Native.Nat.{_-_, _<_}
 use native.Mathlib.Omega.{arith}
 use Rattle.wire.proofs.Bool.{clash}

@@ -1,5 +1,4 @@
 -- A store loop over the states. The invariant, `Empty-paths`: the counts of the states below `s` are stored.
-use borrow.Author.Needs.{needs}
 use Prim.Native.Nat.{_-_}
 use native.Mathlib.Omega.{arith}
 use Rattle.transducer.specs.Format.{decode}

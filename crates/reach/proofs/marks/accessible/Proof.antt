@@ -4,7 +4,7 @@ use Prim.Native.Nat.{_<_}
 use native.Mathlib.Omega.{arith}
 use lib.ListN.{set, replicate}
 use Rattle.wire.specs.Bytes.{Bytes}
-use Rattle.transducer.specs.Format.{decode}
+use Rattle.transducer.specs.Format.{max-states, decode}
 use Rattle.reach.proofs.Sized.{Sized, sized}
 use Rattle.reach.proofs.Closure.{Begun, accessible-begun, accessible-closure}
 use Rattle.reach.proofs.marks.accessible.Statement.{statement}
@@ -19,10 +19,10 @@ size c =
     let bytes : Bytes bs = λ i. omega (arith, c .shared-slice-known .given i) in
     sized bs bytes (c .before .pre .0 .accepted)
 
-below : (c : Entry) → c .before .args .start < 1024
+below : (c : Entry) → c .before .args .start < max-states
 below c = omega (arith, c .before .pre .3, size c .within .starts, size c .states)
 
-begun : (c : Entry) → Begun (decode (c .before .args .table .now)) (set (replicate 1024 false) (c .before .args .start) true)
+begun : (c : Entry) → Begun (decode (c .before .args .table .now)) (set (replicate max-states false) (c .before .args .start) true)
 begun c = accessible-begun (decode (c .before .args .table .now)) (c .before .args .start) (c .before .pre .3) (below c)
 
 array-write-marks : tie.Need-array-write-marks

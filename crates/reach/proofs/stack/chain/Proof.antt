@@ -1,10 +1,9 @@
 -- The invariant (`Chaining`): the first `i` arcs are in chains.
-use mathlib.Core.Path.{_≡_}
-use Prim.Native.Nat.{ℕ, _+_, _-_, _≤_, _<_}
+use Prim.Native.Nat.{_-_, _≤_, _<_}
 use native.Mathlib.Omega.{arith}
 use lib.ListN.{length}
 use Rattle.wire.specs.Bytes.{Bytes}
-use Rattle.transducer.specs.Format.{decode}
+use Rattle.transducer.specs.Format.{max-arcs, max-states, decode}
 use Rattle.reach.proofs.Sized.{Sized, sized}
 use Rattle.reach.proofs.Chains.{Chaining, chaining-first, chaining-next, chaining-stop}
 use Rattle.reach.proofs.stack.chain.Statement.{statement}
@@ -35,13 +34,13 @@ size c =
 is-arc : (c : tie.In-loop Inv-loop μ-loop) → c .before .loop .i < length (decode (start (c .before) .args .table .now) .arcs)
 is-arc c = omega (arith, c .loop-test .taken, start (c .before) .pre .1)
 
-few : (c : Turn) → at c .loop .i < 3072
+few : (c : Turn) → at c .loop .i < max-arcs
 few c = omega (arith, is-arc (c .before .before), size (at c) .arcs)
 
-from-below : (c : Turn) → c .before .from-end .result < 1024
+from-below : (c : Turn) → c .before .from-end .result < max-states
 from-below c = omega (arith, c .before .from-end .ensures .1, size (at c) .states)
 
-to-below : (c : Turn) → c .to-end .result < 1024
+to-below : (c : Turn) → c .to-end .result < max-states
 to-below c = omega (arith, c .to-end .ensures .1, size (at c) .states)
 
 loop-holds : tie.Need-loop-holds Inv-loop μ-loop
@@ -87,7 +86,8 @@ loop-again c =
     let turn = c .before .before in
     let from = turn .before .from-end in (
       omega (arith, turn .before .before .loop-test .taken),
-      rw (c .cell-of .ensures) (chaining-next (from .result) (turn .to-end .result) (few turn) (from-below turn) (from .ensures .0) (turn .to-end .ensures .0) (at turn .loop .inv .1)),
+      rw (c .cell-of .ensures) (chaining-next (from .result) (turn .to-end .result) (few turn) (from-below turn) (from .ensures .0)
+          (turn .to-end .ensures .0) (at turn .loop .inv .1)),
     )
 
 returns : tie.Need-returns Inv-loop μ-loop

@@ -1,5 +1,5 @@
 -- The invariant: there are more marks, all of them by arcs, and the stack holds what is to be followed (`Waiting`).
-use Prim.Native.Nat.{_-_, _<_}
+use Prim.Native.Nat.{_<_}
 use native.Mathlib.Omega.{arith}
 use Rattle.wire.specs.Bytes.{Bytes}
 use Rattle.transducer.specs.Format.{decode}

@@ -1,9 +1,10 @@
 -- The invariant (`Pushing`): the marked states below `s` are on the stack.
 use borrow.Author.Tests.{not-true, not-false}
 use mathlib.Core.Bool.{false}
-use Prim.Native.Nat.{ℕ, _+_, _-_, _≤_, _<_}
+use Prim.Native.Nat.{_-_, _≤_, _<_}
 use native.Mathlib.Omega.{arith}
 use lib.ListN.{getD}
+use Rattle.transducer.specs.Format.{max-states}
 use Rattle.reach.proofs.Stacked.{Pushing, pushing-first, pushing-top, pushing-over, pushing-next, pushing-stop}
 use Rattle.reach.proofs.stack.push_marked.Statement.{statement}
 use Rattle.reach.proofs.stack.push_marked.Tie as tie
@@ -18,10 +19,10 @@ abbrev μ-loop : tie.MeasureT-loop
 abbrev Turn : Type 0
 Turn = tie.In-loop Inv-loop μ-loop
 
-below : (c : Turn) → c .before .loop .s < 1024
+below : (c : Turn) → c .before .loop .s < max-states
 below c = omega (arith, c .loop-test .taken, c .before .before .pre .0)
 
-room : (c : Turn) → c .before .loop .top < 1024
+room : (c : Turn) → c .before .loop .top < max-states
 room c = omega (arith, below c, pushing-top (c .before .loop .inv .1))
 
 loop-holds : tie.Need-loop-holds Inv-loop μ-loop

@@ -1,28 +1,28 @@
--- The invariant (`Serving`): the arcs of the state from that of the cell on are followed.
-use mathlib.Core.Path.{_≡_, refl, sym}
-use mathlib.Core.Bool.{false}
-use Prim.Native.Nat.{ℕ, _+_, _-_, _≤_, _<_}
+-- The invariant (`Serving`): the arcs of the state from that of the cell on are followed. Each turn leaves less to follow (`left-to-follow`).
+use mathlib.Core.Path.{refl, sym}
+use mathlib.Core.Bool.{true}
+use Prim.Native.Nat.{ℕ, _-_, _≤_, _<_}
 use native.Mathlib.Omega.{arith}
-use lib.ListN.{getD}
-use Rattle.transducer.specs.Format.{decode}
-use Rattle.reach.specs.Cell.{link-of}
+use lib.ListN.{getD, set}
+use Rattle.transducer.specs.Format.{max-arcs, max-states, decode}
 use Rattle.reach.proofs.Cell.{Parts}
 use Rattle.reach.proofs.Sized.{Sized, sized}
 use Rattle.reach.proofs.Spreading.{number-most}
-use Rattle.reach.proofs.Stacked.{Serving, serving-first, serving-to, serving-link, serving-room, serving-less, serving-over, serving-new, serving-stop}
+use Rattle.reach.proofs.Stacked.{Serving, left-to-follow, serving-first, serving-to, serving-link, serving-room, serving-less, serving-fewer}
+use Rattle.reach.proofs.Stacked.{serving-over, serving-on, serving-new, serving-stop}
 use Rattle.reach.proofs.stack.serve.Statement.{statement}
 use Rattle.reach.proofs.stack.serve.Tie as tie
 
 abbrev Inv-loop : tie.InvT-loop
-Inv-loop table back heads next top marks₀ stack₀ s cell₀ end₀ marks stack cell end = Serving (decode table) back marks₀ top s marks stack end cell
+Inv-loop table back heads next top marks₀ stack₀ s₀ cell₀ end₀ marks stack s cell end = Serving (decode table) back marks₀ top s marks stack end cell
 
 abbrev μ-loop : tie.MeasureT-loop
-μ-loop table back heads next top marks₀ stack₀ s cell₀ end₀ marks stack cell end = link-of cell
+μ-loop table back heads next top marks₀ stack₀ s₀ cell₀ end₀ marks stack s cell end = left-to-follow marks cell
 
 abbrev Start : Type 0
 Start = tie.Start Inv-loop μ-loop
 
--- A turn, its cell taken apart; and where it ends, by whether the state was marked.
+-- A turn, its cell taken apart; and where it goes on, by whether the state was marked, and whether its arc was the last of the chain.
 abbrev Here : Type 0
 Here = tie.After-link-of Inv-loop μ-loop
 
@@ -38,34 +38,45 @@ then c = c .before .before .before
 abbrev else : tie.Else1 Inv-loop μ-loop → Here
 else c = c .before .before .before
 
+abbrev last : tie.Then2 Inv-loop μ-loop → tie.Else1 Inv-loop μ-loop
+last c = c .before
+
+abbrev more : tie.Else2 Inv-loop μ-loop → tie.Else1 Inv-loop μ-loop
+more c = c .before
+
 size : (c : Start) → Sized (decode (c .args .table .now))
 size c = sized (c .args .table .now) (c .pre .0) (c .pre .1)
 
 -- The state on top of the stack.
-inside : (c : Start) → c .args .top < 1024
+inside : (c : Start) → c .args .top < max-states
 inside c = let w = c .pre .3 in omega (arith, w .few, number-most (c .args .marks .now), w .marks-long)
 
-state : (c : Start) → getD (c .args .stack .now) (c .args .top) 0 < 1024
+state : (c : Start) → getD (c .args .stack .now) (c .args .top) 0 < max-states
 state c = omega (arith, c .pre .3 .held (c .args .top) (omega arith) .0, size c .states)
 
 -- The cell's parts, and its arc.
 parts : (c : Here) → Parts (c .before .state-of .result) (c .link-of .result) (turn c .before .loop .cell)
 parts c = record { state-is = sym (c .before .state-of .ensures); link-is = sym (c .link-of .ensures) }
 
-to-below : (c : Here) → c .before .state-of .result < 1024
+to-below : (c : Here) → c .before .state-of .result < max-states
 to-below c =
     let t = turn c in
     let z = size (start t) in
     omega (arith, serving-to z (t .before .loop .inv) (t .loop-test .taken) (parts c), z .states)
 
-link : (c : Here) → (0 < c .link-of .result) × (c .link-of .result ≤ 3072)
+link : (c : Here) → (0 < c .link-of .result) × (c .link-of .result ≤ max-arcs)
 link c = let t = turn c in serving-link (size (start t)) (t .before .loop .inv) (t .loop-test .taken) (parts c)
 
-room : (c : Here) → turn c .before .loop .end < 1024
+room : (c : Here) → turn c .before .loop .end < max-states
 room c = let t = turn c in serving-room (size (start t)) (t .before .loop .inv) (t .loop-test .taken) (parts c)
 
-less : (c : Here) → link-of (getD (start (turn c) .args .next .now) (c .link-of .result - 1) 0) < link-of (turn c .before .loop .cell)
-less c = let t = turn c in serving-less (size (start t)) (t .before .loop .inv) (t .loop-test .taken) (parts c) (start t .pre .2)
+-- A state more is marked.
+fewer : (c : tie.Else1 Inv-loop μ-loop) (c' : ℕ)
+    → left-to-follow (set (turn (else c) .before .loop .marks) (else c .before .state-of .result) true) c'
+    < left-to-follow (turn (else c) .before .loop .marks) (turn (else c) .before .loop .cell)
+fewer c c' =
+    let t = turn (else c) in
+    serving-fewer (size (start t)) (t .before .loop .inv) (t .loop-test .taken) (parts (else c)) (c .if1 .left) c'
 
 mul-s : tie.Need-mul-s Inv-loop μ-loop
 mul-s c = omega (arith, inside (c .before))
@@ -106,7 +117,9 @@ element-copy-out-if1 : tie.Need-element-copy-out-if1 Inv-loop μ-loop
 element-copy-out-if1 c = omega (arith, to-below (c .before), turn (c .before) .before .loop .inv .marks-long)
 
 loop-less : tie.Need-loop-less Inv-loop μ-loop
-loop-less c = less (then c)
+loop-less c =
+    let t = turn (then c) in
+    serving-less (size (start t)) (t .before .loop .inv) (t .loop-test .taken) (parts (then c)) (start t .pre .2)
 
 loop-again : tie.Need-loop-again Inv-loop μ-loop
 loop-again c =
@@ -116,25 +129,44 @@ loop-again c =
 element-write-marks : tie.Need-element-write-marks Inv-loop μ-loop
 element-write-marks c = omega (arith, to-below (else c), turn (else c) .before .loop .inv .marks-long)
 
-cast-stack : tie.Need-cast-stack Inv-loop μ-loop
-cast-stack c = omega (arith, to-below (else c))
+mul-cell-3 : tie.Need-mul-cell-3 Inv-loop μ-loop
+mul-cell-3 c = omega (arith, to-below (else (last c)))
 
-mul-stack : tie.Need-mul-stack Inv-loop μ-loop
-mul-stack c = omega (arith, room (else c))
-
-element-write-stack : tie.Need-element-write-stack Inv-loop μ-loop
-element-write-stack c = omega (arith, room (else c), turn (else c) .before .loop .inv .stack-long)
-
-add-end : tie.Need-add-end Inv-loop μ-loop
-add-end c = omega (arith, room (else c))
+element-copy-out-cell-3 : tie.Need-element-copy-out-cell-3 Inv-loop μ-loop
+element-copy-out-cell-3 c = omega (arith, to-below (else (last c)), start (turn (else (last c))) .pre .2 .heads-long)
 
 loop-less-2 : tie.Need-loop-less-2 Inv-loop μ-loop
-loop-less-2 c = less (else c)
+loop-less-2 c =
+    let e = last (c .before) in
+    fewer e (getD (start (turn (else e)) .args .heads .now) (else e .before .state-of .result) 0)
 
 loop-again-2 : tie.Need-loop-again-2 Inv-loop μ-loop
 loop-again-2 c =
-    let t = turn (else c) in
-    serving-new (size (start t)) (t .before .loop .inv) (t .loop-test .taken) (parts (else c)) (start t .pre .2) (c .if1 .left)
+    let e = last (c .before) in
+    let t = turn (else e) in
+    serving-on (size (start t)) (t .before .loop .inv) (t .loop-test .taken) (parts (else e)) (start t .pre .2) (e .if1 .left) (c .before .if2 .taken)
+
+cast-stack : tie.Need-cast-stack Inv-loop μ-loop
+cast-stack c = omega (arith, to-below (else (more c)))
+
+mul-stack : tie.Need-mul-stack Inv-loop μ-loop
+mul-stack c = omega (arith, room (else (more c)))
+
+element-write-stack : tie.Need-element-write-stack Inv-loop μ-loop
+element-write-stack c = omega (arith, room (else (more c)), turn (else (more c)) .before .loop .inv .stack-long)
+
+add-end : tie.Need-add-end Inv-loop μ-loop
+add-end c = omega (arith, room (else (more c)))
+
+loop-less-3 : tie.Need-loop-less-3 Inv-loop μ-loop
+loop-less-3 c =
+    let h = else (more c) in
+    fewer (more c) (getD (start (turn h) .args .next .now) (h .link-of .result - 1) 0)
+
+loop-again-3 : tie.Need-loop-again-3 Inv-loop μ-loop
+loop-again-3 c =
+    let t = turn (else (more c)) in
+    serving-new (size (start t)) (t .before .loop .inv) (t .loop-test .taken) (parts (else (more c))) (start t .pre .2) (more c .if1 .left)
 
 returns : tie.Need-returns Inv-loop μ-loop
 returns c = serving-stop (c .loop-test .left) (c .before .loop .inv)
@@ -160,10 +192,14 @@ serve-spec =
     loop-less
     loop-again
     element-write-marks
+    mul-cell-3
+    element-copy-out-cell-3
+    loop-less-2
+    loop-again-2
     cast-stack
     mul-stack
     element-write-stack
     add-end
-    loop-less-2
-    loop-again-2
+    loop-less-3
+    loop-again-3
     returns)

@@ -1,10 +1,10 @@
 -- The invariant, `Sweeping`: marks have spread along the arcs taken in the first `k` turns, and none of these waits.
-use mathlib.Core.Path.{_≡_, sym, _∙_}
-use Prim.Native.Nat.{_+_, _-_, _≤_, _<_}
+use mathlib.Core.Path.{sym, _∙_}
+use Prim.Native.Nat.{_-_, _≤_, _<_}
 use native.Mathlib.Omega.{arith}
 use lib.ListN.{length}
 use Rattle.wire.specs.Bytes.{Bytes}
-use Rattle.transducer.specs.Format.{decode}
+use Rattle.transducer.specs.Format.{max-states, decode}
 use Rattle.reach.proofs.Sized.{Sized, sized}
 use Rattle.reach.proofs.Ends.{sources-order}
 use Rattle.reach.proofs.Sweeping.{Sweeping, low-at, high-at, at-turn-below, sweeping-first, sweeping-next, sweeping-stop, swept-more}
@@ -49,7 +49,7 @@ size c = sized (start c .args .table .now) (is-bytes c) (start c .pre .0 .accept
 is-arc : (c : Turn) → c .arc-at-turn .result < length (decode (start (at c) .args .table .now) .arcs)
 is-arc c = at-turn-below (start (at c) .args .back) (c .arc-at-turn .ensures) (c .before .loop-test .taken) (start (at c) .pre .1)
 
-inside : (c : Ends) → (c .before .from-end .result < 1024) × (c .to-end .result < 1024)
+inside : (c : Ends) → (c .before .from-end .result < max-states) × (c .to-end .result < max-states)
 inside c =
     let few = size (at (turn c)) .states in
     (omega (arith, c .before .from-end .ensures .1, few), omega (arith, c .to-end .ensures .1, few))

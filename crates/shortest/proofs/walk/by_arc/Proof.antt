@@ -3,15 +3,15 @@ use borrow.Author.Needs.{needs}
 use mathlib.Core.Path.{_≡_, ap, _∙_}
 use Prim.Native.Nat.{_+_, _≤_, _<_}
 use native.Mathlib.Omega.{arith}
-use lib.ListN.{getD}
+use lib.ListN.{length, getD}
 use mir.Facts.{toZ-ofZ}
 use Rattle.wire.specs.Bytes.{Bytes}
 use Rattle.transducer.specs.declared.Arc.{Arc}
 use Rattle.transducer.specs.Format.{max-states, decode}
-use Rattle.paths.proofs.Ready.{Sized, sized}
-use Rattle.distance.specs.Nearest.{unpacked, by-state, longer, size-by}
-use Rattle.distance.proofs.Bounds.{cell-back, cell-most, weight-back, read-good, sum-by-arc}
-use Rattle.distance.proofs.Packed.{unpack-longer}
+use Rattle.reach.proofs.Sized.{Sized, sized}
+use Rattle.relax.specs.Nearest.{unpacked, by-state, longer, size-by}
+use Rattle.relax.proofs.Bounds.{cell-back, cell-most, weight-back, read-good, sum-by-arc}
+use Rattle.relax.proofs.Packed.{unpack-longer}
 use Rattle.shortest.proofs.walk.by_arc.Statement.{statement}
 use Rattle.shortest.proofs.walk.by_arc.Tie as tie
 
@@ -20,16 +20,28 @@ abbrev Read : Type 0
 Read = tie.After-arc-of
 
 abbrev start : Read → tie.Start
-start c = c .before .before
+start c = c .before .before .before
 
 size : (c : Read) → Sized (decode (start c .args .table .now))
 size c =
     let bs = start c .args .table .now in
-    let bytes : Bytes bs = λ i. omega (arith, c .before .shared-slice-known .given i) in
+    let bytes : Bytes bs = λ i. omega (arith, c .before .before .shared-slice-known .given i) in
     sized bs bytes (start c .pre .0 .accepted)
 
+-- Its target, for which there are cells.
+state : (c : Read) → c .arc-of .result .target < decode (start c .args .table .now) .states
+state c =
+    let is = ap (λ (a : Arc). a .target) (c .arc-of .ensures) in
+    omega (arith, is, size c .within .arrives (start c .args .i) (start c .pre .1))
+
 below : (c : Read) → c .arc-of .result .target < max-states
-below c = rw (c .arc-of .ensures) (omega (arith, size c .within .arrives (start c .args .i) (start c .pre .1), size c .states))
+below c = omega (arith, state c, size c .states)
+
+costs-at : (c : Read) → c .arc-of .result .target < length (start c .args .costs .now)
+costs-at c = omega (arith, state c, start c .pre .2 .costs)
+
+lens-at : (c : Read) → c .arc-of .result .target < length (start c .args .lens .now)
+lens-at c = omega (arith, state c, start c .pre .2 .lens)
 
 few : (c : Read) → by-state (start c .args .lens .now) (c .arc-of .result .target) .arcs ≤ max-states
 few c = start c .pre .2 .few (c .arc-of .result .target)
@@ -41,10 +53,10 @@ cast-to : tie.Need-cast-to
 cast-to c = search needs
 
 mul-sum : tie.Need-mul-sum
-mul-sum c = search needs
+mul-sum c = omega (arith, below (c .before))
 
-element-copy-out-sum : tie.Need-element-copy-out-sum
-element-copy-out-sum c = below (c .before)
+shared-slice-copy-out-sum : tie.Need-shared-slice-copy-out-sum
+shared-slice-copy-out-sum c = costs-at (c .before)
 
 sum-requires : tie.Need-sum-requires
 sum-requires c κs =
@@ -61,17 +73,17 @@ sum-requires c κs =
 abbrev read : tie.After-sum → Read
 read c = c .before .before .before .before
 
-mul-t13 : tie.Need-mul-t13
-mul-t13 c = search needs
+mul-t12 : tie.Need-mul-t12
+mul-t12 c = omega (arith, below (read c))
 
-element-copy-out-t16 : tie.Need-element-copy-out-t16
-element-copy-out-t16 c = below (read c)
+shared-slice-read-t14 : tie.Need-shared-slice-read-t14
+shared-slice-read-t14 c = lens-at (read (c .before))
 
 arc-size-requires : tie.Need-arc-size-requires
 arc-size-requires c κs = tt
 
-add-t18 : tie.Need-add-t18
-add-t18 c = omega (arith, cell-most (start (read (c .before .before)) .pre .2) (read (c .before .before) .arc-of .result .target), c .arc-size .ensures .1)
+add-t16 : tie.Need-add-t16
+add-t16 c = omega (arith, cell-most (start (read (c .before .before)) .pre .2) (read (c .before .before) .arc-of .result .target), c .arc-size .ensures .1)
 
 returns : tie.Need-returns
 unfolding size-by
@@ -93,10 +105,10 @@ by-arc-spec =
     arc-of-requires
     cast-to
     mul-sum
-    element-copy-out-sum
+    shared-slice-copy-out-sum
     sum-requires
-    mul-t13
-    element-copy-out-t16
+    mul-t12
+    shared-slice-read-t14
     arc-size-requires
-    add-t18
+    add-t16
     returns)

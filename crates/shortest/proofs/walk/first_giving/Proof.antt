@@ -10,10 +10,10 @@ use mir.Facts.{toZ-ofZ}
 use Rattle.wire.specs.Bytes.{Bytes}
 use Rattle.transducer.specs.Format.{decode}
 use Rattle.transducer.specs.Weight.{Weight}
-use Rattle.paths.proofs.Ready.{Sized, sized}
-use Rattle.distance.specs.Distance.{Size, nearer}
-use Rattle.distance.specs.Nearest.{unpacked, cost-at, by-state}
-use Rattle.distance.proofs.Bounds.{cell-back}
+use Rattle.reach.proofs.Sized.{Sized, sized}
+use Rattle.relax.specs.Size.{Size, nearer}
+use Rattle.relax.specs.Nearest.{unpacked, cost-at, by-state}
+use Rattle.relax.proofs.Bounds.{cell-back}
 use Rattle.shortest.proofs.Tight.{Seeking, seeking-first, seeking-here, seeking-next, seeking-stop}
 use Rattle.shortest.proofs.walk.first_giving.Statement.{statement}
 use Rattle.shortest.proofs.walk.first_giving.Tie as tie
@@ -29,7 +29,7 @@ abbrev Turn : Type 0
 Turn = tie.In-loop Inv-loop μ-loop
 
 abbrev start : Turn → tie.Start Inv-loop μ-loop
-start c = c .before .before .before
+start c = c .before .before .before .before
 
 is-arc : (c : Turn) → c .before .loop .i < length (decode (start c .args .table .now) .arcs)
 is-arc c = omega (arith, c .loop-test .taken, start c .pre .3)
@@ -37,12 +37,12 @@ is-arc c = omega (arith, c .loop-test .taken, start c .pre .3)
 size : (c : Turn) → Sized (decode (start c .args .table .now))
 size c =
     let bs = start c .args .table .now in
-    let bytes : Bytes bs = λ i. omega (arith, c .before .before .shared-slice-known .given i) in
+    let bytes : Bytes bs = λ i. omega (arith, c .before .before .before .shared-slice-known .given i) in
     sized bs bytes (start c .pre .0 .accepted)
 
 loop-holds : tie.Need-loop-holds Inv-loop μ-loop
 loop-holds c =
-    let start' = c .before in
+    let start' = c .before .before in
     let a = start' .args in
     seeking-first (decode (a .table .now)) (cost-at (a .costs .now)) (by-state (a .lens .now)) (a .s)
     (a .from) (a .to) (start' .pre .2)
@@ -76,16 +76,16 @@ test c =
     ∙ ap (λ (x : Weight). nearer (cost-at (a .costs .now) (a .s)) l x m) cost)
 
 mul-comes-first : tie.Need-mul-comes-first Inv-loop μ-loop
-mul-comes-first c = omega (arith, start (c .before) .pre .1)
+mul-comes-first c = omega (arith, start (c .before) .pre .1, size (c .before) .states)
 
-element-copy-out-comes-first : tie.Need-element-copy-out-comes-first Inv-loop μ-loop
-element-copy-out-comes-first c = start (c .before) .pre .1
+shared-slice-copy-out-comes-first : tie.Need-shared-slice-copy-out-comes-first Inv-loop μ-loop
+shared-slice-copy-out-comes-first c = let pre = start (c .before) .pre in omega (arith, pre .1, pre .4 .costs)
 
 mul-comes-first-2 : tie.Need-mul-comes-first-2 Inv-loop μ-loop
-mul-comes-first-2 c = omega (arith, start (c .before .before) .pre .1)
+mul-comes-first-2 c = let t = c .before .before in omega (arith, start t .pre .1, size t .states)
 
-element-copy-out-comes-first-2 : tie.Need-element-copy-out-comes-first-2 Inv-loop μ-loop
-element-copy-out-comes-first-2 c = start (c .before .before) .pre .1
+shared-slice-read-comes-first : tie.Need-shared-slice-read-comes-first Inv-loop μ-loop
+shared-slice-read-comes-first c = let pre = start (c .before .before .before) .pre in omega (arith, pre .1, pre .4 .lens)
 
 comes-first-requires : tie.Need-comes-first-requires Inv-loop μ-loop
 comes-first-requires c κs = tt
@@ -120,7 +120,7 @@ loop-again c =
 
 returns-2 : tie.Need-returns-2 Inv-loop μ-loop
 returns-2 c =
-    let a = c .before .before .before .args in
+    let a = c .before .before .before .before .args in
     let now' = c .before .loop in
     seeking-stop (decode (a .table .now)) (cost-at (a .costs .now)) (by-state (a .lens .now)) (a .s)
     (a .from) (a .to) (now' .i) (now' .inv)
@@ -135,9 +135,9 @@ first-giving-spec =
     loop-holds
     by-arc-requires
     mul-comes-first
-    element-copy-out-comes-first
+    shared-slice-copy-out-comes-first
     mul-comes-first-2
-    element-copy-out-comes-first-2
+    shared-slice-read-comes-first
     comes-first-requires
     returns
     add-i

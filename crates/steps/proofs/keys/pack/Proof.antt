@@ -1,5 +1,4 @@
 -- The code is the definition; the bounds on the parts keep it from wrapping.
-use borrow.Author.Needs.{needs}
 use mathlib.Core.Path.{refl}
 use native.Mathlib.Omega.{arith}
 use Rattle.steps.specs.Packing.{pack}

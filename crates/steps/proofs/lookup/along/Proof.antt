@@ -1,11 +1,11 @@
 -- The laws of `Along` carry the loop. The invariant: wherever the chain begins, the search along it has come to `next`.
 use borrow.Author.Needs.{needs}
-use mathlib.Core.Path.{_≡_, sym, _∙_}
+use mathlib.Core.Path.{sym, _∙_}
 use Prim.Native.Nat.{ℕ, _+_, _*_, _-_, _≤_, _<_}
 use native.Mathlib.Omega.{arith}
 use lib.ListN.{length}
 use Rattle.wire.specs.Bytes.{Bytes}
-use Rattle.transducer.specs.Format.{decode}
+use Rattle.transducer.specs.Format.{max-arcs, decode}
 use Rattle.steps.specs.Lookup.{Leads}
 use Rattle.steps.proofs.Links.{Along, left-of, along-first, along-none, along-in, along-found, along-next, along-less, side-reads, side-other}
 use Rattle.transducer.proofs.Opened.{opened-inside, opened-few}
@@ -41,7 +41,7 @@ is-arc c =
     let leads = start c .pre .1 in
     along-in (leads .1) (c .before .loop .inv (leads .0) (leads .1)) (c .loop-test .taken) .1
 
-few : (c : tie.In-loop Inv-loop μ-loop) → c .before .loop .next - 1 < 3072
+few : (c : tie.In-loop Inv-loop μ-loop) → c .before .loop .next - 1 < max-arcs
 few c = omega (arith, is-arc c, opened-few (start c .args .right .now) (is-bytes c) (start c .args .rfirst) (start c .pre .0))
 
 inside : (c : tie.In-loop Inv-loop μ-loop) → start c .args .rfirst + 16 * (c .before .loop .next - 1 + 1) ≤ length (start c .args .right .now)

@@ -1,11 +1,11 @@
 -- A store loop over the right arcs, from the last to the first. The invariant, `Filling`: the arcs from number `left` on are in the chains.
 use borrow.Author.Needs.{needs}
-use mathlib.Core.Path.{_≡_, refl, sym, ap, _∙_}
+use mathlib.Core.Path.{_≡_, sym, ap, _∙_}
 use Prim.Native.Nat.{suc, _-_, _+_, _*_, _≤_, _<_}
 use native.Mathlib.Omega.{arith}
 use lib.ListN.{length, getD}
 use Rattle.wire.specs.Bytes.{Bytes, two}
-use Rattle.transducer.specs.Format.{decode}
+use Rattle.transducer.specs.Format.{max-arcs, decode}
 use Rattle.transducer.specs.Path.{arc}
 use Rattle.steps.specs.Lookup.{label-bucket, Leads}
 use Rattle.steps.proofs.Links.{Filling, filling-first, filling-leads, filling-next, filling-done}
@@ -39,7 +39,7 @@ filled c =
 is-arc : (c : tie.In-loop Inv-loop μ-loop) → c .before .loop .left - 1 < length (decode (start c .args .right .now) .arcs)
 is-arc c = filled c .within
 
-few : (c : tie.In-loop Inv-loop μ-loop) → c .before .loop .left ≤ 3072
+few : (c : tie.In-loop Inv-loop μ-loop) → c .before .loop .left ≤ max-arcs
 few c = omega (arith, c .before .loop .inv .within, c .before .loop .inv .few)
 
 inside : (c : tie.In-loop Inv-loop μ-loop) → start c .args .rfirst + 16 * c .before .loop .left ≤ length (start c .args .right .now)

@@ -9,33 +9,41 @@ use Rattle.transducer.specs.Path.{arc}
 use Rattle.transducer.specs.Format.{any}
 use Rattle.transducer.specs.Leaf.{Leaving}
 use Rattle.transducer.proofs.Opened.{opened-inside, output-in-place}
-use Rattle.steps.specs.Runs.{fitting-from, reading-from}
+use Rattle.steps.specs.Runs.{fitting-from, reading-from, Fits-only}
 use Rattle.steps.proofs.Links.{named-first, wild-first, empty-first}
-use Rattle.steps.proofs.RunCode.{Seeking, seeking-first, seeking-alone, seeking-silent, seeking-met, seeking-unmet, seeking-stop}
+use Rattle.steps.proofs.RunCode.{Seeking, seeking-alone, seeking-silent, seeking-met, seeking-unmet, seeking-stop}
 use Rattle.steps.proofs.runs.next_run.Statement.{statement}
 use Rattle.steps.proofs.runs.next_run.Tie as tie
 
 abbrev Inv-loop : tie.InvT-loop
-Inv-loop left lfirst i last filter right rfirst heads chain q wild to k₀ k =
-    (from : ℕ) → Leaving (decode right) q from to → wild ≡ reading-from (decode right) any (to - from) from
+Inv-loop left lfirst i last filter right rfirst heads chain q only wild to k₀ k =
+    (from : ℕ) → Leaving (decode right) q from to → wild ≡ reading-from (decode right) any (to - from) from → Fits-only (decode right) from to only
     → Seeking (decode left) (decode right) filter from to i last k
 
 abbrev μ-loop : tie.MeasureT-loop
-μ-loop left lfirst i last filter right rfirst heads chain q wild to k₀ k = last - k
+μ-loop left lfirst i last filter right rfirst heads chain q only wild to k₀ k = last - k
 
 -- Places to look back to.
+abbrev entry : tie.At-loop Inv-loop μ-loop → tie.Start Inv-loop μ-loop
+entry c = c .before .before .before .before
+
 abbrev start : tie.In-loop Inv-loop μ-loop → tie.Start Inv-loop μ-loop
-start c = c .before .before .before .before
+start c = entry (c .before)
 
 abbrev turn : tie.After-first-reading Inv-loop μ-loop → tie.In-loop Inv-loop μ-loop
 turn c = c .before .before .before
 
+pass-over-requires : tie.Need-pass-over-requires Inv-loop μ-loop
+pass-over-requires c κs = c .before .before .pre .0
+
 loop-holds : tie.Need-loop-holds Inv-loop μ-loop
-loop-holds c = λ from leaving is. seeking-first _ (omega arith) (c .before .before .pre .0 .1)
+loop-holds c = λ from leaving is fit.
+    let passed = c .pass-over .ensures in
+    record { within = passed .0; same = passed .1 _ _ from _ (leaving .rest .order) fit }
 
 -- In a turn: there is a left arc of this number, and its record lies within the bytes.
 is-bytes : (c : tie.In-loop Inv-loop μ-loop) → Bytes (start c .args .left .now)
-is-bytes c = λ i. omega (arith, c .before .before .before .shared-slice-known .given i)
+is-bytes c = λ i. omega (arith, c .before .before .before .before .shared-slice-known .given i)
 
 is-arc : (c : tie.In-loop Inv-loop μ-loop) → c .before .loop .k < length (decode (start c .args .left .now) .arcs)
 is-arc c = omega (arith, c .loop-test .taken, start c .pre .0 .2)
@@ -88,51 +96,52 @@ add-k : tie.Need-add-k Inv-loop μ-loop
 add-k c = omega (arith, c .before .loop-test .taken, start (c .before) .fits .last)
 
 returns : tie.Need-returns Inv-loop μ-loop
-returns c = λ from leaving is.
+returns c = λ from leaving is fit.
     let t = c .before .before .before in
-    seeking-alone (t .loop-test .taken) (label-is (c .before .before) ∙ c .before .if1 .taken) (c .if2 .taken) (t .before .loop .inv from leaving is)
+    seeking-alone (t .loop-test .taken) (label-is (c .before .before) ∙ c .before .if1 .taken) (c .if2 .taken) (t .before .loop .inv from leaving is fit)
 
 loop-less : tie.Need-loop-less Inv-loop μ-loop
 loop-less c = omega (arith, c .before .before .before .loop-test .taken)
 
 loop-again : tie.Need-loop-again Inv-loop μ-loop
-loop-again c = λ from leaving is.
+loop-again c = λ from leaving is fit.
     let t = c .before .before .before in
-    seeking-silent (t .loop-test .taken) (label-is (c .before .before) ∙ c .before .if1 .taken) (c .if2 .left) (t .before .loop .inv from leaving is)
+    seeking-silent (t .loop-test .taken) (label-is (c .before .before) ∙ c .before .if1 .taken) (c .if2 .left) (t .before .loop .inv from leaving is fit)
 
 first-reading-requires : tie.Need-first-reading-requires Inv-loop μ-loop
 first-reading-requires c κs = start (c .before .before) .pre .1
 
 returns-2 : tie.Need-returns-2 Inv-loop μ-loop
-returns-2 c = λ from leaving is.
+returns-2 c = λ from leaving is fit.
     let t = turn (c .before) in
     seeking-met (t .loop-test .taken) (λ e. c .before .before .if1 .left (sym (label-is (c .before .before .before)) ∙ e))
-    (named-first _ _ leaving (found-is (c .before) from leaving) (c .if3 .taken)) (leaving .rest .order) (c .if3 .taken) (t .before .loop .inv from leaving is)
+    (named-first _ _ leaving (found-is (c .before) from leaving) (c .if3 .taken)) (leaving .rest .order) (c .if3 .taken)
+    (t .before .loop .inv from leaving is fit)
 
 returns-3 : tie.Need-returns-3 Inv-loop μ-loop
-returns-3 c = λ from leaving is.
+returns-3 c = λ from leaving is fit.
     let e = c .before in
     let t = turn (e .before) in
     seeking-met (t .loop-test .taken) (λ z. e .before .before .if1 .left (sym (label-is (e .before .before .before)) ∙ z))
-    (wild-is e from leaving is) (leaving .rest .order) (c .if4 .taken) (t .before .loop .inv from leaving is)
+    (wild-is e from leaving is) (leaving .rest .order) (c .if4 .taken) (t .before .loop .inv from leaving is fit)
 
 loop-less-2 : tie.Need-loop-less-2 Inv-loop μ-loop
 loop-less-2 c = omega (arith, turn (c .before .before) .loop-test .taken)
 
 loop-again-2 : tie.Need-loop-again-2 Inv-loop μ-loop
-loop-again-2 c = λ from leaving is.
+loop-again-2 c = λ from leaving is fit.
     let e = c .before in
     let t = turn (e .before) in
     seeking-unmet (t .loop-test .taken) (λ z. e .before .before .if1 .left (sym (label-is (e .before .before .before)) ∙ z))
-    (wild-is e from leaving is) (leaving .rest .order) (omega (arith, c .if4 .left)) (t .before .loop .inv from leaving is)
+    (wild-is e from leaving is) (leaving .rest .order) (omega (arith, c .if4 .left)) (t .before .loop .inv from leaving is fit)
 
 first-reading-requires-2 : tie.Need-first-reading-requires-2 Inv-loop μ-loop
-first-reading-requires-2 c κs = c .before .before .before .before .pre .1
+first-reading-requires-2 c κs = entry (c .before) .pre .1
 
 returns-4 : tie.Need-returns-4 Inv-loop μ-loop
-returns-4 c = λ from leaving is.
+returns-4 c = λ from leaving is fit.
     seeking-stop (c .first-reading2 .result) (c .before .loop-test .left) (empty-first _ _ leaving (c .first-reading2 .ensures from leaving) refl)
-    (c .before .before .loop .inv from leaving is)
+    (c .before .before .loop .inv from leaving is fit)
 
 pub next-run-spec : {M : Type 1} → statement M
 next-run-spec =
@@ -140,6 +149,7 @@ next-run-spec =
     (tie.spec
     Inv-loop
     μ-loop
+    pass-over-requires
     loop-holds
     mul-u16-at
     add-u16-at

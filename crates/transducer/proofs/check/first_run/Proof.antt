@@ -20,7 +20,8 @@ returns : tie.Need-returns
 returns c =
     let a = c .before .before .before .args in
     λ count e.
-    c .run-by-two .ensures (a .at) count (a .floor) e (glanced-first (a .bytes .now) (a .at) count (a .n) (a .each) (a .floor) 0 18446744073709551615 (rebate 0))
+    c .run-by-two .ensures (a .at) count (a .floor) e
+    (glanced-first (a .bytes .now) (a .at) count (a .n) (a .each) (a .floor) 0 18446744073709551615 (rebate 0))
 
 run-on-requires : tie.Need-run-on-requires
 run-on-requires c κs = (c .before .before .pre .0, c .before .before .pre .1, omega arith)

@@ -2,13 +2,14 @@
 use borrow.Author.Needs.{needs}
 use mathlib.Core.Path.{refl, _∙_}
 use mathlib.Core.Bool.{Bool, not}
-use Prim.Native.Nat.{_+_, _-_, _/_, _≤_}
+use Prim.Native.Nat.{_+_, _-_, _/_, _^_, _≤_}
 use native.Mathlib.Omega.{arith}
 use borrow.Author.Tests.{ltb-true, not-false}
 use lib.Bits.{bitAnd, and-mask}
 use lib.Dec.{eqb}
 use lib.ListN.{length}
 use mir.Facts.{toZ-ofZ}
+use Rattle.transducer.specs.Format.{weight-limit}
 use Rattle.transducer.specs.Check.{Glanced}
 use Rattle.transducer.specs.Weight.{rebate}
 use Rattle.transducer.proofs.Glance.{Looking, says-unsure, glanced-rest, glanced-lower, glanced-stop}
@@ -17,10 +18,11 @@ use Rattle.transducer.proofs.check.glance_at.Statement.{statement}
 use Rattle.transducer.proofs.check.glance_at.Tie as tie
 
 abbrev Inv-loop : tie.InvT-loop
-Inv-loop bytes at count n floor close end each place₀ last₀ any₀ all₀ below₀ place last any all below = Looking bytes at count n each floor last any all below place
+Inv-loop bytes at count n floor close end each place₀ last₀ any₀ all₀ below₀ place last any all below =
+    Looking bytes at count n each floor last any all below place
 
 abbrev μ-loop : tie.MeasureT-loop
-μ-loop bytes at count n floor close end each place₀ last₀ any₀ all₀ below₀ place last any all below = 1000000 - below
+μ-loop bytes at count n floor close end each place₀ last₀ any₀ all₀ below₀ place last any all below = weight-limit - below
 
 -- The first run, and the head of a further one.
 abbrev First : Type 0
@@ -142,7 +144,7 @@ returns-5 c =
     (glance .good-at-a-glance .ensures (not-false (glance .good-at-a-glance .result) (c .before .before .if4 .left))) _ refl
     (toZ-ofZ (record { sfits = c .before .minus2 .ok }) ∙ c .before .minus2 .ensures)
     (λ e. omega (arith, c .wide64 .ensures, ltb-true (c .wide64 .result) (l .all / 281474976710656) e))
-    (λ e. omega (arith, and-mask (l .all / 4294967296) 16, ltb-true 0 (bitAnd (l .all / 4294967296) 65535) e))
+    (λ e. omega (arith, and-mask (l .all / 4294967296) 16, ltb-true 0 (bitAnd (l .all / 4294967296) (2 ^ 16 - 1)) e))
 
 pub glance-at-spec : {M : Type 1} → statement M
 glance-at-spec =

@@ -1,10 +1,11 @@
 -- The bounds are those of `good-up-to`.
 use borrow.Author.Needs.{needs}
-use Prim.Native.Nat.{_/_}
+use Prim.Native.Nat.{_-_, _/_, _^_}
 use native.Mathlib.Omega.{arith}
 use lib.Bits.{bitAnd, and-mask}
 use borrow.Author.Tests.{ltb-true}
 use Rattle.wire.proofs.Bool.{never}
+use Rattle.transducer.specs.Format.{barred}
 use Rattle.transducer.proofs.Glance.{good-up-to}
 use Rattle.transducer.proofs.check.labels_at_a_glance.Statement.{statement}
 use Rattle.transducer.proofs.check.labels_at_a_glance.Tie as tie
@@ -23,7 +24,7 @@ returns-2 c =
     let any = c .before .args .any in
     λ e.
     good-up-to any (omega (arith, and-mask (any / 65536) 16, c .if1 .left))
-    (omega (arith, and-mask (any / 4294967296) 16, ltb-true (bitAnd (any / 4294967296) 65535) 65535 e))
+    (omega (arith, and-mask (any / 4294967296) 16, ltb-true (bitAnd (any / 4294967296) (2 ^ 16 - 1)) barred e))
 
 pub labels-at-a-glance-spec : {M : Type 1} → statement M
 labels-at-a-glance-spec = tie.close (tie.spec cast-if1 returns cast-result returns-2)

@@ -6,14 +6,15 @@ use lib.IntN.{pos, _-ℤ_}
 use mir.Syntax.{w32}
 use mir.Val.{SFits}
 use mir.Facts.{toZ-pos, toZ-ofZ}
+use Rattle.transducer.specs.Format.{weight-limit}
 use Rattle.wire.proofs.Ints.{sums, minus, difference, size}
 use Rattle.transducer.proofs.check.minus.Statement.{statement}
 use Rattle.transducer.proofs.check.minus.Tie as tie
 
-short : (below : ℕ) → below ≤ 1000000 → below < 2 ^ 31
+short : (below : ℕ) → below ≤ weight-limit → below < 2 ^ 31
 short below h = omega arith
 
-fits : (below : ℕ) → below ≤ 1000000 → SFits w32 (pos 0 -ℤ pos below)
+fits : (below : ℕ) → below ≤ weight-limit → SFits w32 (pos 0 -ℤ pos below)
 fits below h = record { sfits = omega (arith, difference (pos 0) (pos below), size (pos 0 -ℤ pos below)) }
 
 cast-result : tie.Need-cast-result

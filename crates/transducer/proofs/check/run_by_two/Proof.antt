@@ -5,13 +5,13 @@ use native.Mathlib.Omega.{arith}
 use lib.ListN.{length}
 use Rattle.wire.specs.Bytes.{Bytes}
 use Rattle.transducer.specs.Weight.{rebate}
-use Rattle.transducer.proofs.Glance.{Running, running-first, running-next, running-on, rebate-good}
+use Rattle.transducer.proofs.Glance.{Run-seen, running-first, running-next, running-on, rebate-good}
 use Rattle.transducer.proofs.check.run_by_two.Statement.{statement}
 use Rattle.transducer.proofs.check.run_by_two.Tie as tie
 
 abbrev Inv-loop : tie.InvT-loop
 Inv-loop bytes from end n each last any all below before₀ most₀ lowest₀ place₀ pairs before most lowest place =
-    Running bytes from end n each last any all (rebate below) before most lowest place
+    Run-seen bytes from end n each last any all (rebate below) before most lowest place
 
 abbrev μ-loop : tie.MeasureT-loop
 μ-loop bytes from end n each last any all below before₀ most₀ lowest₀ place₀ pairs before most lowest place = end - place
@@ -22,6 +22,12 @@ Turn = tie.In-loop Inv-loop μ-loop
 
 abbrev start : Turn → tie.Start Inv-loop μ-loop
 start c = c .before .before .before
+
+abbrev one-read : tie.After-fields-at Inv-loop μ-loop → tie.In-loop Inv-loop μ-loop
+one-read c = c .before .before .before .before .before
+
+abbrev two-read : tie.After-fields-at2 Inv-loop μ-loop → tie.In-loop Inv-loop μ-loop
+two-read c = c .before .before .before .before .before .before
 
 -- Two arcs are left.
 room : (c : Turn) → c .before .loop .place + 32 ≤ length (start c .args .bytes .now)
@@ -49,17 +55,17 @@ fields-at-requires : tie.Need-fields-at-requires Inv-loop μ-loop
 fields-at-requires c κs = omega (arith, room (c .before .before .before .before))
 
 add-fields-at-2 : tie.Need-add-fields-at-2 Inv-loop μ-loop
-add-fields-at-2 c = omega (arith, room (c .before .before .before .before .before))
+add-fields-at-2 c = omega (arith, room (one-read c))
 
 fields-at-requires-2 : tie.Need-fields-at-requires-2 Inv-loop μ-loop
-fields-at-requires-2 c κs = omega (arith, room (c .before .before .before .before .before))
+fields-at-requires-2 c κs = omega (arith, room (one-read c))
 
 add-place : tie.Need-add-place Inv-loop μ-loop
 add-place c = search needs
 
 loop-less : tie.Need-loop-less Inv-loop μ-loop
 loop-less c =
-    let turn = c .before .before .before .before .before .before in
+    let turn = two-read c in
     omega (arith, turn .before .loop .inv .rows .end-is, turn .loop-test .taken)
 
 loop-again : tie.Need-loop-again Inv-loop μ-loop

@@ -1,17 +1,17 @@
--- The invariant (`Running`): whatever was known of the arcs before goes on to this place.
+-- The invariant (`Run-seen`): whatever was known of the arcs before goes on to this place.
 use borrow.Author.Needs.{needs}
 use Prim.Native.Nat.{_+_, _-_, _≤_}
 use native.Mathlib.Omega.{arith}
 use lib.ListN.{length}
 use Rattle.wire.specs.Bytes.{Bytes}
 use Rattle.transducer.specs.Weight.{rebate}
-use Rattle.transducer.proofs.Glance.{Running, running-first, running-room, running-next, rebate-good}
+use Rattle.transducer.proofs.Glance.{Run-seen, running-first, running-room, running-next, rebate-good}
 use Rattle.transducer.proofs.check.run_on.Statement.{statement}
 use Rattle.transducer.proofs.check.run_on.Tie as tie
 
 abbrev Inv-loop : tie.InvT-loop
 Inv-loop bytes from end n each last any all below before₀ most₀ lowest₀ place₀ before most lowest place =
-    Running bytes from end n each last any all (rebate below) before most lowest place
+    Run-seen bytes from end n each last any all (rebate below) before most lowest place
 
 abbrev μ-loop : tie.MeasureT-loop
 μ-loop bytes from end n each last any all below before₀ most₀ lowest₀ place₀ before most lowest place = end - place

@@ -3,6 +3,7 @@ use borrow.Author.Needs.{needs}
 use Prim.Native.Nat.{_+_}
 use native.Mathlib.Omega.{arith}
 use borrow.Author.Tests.{leb-true}
+use Rattle.transducer.specs.Format.{weight-limit}
 use Rattle.transducer.proofs.Glance.{weight-within}
 use Rattle.transducer.proofs.check.weight_in.Statement.{statement}
 use Rattle.transducer.proofs.check.weight_in.Tie as tie
@@ -22,7 +23,7 @@ returns c =
     let sum = c .wrapping-add-u32 in
     λ e.
     weight-within (s .args .bits) (s .args .below) (s .fits .bits .fits) (s .pre)
-    (omega (arith, sum .ensures, leb-true (sum .result) (1000000 + s .args .below) e))
+    (omega (arith, sum .ensures, leb-true (sum .result) (weight-limit + s .args .below) e))
 
 pub weight-in-spec : {M : Type 1} → statement M
 weight-in-spec = tie.close (tie.spec wrapping-add-u32-requires cast-result add-result returns)

@@ -4,12 +4,12 @@ use Prim.Native.Nat.{ℕ, _+_, _*_, _≤_}
 use native.Mathlib.Omega.{arith}
 use lib.ListN.{length}
 use Rattle.wire.specs.Bytes.{Bytes}
-use Rattle.transducer.specs.Format.{arc-at}
+use Rattle.transducer.specs.Format.{arc-bytes, arc-at}
 use Rattle.transducer.proofs.Offsets.{arc-offset, arc-inside}
 use Rattle.transducer.proofs.leaf.arc_of.Statement.{statement}
 use Rattle.transducer.proofs.leaf.arc_of.Tie as tie
 
-inside : (c : tie.After-shared-slice-known) → c .before .args .first + 16 * c .before .args .i + 16 ≤ length (c .before .args .bytes .now)
+inside : (c : tie.After-shared-slice-known) → c .before .args .first + arc-bytes * c .before .args .i + 16 ≤ length (c .before .args .bytes .now)
 inside c =
     let bs = c .before .args .bytes .now in
     let bytes : Bytes bs = λ i. omega (arith, c .shared-slice-known .given i) in
@@ -32,7 +32,7 @@ returns c =
     let bytes : Bytes bs = λ i. omega (arith, c .before .shared-slice-known .given i) in
     let opened = start .pre .0 in
     c .load-arc .ensures
-    ∙ ap (λ (first : ℕ). arc-at bs (first + 16 * start .args .i)) (opened .first-is)
+    ∙ ap (λ (first : ℕ). arc-at bs (first + arc-bytes * start .args .i)) (opened .first-is)
     ∙ sym (arc-offset bs bytes (opened .accepted) (start .args .i) (start .pre .1))
 
 pub arc-of-spec : {M : Type 1} → statement M

@@ -3,7 +3,7 @@ use native.Mathlib.Omega.{arith}
 use Prim.Native.Nat.{_≤_}
 use mathlib.Core.Path.{sym}
 use Rattle.wire.specs.Bytes.{Bytes}
-use Rattle.transducer.specs.Format.{decode}
+use Rattle.transducer.specs.Format.{max-states, decode}
 use Rattle.transducer.proofs.Offsets.{decode-states, accepted-within}
 use Rattle.transducer.proofs.FirstArcs.{marked-none, marked-all}
 use Rattle.transducer.proofs.leaf.first_arcs.Statement.{statement}
@@ -12,7 +12,7 @@ use Rattle.transducer.proofs.leaf.first_arcs.Tie as tie
 is-bytes : (c : tie.After-shared-slice-known) → Bytes (c .before .args .bytes .now)
 is-bytes c = λ i. omega (arith, c .shared-slice-known .given i)
 
-few-states : (c : tie.After-shared-slice-known) → c .before .args .states ≤ 1024
+few-states : (c : tie.After-shared-slice-known) → c .before .args .states ≤ max-states
 few-states c =
     let bs = c .before .args .bytes .now in
     let ok = c .before .pre .0 .accepted in

@@ -3,10 +3,14 @@ use borrow.Author.Needs.{needs}
 use Prim.Native.Nat.{_+_, _*_, _<_, _≤_}
 use native.Mathlib.Omega.{arith}
 use Rattle.wire.specs.Bytes.{Bytes}
-use Rattle.transducer.specs.Format.{head-arcs}
-use Rattle.transducer.proofs.FirstArcs.{Marking, Small, opened-small, marking-first, marking-source, marking-block, marking-stop}
+use Rattle.transducer.specs.Format.{arc-bytes, max-states, head-arcs}
+use Rattle.transducer.proofs.FirstArcs.{Ends-marking, Small, opened-small, marking-first, marking-source, marking-block, marking-stop}
 use Rattle.transducer.proofs.leaf.mark_block.Statement.{statement}
 use Rattle.transducer.proofs.leaf.mark_block.Tie as tie
+
+-- Places to look back to.
+abbrev entry : tie.After-mark-each-arg → tie.Start
+entry c = c .before .before .before .before .before
 
 is-bytes : (c : tie.After-shared-slice-known) → Bytes (c .before .args .bytes .now)
 is-bytes c = λ i. omega (arith, c .shared-slice-known .given i)
@@ -18,16 +22,19 @@ are-arcs : (c : tie.After-shared-slice-known) → c .before .args .from + 128 �
 are-arcs c = omega (arith, c .before .pre .1, small c)
 
 marking : (c : tie.After-shared-slice-known) →
-    Marking (c .before .args .bytes .now) (c .before .args .from) (c .before .args .first + 16 * c .before .args .from + 4) (c .before .args .index .now)
+    Ends-marking (c .before .args .bytes .now) (c .before .args .from) (c .before .args .first + arc-bytes * c .before .args .from + 4)
+    (c .before .args .index .now)
 marking c =
     let start = c .before in
-    marking-first (start .args .bytes .now) (is-bytes c) (start .pre .0 .accepted) (omega (arith, are-arcs c)) (omega (arith, start .pre .0 .first-is)) (start .pre .2)
+    marking-first (start .args .bytes .now) (is-bytes c) (start .pre .0 .accepted) (omega (arith, are-arcs c)) (omega (arith, start .pre .0 .first-is))
+    (start .pre .2)
 
 -- The source that is loaded is a state.
-is-state : (c : tie.After-u16-at) → c .u16-at .result < 1024
+is-state : (c : tie.After-u16-at) → c .u16-at .result < max-states
 is-state c =
     let start = c .before .before in
-    marking-source (start .args .bytes .now) (is-bytes (c .before)) (start .pre .0 .accepted) (c .u16-at .result) (omega (arith, are-arcs (c .before))) (c .u16-at .ensures) (marking (c .before))
+    marking-source (start .args .bytes .now) (is-bytes (c .before)) (start .pre .0 .accepted) (c .u16-at .result) (omega (arith, are-arcs (c .before)))
+    (c .u16-at .ensures) (marking (c .before))
 
 mul-place : tie.Need-mul-place
 mul-place c = omega (arith, are-arcs c, small c)
@@ -58,7 +65,7 @@ add-mark-each c = let known = c .before .before .before in omega (arith, are-arc
 
 mark-each-requires : tie.Need-mark-each-requires
 mark-each-requires c κs =
-    let start = c .before .before .before .before .before in
+    let start = entry c in
     (start .pre .0, omega arith, start .pre .1, start .pre .2)
 
 returns : tie.Need-returns

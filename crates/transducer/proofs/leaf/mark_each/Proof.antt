@@ -1,18 +1,18 @@
--- The invariant (`Marking`): the first `i` arcs are marked.
+-- The invariant (`Ends-marking`): the first `i` arcs are marked.
 use borrow.Author.Needs.{needs}
 use mathlib.Core.Path.{_≡_}
 use Prim.Native.Nat.{_-_, _+_, _≤_, _<_}
 use native.Mathlib.Omega.{arith}
 use lib.ListN.{length, take}
 use Rattle.wire.specs.Bytes.{Bytes}
-use Rattle.transducer.specs.Format.{decode, head-arcs}
-use Rattle.transducer.specs.Leaf.{Marked}
-use Rattle.transducer.proofs.FirstArcs.{Marking, Small, opened-small, marking-first, marking-inside, marking-source, marking-next, marking-stop}
+use Rattle.transducer.specs.Format.{max-states, decode, head-arcs}
+use Rattle.transducer.specs.Leaf.{Ends-marked}
+use Rattle.transducer.proofs.FirstArcs.{Ends-marking, Small, opened-small, marking-first, marking-inside, marking-source, marking-next, marking-stop}
 use Rattle.transducer.proofs.leaf.mark_each.Statement.{statement}
 use Rattle.transducer.proofs.leaf.mark_each.Tie as tie
 
 abbrev Inv-loop : tie.InvT-loop
-Inv-loop bytes first from to index₀ i₀ place₀ index i place = (i ≤ to) × Marking bytes i place index
+Inv-loop bytes first from to index₀ i₀ place₀ index i place = (i ≤ to) × Ends-marking bytes i place index
 
 abbrev μ-loop : tie.MeasureT-loop
 μ-loop bytes first from to index₀ i₀ place₀ index i place = to - i
@@ -34,8 +34,11 @@ add-place-2 c = omega (arith, small c)
 
 loop-holds : tie.Need-loop-holds Inv-loop μ-loop
 loop-holds c =
-    let start = c .before in
-    (start .pre .1, marking-first (start .args .bytes .now) (is-bytes c) (start .pre .0 .accepted) (omega (arith, small c)) (omega (arith, start .pre .0 .first-is)) (start .pre .3))
+    let start = c .before in (
+      start .pre .1,
+      marking-first (start .args .bytes .now) (is-bytes c) (start .pre .0 .accepted) (omega (arith, small c))
+          (omega (arith, start .pre .0 .first-is)) (start .pre .3),
+    )
 
 -- In a turn there is an arc of this number.
 is-arc : (c : tie.In-loop Inv-loop μ-loop) → c .before .loop .i < head-arcs (c .before .before .before .args .bytes .now)
@@ -47,11 +50,12 @@ inside c =
     marking-inside (start .args .bytes .now) (is-bytes (c .before .before)) (start .pre .0 .accepted) (is-arc c) (c .before .loop .inv .1)
 
 -- The source that is loaded is a state.
-is-state : (c : tie.After-u16-at Inv-loop μ-loop) → c .u16-at .result < 1024
+is-state : (c : tie.After-u16-at Inv-loop μ-loop) → c .u16-at .result < max-states
 is-state c =
     let turn = c .before in
     let start = turn .before .before .before in
-    marking-source (start .args .bytes .now) (is-bytes (turn .before .before)) (start .pre .0 .accepted) (c .u16-at .result) (is-arc turn) (c .u16-at .ensures) (turn .before .loop .inv .1)
+    marking-source (start .args .bytes .now) (is-bytes (turn .before .before)) (start .pre .0 .accepted) (c .u16-at .result) (is-arc turn)
+    (c .u16-at .ensures) (turn .before .loop .inv .1)
 
 u16-at-requires : tie.Need-u16-at-requires Inv-loop μ-loop
 u16-at-requires c κs = omega (arith, inside c)
@@ -83,15 +87,18 @@ loop-less c = search needs
 loop-again : tie.Need-loop-again Inv-loop μ-loop
 loop-again c =
     let turn = c .before in
-    let start = turn .before .before .before in
-    (omega (arith, turn .loop-test .taken), marking-next (start .args .bytes .now) (is-bytes (turn .before .before)) (start .pre .0 .accepted) (c .u16-at .result) (is-arc turn) (c .u16-at .ensures) (turn .before .loop .inv .1))
+    let start = turn .before .before .before in (
+      omega (arith, turn .loop-test .taken),
+      marking-next (start .args .bytes .now) (is-bytes (turn .before .before)) (start .pre .0 .accepted)
+          (c .u16-at .result) (is-arc turn) (c .u16-at .ensures) (turn .before .loop .inv .1),
+    )
 
 returns : tie.Need-returns Inv-loop μ-loop
 returns c =
     let known = c .before .before in
     let start = known .before in
     let all : c .before .loop .i ≡ start .args .to = omega (arith, c .loop-test .left, c .before .loop .inv .0) in
-    let done : Marked (take (c .before .loop .i) (decode (start .args .bytes .now) .arcs)) (c .before .loop .index) =
+    let done : Ends-marked (take (c .before .loop .i) (decode (start .args .bytes .now) .arcs)) (c .before .loop .index) =
     marking-stop (start .args .bytes .now) (is-bytes known) (start .pre .0 .accepted) (c .before .loop .inv .1) in
     rw all at done
 

@@ -1,7 +1,7 @@
 -- A cost of at most 2^62 and a weight of 32 bits make a sum of 64.
 use mathlib.Core.Path.{refl}
 use native.Mathlib.Omega.{arith}
-use mir.Syntax.{w32, w64}
+use mir.Syntax.{w64}
 use mir.Val.{SFits}
 use mir.Facts.{toZ-ofZ, sfits-widen}
 use Rattle.wire.proofs.Ints.{size}

@@ -1,22 +1,29 @@
--- The invariant: the arcs up to `i` are marked (`Marked`), by blocks.
+-- The invariant: the arcs up to `i` are marked (`Ends-marked`), by blocks.
 use borrow.Author.Needs.{needs}
 use mathlib.Core.Path.{sym}
 use Prim.Native.Nat.{_-_, _≤_}
 use native.Mathlib.Omega.{arith}
 use lib.ListN.{take}
 use Rattle.wire.specs.Bytes.{Bytes}
-use Rattle.transducer.specs.Format.{decode}
-use Rattle.transducer.specs.Leaf.{Marked}
+use Rattle.transducer.specs.Format.{max-states, decode}
+use Rattle.transducer.specs.Leaf.{Ends-marked}
 use Rattle.transducer.proofs.Offsets.{decode-states, accepted-within}
 use Rattle.transducer.proofs.FirstArcs.{Small, opened-small, marked-none, marked-all}
 use Rattle.transducer.proofs.leaf.put_index.Statement.{statement}
 use Rattle.transducer.proofs.leaf.put_index.Tie as tie
 
 abbrev Inv-loop : tie.InvT-loop
-Inv-loop bytes first states arcs index₀ i₀ index i = (i ≤ arcs) × Marked (take i (decode bytes .arcs)) index
+Inv-loop bytes first states arcs index₀ i₀ index i = (i ≤ arcs) × Ends-marked (take i (decode bytes .arcs)) index
 
 abbrev μ-loop : tie.MeasureT-loop
 μ-loop bytes first states arcs index₀ i₀ index i = arcs - i
+
+-- Places to look back to.
+abbrev lent : tie.After-raise-arg Inv-loop μ-loop → tie.After-shared-slice-known Inv-loop μ-loop
+lent c = c .before .before .before .before .before
+
+abbrev entry : tie.After-mark-each Inv-loop μ-loop → tie.Start Inv-loop μ-loop
+entry c = c .before .before .before .before .before
 
 is-bytes : (c : tie.After-shared-slice-known Inv-loop μ-loop) → Bytes (c .before .args .bytes .now)
 is-bytes c = λ i. omega (arith, c .shared-slice-known .given i)
@@ -24,7 +31,7 @@ is-bytes c = λ i. omega (arith, c .shared-slice-known .given i)
 small : (c : tie.After-shared-slice-known Inv-loop μ-loop) → Small (c .before .args .bytes .now) (c .before .args .first)
 small c = opened-small (c .before .args .bytes .now) (is-bytes c) (c .before .pre .0 .accepted) (c .before .pre .0)
 
-few-states : (c : tie.After-shared-slice-known Inv-loop μ-loop) → c .before .args .states ≤ 1024
+few-states : (c : tie.After-shared-slice-known Inv-loop μ-loop) → c .before .args .states ≤ max-states
 few-states c =
     let bs = c .before .args .bytes .now in
     let ok = c .before .pre .0 .accepted in
@@ -56,12 +63,12 @@ mark-each-requires c κs =
     (start .pre .0, c .before .before .loop .inv .0, omega (arith, start .pre .2), c .before .before .loop .inv .1)
 
 raise-requires : tie.Need-raise-requires Inv-loop μ-loop
-raise-requires c κs = (few-states (c .before .before .before .before .before), c .before .mark-each .ensures .long)
+raise-requires c κs = (few-states (lent c), c .before .mark-each .ensures .long)
 
 returns : tie.Need-returns Inv-loop μ-loop
 returns c =
     let marked = c .before .before in
-    let start = marked .before .before .before .before .before in
+    let start = entry marked in
     let t = decode (start .args .bytes .now) in
     c .raise .ensures t (sym (start .pre .1)) (marked-all (t .arcs) (start .pre .2) (marked .mark-each .ensures))
 

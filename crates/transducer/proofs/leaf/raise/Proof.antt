@@ -1,18 +1,18 @@
 -- The invariant (`Summed`): up to `s` the index is as it shall be.
 use borrow.Author.Needs.{needs}
 use mathlib.Core.Path.{_≡_, _∙_}
-use Prim.Native.Nat.{_-_, _+_, _≤_, _<_}
+use Prim.Native.Nat.{_-_, _+_, _<_}
 use native.Mathlib.Omega.{arith}
 use lib.ListN.{length, length-set}
-use Rattle.transducer.specs.Format.{Transducer}
-use Rattle.transducer.specs.Leaf.{Marked}
+use Rattle.transducer.specs.Format.{index-long, max-states, Transducer}
+use Rattle.transducer.specs.Leaf.{Ends-marked}
 use Rattle.transducer.proofs.FirstArcs.{Summed, summed-first, summed-next, summed-stop}
 use Rattle.transducer.proofs.leaf.raise.Statement.{statement}
 use Rattle.transducer.proofs.leaf.raise.Tie as tie
 
 abbrev Inv-loop : tie.InvT-loop
 Inv-loop states index₀ s₀ most₀ index s most =
-    (length index ≡ 1025) × ((t : Transducer) → t .states ≡ states → Marked (t .arcs) index₀ → Summed (t .arcs) s most index)
+    (length index ≡ index-long) × ((t : Transducer) → t .states ≡ states → Ends-marked (t .arcs) index₀ → Summed (t .arcs) s most index)
 
 abbrev μ-loop : tie.MeasureT-loop
 μ-loop states index₀ s₀ most₀ index s most = states - s
@@ -21,7 +21,7 @@ loop-holds : tie.Need-loop-holds Inv-loop μ-loop
 loop-holds c = (c .pre .1, λ t e m. summed-first m)
 
 -- In a turn there is a state of this number.
-below : (c : tie.In-loop Inv-loop μ-loop) → c .before .loop .s < 1024
+below : (c : tie.In-loop Inv-loop μ-loop) → c .before .loop .s < max-states
 below c = omega (arith, c .loop-test .taken, c .before .before .pre .0)
 
 add-s : tie.Need-add-s Inv-loop μ-loop
@@ -47,8 +47,10 @@ loop-less c = search needs
 
 loop-again : tie.Need-loop-again Inv-loop μ-loop
 loop-again c =
-    let turn = c .before .before in
-    (length-set (turn .before .loop .index) (turn .before .loop .s + 1) (c .larger .result) ∙ turn .before .loop .inv .0, λ t e m. summed-next (c .larger .result) (below turn) (c .larger .ensures) (turn .before .loop .inv .1 t e m))
+    let turn = c .before .before in (
+      length-set (turn .before .loop .index) (turn .before .loop .s + 1) (c .larger .result) ∙ turn .before .loop .inv .0,
+      λ t e m. summed-next (c .larger .result) (below turn) (c .larger .ensures) (turn .before .loop .inv .1 t e m),
+    )
 
 returns : tie.Need-returns Inv-loop μ-loop
 returns c = λ t e m. summed-stop t (omega (arith, c .loop-test .left, e)) (c .before .loop .inv .1 t e m)

@@ -1,6 +1,6 @@
 -- What a code is above 1, the weight is above the least one.
 use borrow.Author.Needs.{needs}
-use mathlib.Core.Path.{_≡_, refl}
+use mathlib.Core.Path.{refl}
 use Prim.Native.Nat.{_-_, _<_, _^_}
 use native.Mathlib.Omega.{arith}
 use mir.Syntax.{w32}

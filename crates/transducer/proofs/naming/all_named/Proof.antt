@@ -3,8 +3,7 @@ use borrow.Author.Needs.{needs}
 use mathlib.Core.Path.{_≡_, sym, _∙_}
 use native.Mathlib.Omega.{arith}
 use Rattle.wire.specs.Bytes.{Bytes}
-use Prim.Native.Nat.{_+_, _*_}
-use Rattle.transducer.specs.Format.{head-finals, head-arcs}
+use Rattle.transducer.specs.Format.{arcs-at, head-finals, head-arcs}
 use Rattle.transducer.proofs.Offsets.{length-accepted, length-arcs}
 use Rattle.transducer.proofs.Headed.{Headed, headed}
 use Rattle.transducer.proofs.Named.{named-decode}
@@ -31,7 +30,7 @@ cast-arcs-at : tie.Need-cast-arcs-at
 cast-arcs-at c = search needs
 
 -- The arcs begin behind the finals, and there are as many as the head says.
-begin : (c : tie.After-arcs-at) → c .arcs-at .result ≡ 12 + 10 * head-finals (start (c .before .before) .args .bytes .now)
+begin : (c : tie.After-arcs-at) → c .arcs-at .result ≡ arcs-at (head-finals (start (c .before .before) .args .bytes .now))
 begin c = omega (arith, c .arcs-at .ensures, head (c .before .before) .finals-are)
 
 count : (c : tie.After-header) → c .header .result .arcs ≡ head-arcs (start c .args .bytes .now)

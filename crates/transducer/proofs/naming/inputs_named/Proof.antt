@@ -1,14 +1,14 @@
--- A search over the arcs. The invariant, `Searching`: what is left of it gives the whole.
+-- A search over the arcs. The invariant, `Name-search`: what is left of it gives the whole.
 use borrow.Author.Needs.{needs}
 use Prim.Native.Nat.{_-_}
 use native.Mathlib.Omega.{arith}
 use mathlib.Core.Path.{sym, _∙_}
-use Rattle.transducer.proofs.Named.{Searching, searching-first, searching-any, searching-next, searching-stop}
+use Rattle.transducer.proofs.Named.{Name-search, searching-first, searching-any, searching-next, searching-stop}
 use Rattle.transducer.proofs.naming.inputs_named.Statement.{statement}
 use Rattle.transducer.proofs.naming.inputs_named.Tie as tie
 
 abbrev Inv-loop : tie.InvT-loop
-Inv-loop bytes at count place₀ i₀ place i = Searching bytes at count place i
+Inv-loop bytes at count place₀ i₀ place i = Name-search bytes at count place i
 
 abbrev μ-loop : tie.MeasureT-loop
 μ-loop bytes at count place₀ i₀ place i = count - i

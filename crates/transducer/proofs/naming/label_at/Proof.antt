@@ -10,7 +10,7 @@ use lib.ListN.{length}
 use borrow.Author.Tests.{eqb-true, eqb-false}
 use Rattle.wire.specs.Bytes.{Bytes}
 use Rattle.wire.proofs.Bool.{or-true, or-false}
-use Rattle.transducer.specs.Format.{decode}
+use Rattle.transducer.specs.Format.{arc-bytes, decode}
 use Rattle.transducer.specs.Path.{arc}
 use Rattle.transducer.proofs.Opened.{opened-inside, input-in-place}
 use Rattle.transducer.proofs.Leaving.{exact-label, no-label, named-label, unnamed-label}
@@ -24,6 +24,10 @@ Inv-loop bytes first exact from to symbol i₀ i =
 abbrev μ-loop : tie.MeasureT-loop
 μ-loop bytes first exact from to symbol i₀ i = to - i
 
+-- Places to look back to.
+abbrev start : tie.In-loop Inv-loop μ-loop → tie.Start Inv-loop μ-loop
+start c = c .before .before .before .before
+
 returns : tie.Need-returns Inv-loop μ-loop
 returns c =
     let s = c .before .before in
@@ -34,17 +38,13 @@ returns c =
 loop-holds : tie.Need-loop-holds Inv-loop μ-loop
 loop-holds c = (omega arith, λ k l h e. omega arith)
 
--- In a turn: there is an arc of this number, and its record lies within the bytes.
-abbrev start : tie.In-loop Inv-loop μ-loop → tie.Start Inv-loop μ-loop
-start c = c .before .before .before .before
-
 is-bytes : (c : tie.In-loop Inv-loop μ-loop) → Bytes (start c .args .bytes .now)
 is-bytes c = λ i. omega (arith, c .before .before .before .shared-slice-known .given i)
 
 is-arc : (c : tie.In-loop Inv-loop μ-loop) → c .before .loop .i < length (decode (start c .args .bytes .now) .arcs)
 is-arc c = omega (arith, c .loop-test .taken, start c .pre .1 .1 .rest .within)
 
-inside : (c : tie.In-loop Inv-loop μ-loop) → start c .args .first + 16 * (c .before .loop .i + 1) ≤ length (start c .args .bytes .now)
+inside : (c : tie.In-loop Inv-loop μ-loop) → start c .args .first + arc-bytes * (c .before .loop .i + 1) ≤ length (start c .args .bytes .now)
 inside c =
     opened-inside (start c .args .bytes .now) (is-bytes c) (start c .args .first) (start c .pre .0 .0) (c .before .loop .i + 1) (omega (arith, is-arc c))
 

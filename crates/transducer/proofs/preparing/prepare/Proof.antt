@@ -1,88 +1,33 @@
--- `headed` has the numbers that the calls ask for; the index and the codes are what the two calls put.
-use borrow.Author.Needs.{needs}
-use native.Mathlib.Omega.{arith}
-use Rattle.wire.specs.Bytes.{Bytes}
-use Rattle.transducer.specs.Leaf.{Opened}
-use Rattle.transducer.proofs.Offsets.{length-accepted}
-use Rattle.transducer.proofs.Headed.{Headed, headed, headed-opened}
+-- The shape has the numbers that the calls ask for; the index and the codes are what the two calls put.
 use Rattle.transducer.proofs.preparing.prepare.Statement.{statement}
 use Rattle.transducer.proofs.preparing.prepare.Tie as tie
 
 -- Places to look back to.
-abbrev start : tie.After-header → tie.Start
+abbrev start : tie.After-shape-of → tie.Start
 start c = c .before .before
 
-abbrev at-header : tie.After-struct-known3 → tie.After-header
-at-header c = c .before .before .before
+abbrev shape : tie.After-put-index → tie.After-shape-of
+shape c = c .before .before
 
-abbrev at-first : tie.After-put-index → tie.After-arcs-at
-at-first c = c .before .before
-
-is-bytes : (c : tie.After-shared-slice-known) → Bytes (c .before .args .bytes .now)
-is-bytes c = λ i. omega (arith, c .shared-slice-known .given i)
-
-head : (c : tie.After-header) → Headed (start c .args .bytes .now) (c .header .result)
-head c = headed (start c .args .bytes .now) (is-bytes (c .before)) (start c .pre .0) (c .header .result) (c .header .ensures)
-
-opened : (c : tie.After-arcs-at) → Opened (start (at-header (c .before)) .args .bytes .now) (c .arcs-at .result)
-opened c =
-    let header = at-header (c .before) in
-    headed-opened (start header .args .bytes .now) (header .header .result) (c .arcs-at .result) (head header) (c .arcs-at .ensures)
-
-header-requires : tie.Need-header-requires
-header-requires c κs = omega (arith, length-accepted (c .before .args .bytes .now) (is-bytes c) (c .before .pre .0))
-
-cast-states : tie.Need-cast-states
-cast-states c = search needs
-
-cast-arcs : tie.Need-cast-arcs
-cast-arcs c = search needs
-
-cast-finals : tie.Need-cast-finals
-cast-finals c = search needs
-
-arcs-at-requires : tie.Need-arcs-at-requires
-arcs-at-requires c κs = omega (arith, head (at-header c) .few-finals)
+shape-of-requires : tie.Need-shape-of-requires
+shape-of-requires c κs = c .before .pre .0
 
 put-index-requires : tie.Need-put-index-requires
 put-index-requires c κs =
-    let header = at-header (c .before .before) in
-    (opened (c .before), head header .states-are, head header .arcs-are, start header .pre .1)
+    let shaped = c .before .shape-of .ensures in
+    (shaped .opened, shaped .states-are, shaped .arcs-are, start (c .before) .pre .1)
 
 put-codes-requires : tie.Need-put-codes-requires
 put-codes-requires c κs =
-    let header = at-header (at-first (c .before) .before) in
-    (start header .pre .0, head header .finals-are, start header .pre .2)
-
-cast-t12 : tie.Need-cast-t12
-cast-t12 c = search needs
+    let made = shape (c .before) in
+    (start made .pre .0, made .shape-of .ensures .finals-are, start made .pre .2)
 
 returns : tie.Need-returns
 returns c =
-    let codes = c .before in
-    let index = codes .before .before in
-    let known = head (at-header (at-first index .before)) in
-    record {
-      opened = opened (at-first index);
-      states-are = known .states-are;
-      arcs-are = known .arcs-are;
-      start-is = known .start-is;
-      few-states = known .few-states;
-      start-below = known .start-below;
-      indexed = index .put-index .ensures;
-      finals = codes .put-codes .ensures;
-    }
+    let index = c .before .before in
+    record { shaped = shape index .shape-of .ensures; indexed = index .put-index .ensures; finals = c .put-codes .ensures }
 
 pub prepare-spec : {M : Type 1} → statement M
 prepare-spec =
     tie.close
-    (tie.spec
-    header-requires
-    cast-states
-    cast-arcs
-    cast-finals
-    arcs-at-requires
-    put-index-requires
-    put-codes-requires
-    cast-t12
-    returns)
+    (tie.spec shape-of-requires put-index-requires put-codes-requires returns)

@@ -7,6 +7,10 @@ use Rattle.transducer.proofs.Encode.{sets-arc}
 use Rattle.transducer.proofs.store.put_arc.Statement.{statement}
 use Rattle.transducer.proofs.store.put_arc.Tie as tie
 
+-- Places to look back to.
+abbrev sixth : tie.After-put-i32 → tie.After-put-u166
+sixth c = c .before .before .before .before .before
+
 put-u16-requires : tie.Need-put-u16-requires
 put-u16-requires c κs = search needs
 
@@ -53,7 +57,7 @@ returns : tie.Need-returns
 unfolding weight-bytes
 returns c =
     let c7 = c .before .before in
-    let c6 = c7 .before .before .before .before .before in
+    let c6 = sixth c7 in
     let c5 = c6 .before .before .before .before in
     let c4 = c5 .before .before .before .before in
     let c3 = c4 .before .before .before .before in

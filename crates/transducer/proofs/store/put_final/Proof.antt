@@ -7,6 +7,10 @@ use Rattle.transducer.proofs.Encode.{sets-final}
 use Rattle.transducer.proofs.store.put_final.Statement.{statement}
 use Rattle.transducer.proofs.store.put_final.Tie as tie
 
+-- Places to look back to.
+abbrev third : tie.After-put-i32 → tie.After-put-u163
+third c = c .before .before .before .before .before
+
 put-u16-requires : tie.Need-put-u16-requires
 put-u16-requires c κs = search needs
 
@@ -35,7 +39,7 @@ returns : tie.Need-returns
 unfolding weight-bytes
 returns c =
     let c4 = c .before .before in
-    let c3 = c4 .before .before .before .before .before in
+    let c3 = third c4 in
     let c2 = c3 .before .before .before .before in
     let c1 = c2 .before .before .before .before in
     let x = c1 .before .before .before .args in

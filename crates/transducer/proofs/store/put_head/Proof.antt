@@ -34,7 +34,8 @@ returns c =
     let c2 = c3 .before .before .before .before in
     let c1 = c2 .before .before .before .before in
     let x = c1 .before .before .before .args in
-    sets-head (x .out .now) (x .n) (x .m) (x .f) (x .start) (c1 .put-u16 .ensures) (c2 .put-u162 .ensures) (c3 .put-u163 .ensures) (c4 .put-u164 .ensures) (c5 .put-u165 .ensures) (c6 .put-u166 .ensures)
+    sets-head (x .out .now) (x .n) (x .m) (x .f) (x .start) (c1 .put-u16 .ensures) (c2 .put-u162 .ensures) (c3 .put-u163 .ensures) (c4 .put-u164 .ensures)
+    (c5 .put-u165 .ensures) (c6 .put-u166 .ensures)
 
 pub put-head-spec : {M : Type 1} → statement M
 put-head-spec =

@@ -9,6 +9,10 @@ use Rattle.transducer.specs.Check.{from-0, all-checked, unsure}
 use Rattle.transducer.proofs.walk.check_all.Statement.{statement}
 use Rattle.transducer.proofs.walk.check_all.Tie as tie
 
+-- Places to look back to.
+abbrev entry : tie.After-restart → tie.Start
+entry c = c .before .before .before .before .before
+
 check-finals-requires : tie.Need-check-finals-requires
 check-finals-requires c κs = search needs
 
@@ -24,7 +28,7 @@ glance-at-requires c κs = search needs
 check-arcs-requires : tie.Need-check-arcs-requires
 unfolding from-0
 check-arcs-requires c κs =
-    let start = c .before .before .before .before .before in
+    let start = entry c in
     let glance = c .before .before in
     (omega (arith, glance .before .arcs-at .ensures, start .pre .0), rw (c .restart .ensures) (glance .glance-at .ensures .plain))
 

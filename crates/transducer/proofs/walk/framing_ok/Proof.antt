@@ -16,6 +16,13 @@ Inv-loop bytes at₀ at = (at ≤ length bytes) × (framed-at bytes at ≡ frame
 abbrev μ-loop : tie.MeasureT-loop
 μ-loop bytes at₀ at = length bytes - at
 
+-- Places to look back to: the start, and the loop's head in a turn.
+abbrev start : tie.At-loop Inv-loop μ-loop → tie.Start Inv-loop μ-loop
+start c = c .before .before
+
+abbrev head : tie.After-u16-at Inv-loop μ-loop → tie.At-loop Inv-loop μ-loop
+head c = c .before .before .before
+
 loop-holds : tie.Need-loop-holds Inv-loop μ-loop
 unfolding framed
 loop-holds c = (omega arith, refl)
@@ -25,9 +32,8 @@ sub-if1 c = search needs
 
 returns : tie.Need-returns Inv-loop μ-loop
 returns c =
-    let bytes = c .before .before .before .before .args .bytes .now in
-    let at = c .before .before .loop .at in
-    sym (framed-short bytes at (c .before .loop-test .taken) (omega arith)) ∙ c .before .before .loop .inv .1
+    let turn = c .before .before in
+    sym (framed-short (start turn .args .bytes .now) (turn .loop .at) (c .before .loop-test .taken) (omega arith)) ∙ turn .loop .inv .1
 
 u16-at-requires : tie.Need-u16-at-requires Inv-loop μ-loop
 u16-at-requires c κs = omega arith
@@ -43,10 +49,11 @@ sub-if2-2 c = search needs
 
 returns-2 : tie.Need-returns-2 Inv-loop μ-loop
 returns-2 c =
-    let bytes = c .before .before .before .before .before .before .args .bytes .now in
-    let at = c .before .before .before .before .loop .at in
+    let turn = head (c .before) in
+    let bytes = start turn .args .bytes .now in
+    let at = turn .loop .at in
     let size : c .before .u16-at .result ≡ two bytes at = c .before .u16-at .ensures in
-    sym (framed-past bytes at (omega arith) (omega arith)) ∙ c .before .before .before .before .loop .inv .1
+    sym (framed-past bytes at (omega arith) (omega arith)) ∙ turn .loop .inv .1
 
 add-at : tie.Need-add-at Inv-loop μ-loop
 add-at c = search needs
@@ -59,16 +66,16 @@ loop-less c = search needs
 
 loop-again : tie.Need-loop-again Inv-loop μ-loop
 loop-again c =
-    let bytes = c .before .before .before .before .before .before .args .bytes .now in
-    let at = c .before .before .before .before .loop .at in
+    let turn = head (c .before) in
+    let bytes = start turn .args .bytes .now in
+    let at = turn .loop .at in
     let size : c .before .u16-at .result ≡ two bytes at = c .before .u16-at .ensures in
     let next : at + (4 + c .before .u16-at .result) ≡ at + 4 + two bytes at = omega arith in
-    (omega arith, rw next (sym (framed-next bytes at (omega arith)) ∙ c .before .before .before .before .loop .inv .1))
+    (omega arith, rw next (sym (framed-next bytes at (omega arith)) ∙ turn .loop .inv .1))
 
 returns-3 : tie.Need-returns-3 Inv-loop μ-loop
 returns-3 c =
-    let bytes = c .before .before .before .args .bytes .now in
-    sym (framed-end bytes (c .before .loop .at) (c .loop-test .left)) ∙ c .before .loop .inv .1
+    sym (framed-end (start (c .before) .args .bytes .now) (c .before .loop .at) (c .loop-test .left)) ∙ c .before .loop .inv .1
 
 pub framing-ok-spec : {M : Type 1} → statement M
 framing-ok-spec =

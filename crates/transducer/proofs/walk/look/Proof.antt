@@ -14,16 +14,20 @@ use Rattle.transducer.specs.declared.Checks.{Checks}
 use Rattle.transducer.specs.declared.Looked.{Looked}
 use Rattle.transducer.specs.Format.{arcs-at, arc-bytes, head-states, head-arcs, head-finals, head-start, head-good}
 use Rattle.transducer.specs.Format.{first-of, refusal, min-weight}
-use Rattle.transducer.specs.Check.{all-checked, walked}
+use Rattle.transducer.specs.Check.{all-checked, walked, head-word}
 use Rattle.transducer.specs.Leaf.{Looked-says}
 use Rattle.transducer.proofs.Accept.{refused-head}
 use Rattle.transducer.proofs.Tested.{refused-short, refused-head-word, refused-long, refused-heads, refusal-checked, looked-light, looked-misplaced}
 use Rattle.transducer.proofs.walk.look.Statement.{statement}
 use Rattle.transducer.proofs.walk.look.Tie as tie
 
--- The way back: from the tested head to the entry, and from the tests of all records to where the arcs begin and to the head.
-abbrev bytes-of : tie.After-head-ok → List ℕ
-bytes-of h = h .before .before .before .before .before .before .before .before .before .args .bytes .now
+-- The way back: from the tested head to its first word, which was right, and to the bytes lent; from the tests of all records to where the arcs begin and
+-- to the head.
+abbrev word-right : tie.After-head-ok → tie.Else2
+word-right h = h .before .before .before .before .before
+
+abbrev lent : tie.After-u32-at → tie.After-shared-slice-known
+lent c = c .before .before
 
 abbrev headed : tie.After-arcs-at → tie.After-head-ok
 headed a = a .before .before
@@ -31,8 +35,14 @@ headed a = a .before .before
 abbrev placed : tie.After-check-all → tie.After-arcs-at
 placed k = k .before .before
 
+abbrev all-checked-at : tie.After-struct-told → tie.After-check-all
+all-checked-at c = c .before .before .before .before .before
+
+abbrev bytes-of : tie.After-head-ok → List ℕ
+bytes-of h = lent (word-right h .before) .before .args .bytes .now
+
 is-bytes : (h : tie.After-head-ok) → Bytes (bytes-of h)
-is-bytes h = λ i. h .before .before .before .before .before .before .before .before .shared-slice-known .given i .fits
+is-bytes h = λ i. lent (word-right h .before) .shared-slice-known .given i .fits
 
 -- What was read of the head.
 
@@ -91,10 +101,11 @@ misplaced-requires-2 c κs = search needs
 
 returns-2 : tie.Need-returns-2
 returns-2 c =
-    let bs = c .before .before .before .before .before .args .bytes .now in
-    let b : Bytes bs = λ i. c .before .before .before .before .shared-slice-known .given i .fits in
+    let word = c .before .before in
+    let bs = lent word .before .args .bytes .now in
+    let b : Bytes bs = λ i. lent word .shared-slice-known .given i .fits in
     misplaced bs b (c .misplaced2 .result) (c .misplaced2 .ensures)
-    (refused-head-word bs b (λ e. c .before .if2 .taken (c .before .before .u32-at .ensures ∙ e)))
+    (refused-head-word bs b (λ e. c .before .if2 .taken (word .u32-at .ensures ∙ e)))
 
 u16-at-requires : tie.Need-u16-at-requires
 u16-at-requires c κs = search needs
@@ -184,12 +195,11 @@ number-requires c κs = search needs
 
 returns-6 : tie.Need-returns-6
 returns-6 c =
-    let k = c .before .before .before .before .before in
+    let k = all-checked-at c in
     let a = placed k in
     let h = headed a in
     let bs : List ℕ = bytes-of h in
-    let word : four bs 0 ≡ 65544 =
-    sym (h .before .before .before .before .before .before .u32-at .ensures) ∙ h .before .before .before .before .before .if2 .left in
+    let word : four bs 0 ≡ head-word = sym (word-right h .before .u32-at .ensures) ∙ word-right h .if2 .left in
     let good : head-good (head-states bs) (head-arcs bs) (head-finals bs) (head-start bs) ≡ true =
     sym (head-tested h) ∙ not-false (h .head-ok .result) (a .before .if3 .left) in
     let long : length bs ≡ arcs-at (head-finals bs) + arc-bytes * head-arcs bs =

@@ -26,8 +26,11 @@ abbrev μ-loop : tie.MeasureT-loop
 μ-loop bytes first arcs index at out₀ origins₀ i₀ count₀ out origins i count = arcs - i
 
 -- Places to look back to.
+abbrev entry : tie.At-loop Inv-loop μ-loop → tie.Start Inv-loop μ-loop
+entry c = c .before .before .before .before
+
 abbrev start : tie.In-loop Inv-loop μ-loop → tie.Start Inv-loop μ-loop
-start c = c .before .before .before .before .before
+start c = entry (c .before)
 
 abbrev bytes-of : tie.In-loop Inv-loop μ-loop → List ℕ
 bytes-of c = start c .args .bytes .now
@@ -205,9 +208,7 @@ same-length-2 : tie.Need-same-length-2 Inv-loop μ-loop
 same-length-2 c = c .before .loop .inv .origins-long
 
 returns : tie.Need-returns Inv-loop μ-loop
-returns c =
-    let s = c .before .before .before .before .before in
-    arcs-stop (omega (arith, c .loop-test .left, s .pre .1)) (c .before .loop .inv)
+returns c = arcs-stop (omega (arith, c .loop-test .left, entry (c .before) .pre .1)) (c .before .loop .inv)
 
 pub put-arcs-spec : {M : Type 1} → statement M
 put-arcs-spec =

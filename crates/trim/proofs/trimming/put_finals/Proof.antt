@@ -1,14 +1,13 @@
 -- A loop that writes what is kept. The invariant, `Finals-kept`: of the first `i` finals those that are kept stand behind the head.
-use borrow.Author.Needs.{needs}
 use mathlib.Core.Path.{_≡_, ap, _∙_}
 use mathlib.Core.List.{List}
-use Prim.Native.Nat.{ℕ, _-_, _+_, _≤_, _<_}
+use Prim.Native.Nat.{ℕ, _-_, _≤_, _<_}
 use native.Mathlib.Omega.{arith}
 use lib.ListN.{length, getD}
 use mir.Syntax.{w32}
 use mir.Facts.{toZ-ofZ}
 use Rattle.wire.specs.Bytes.{Bytes}
-use Rattle.transducer.specs.Format.{max-states, final-bytes, arcs-at, decode, head-finals}
+use Rattle.transducer.specs.Format.{max-states, arcs-at, decode, head-finals}
 use Rattle.transducer.proofs.Offsets.{length-finals, accepted-within}
 use Rattle.transducer.specs.Weight.{Weight}
 use Rattle.reach.proofs.Ends.{final-inside, final-loaded, final-state}

@@ -1,9 +1,10 @@
 -- One test after the other, each with its law in `TrimSays`; then what `trim_into` leaves.
 use borrow.Author.Needs.{needs}
-use mathlib.Core.Path.{sym, _∙_}
+use mathlib.Core.Path.{_≡_, sym, _∙_}
 use native.Mathlib.Omega.{arith}
 use Rattle.wire.specs.Bytes.{Bytes}
 use Rattle.wire.proofs.Bool.{never}
+use Rattle.transducer.specs.Format.{refusal}
 use Rattle.trim.proofs.TrimSays.{says-bad, says-short-table, says-short-origins, says-trimmed, trims-short}
 use Rattle.trim.proofs.trimming.trim.Statement.{statement}
 use Rattle.trim.proofs.trimming.trim.Tie as tie
@@ -12,11 +13,18 @@ use Rattle.trim.proofs.trimming.trim.Tie as tie
 abbrev entry : tie.After-refusal → tie.Start
 entry c = c .before .before .before .before
 
-abbrev tested : tie.After-trim-into → tie.After-refusal
-tested c = c .before .before .before .before .before .before
+abbrev tested : tie.Else3 → tie.After-refusal
+tested c = c .before .before .before
 
+abbrev passed : tie.After-trim-into → tie.Else3
+passed c = c .before .before .before
+
+-- The bytes are accepted.
 is-bytes : (c : tie.After-refusal) → Bytes (entry c .args .table .now)
 is-bytes c = λ i. omega (arith, c .before .before .before .shared-slice-known .given i)
+
+accepted : (c : tie.Else3) → refusal (entry (tested c) .args .table .now) ≡ 0
+accepted c = sym (tested c .refusal .ensures) ∙ c .before .before .if1 .left
 
 refusal-requires : tie.Need-refusal-requires
 refusal-requires c κs = search needs
@@ -42,17 +50,14 @@ returns-3 c =
     (c .before .if3 .taken) (c .refused3 .ensures)
 
 trim-into-requires : tie.Need-trim-into-requires
-trim-into-requires c κs =
-    let passed = c .before .before in
-    let ok = sym (passed .before .before .before .refusal .ensures) ∙ passed .before .before .if1 .left in
-    (ok, passed .before .if2 .left, passed .if3 .left, λ e. never e)
+trim-into-requires c κs = let at = c .before .before in (accepted at, at .before .if2 .left, at .if3 .left, λ e. never e)
 
 cast-t12 : tie.Need-cast-t12
 cast-t12 c =
     let done = c .before .before .before .before in
-    let first = tested done in
-    let ok = sym (first .refusal .ensures) ∙ done .before .before .before .before .before .if1 .left in
-    omega (arith, trims-short (entry first .args .table .now) (is-bytes first) ok (done .trim-into .ensures))
+    let at = passed done in
+    let first = tested at in
+    omega (arith, trims-short (entry first .args .table .now) (is-bytes first) (accepted at) (done .trim-into .ensures))
 
 same-length : tie.Need-same-length
 same-length c = search needs
@@ -63,9 +68,8 @@ same-length-2 c = search needs
 returns-4 : tie.Need-returns-4
 returns-4 c =
     let done = c .before .before .before .before in
-    let passed = done .before .before .before in
-    let ok = sym (tested done .refusal .ensures) ∙ passed .before .before .if1 .left in
-    says-trimmed ok (passed .before .if2 .left) (passed .if3 .left) (done .trim-into .ensures)
+    let at = passed done in
+    says-trimmed (accepted at) (at .before .if2 .left) (at .if3 .left) (done .trim-into .ensures)
 
 pub trim-spec : {M : Type 1} → statement M
 trim-spec =

@@ -8,10 +8,10 @@ use lib.ListN.{length}
 use Rattle.wire.specs.Bytes.{Bytes}
 use Rattle.transducer.specs.Format.{max-states, max-arcs, arc-bytes, arcs-at, decode}
 use Rattle.transducer.specs.Leaf.{Opened}
-use Rattle.transducer.proofs.Offsets.{length-accepted}
+use Rattle.transducer.proofs.Headed.{Headed, headed, headed-opened, head-inside}
 use Rattle.trim.proofs.Running.{index-no, index-yes}
 use Rattle.trim.proofs.TrimmedGood.{length-kept-arcs}
-use Rattle.trim.proofs.TrimSays.{Head-numbers, head-numbers, length-kept-finals, index-at, trims-lone, trims-kept}
+use Rattle.trim.proofs.TrimSays.{length-kept-finals, index-at, trims-lone, trims-kept}
 use Rattle.trim.proofs.trimming.trim_into.Statement.{statement}
 use Rattle.trim.proofs.trimming.trim_into.Tie as tie
 
@@ -76,26 +76,24 @@ bytes-of c = start c .args .table .now
 is-bytes : (c : tie.After-shared-slice-known) → Bytes (entry c .args .table .now)
 is-bytes c = λ i. omega (arith, c .shared-slice-known .given i)
 
-head-is : (c : tie.After-header) → Head-numbers (bytes-of c) (c .header .result)
-head-is c = head-numbers (bytes-of c) (is-bytes (lent (c .before))) (start c .pre .0) (c .header .result) (c .header .ensures)
+head-is : (c : tie.After-header) → Headed (bytes-of c) (c .header .result)
+head-is c = headed (bytes-of c) (is-bytes (lent (c .before))) (start c .pre .0) (c .header .result) (c .header .ensures)
 
 is-opened : (c : tie.After-arcs-at) → Opened (bytes-of (at-header (c .before))) (c .arcs-at .result)
-is-opened c =
-    let h = at-header (c .before) in
-    record { accepted = start h .pre .0; first-is = omega (arith, c .arcs-at .ensures, head-is h .head-finals-are) }
+is-opened c = let h = at-header (c .before) in headed-opened (bytes-of h) (h .header .result) (c .arcs-at .result) (head-is h) (c .arcs-at .ensures)
 
 start-small : (c : tie.After-header) → c .header .result .start < max-states
-start-small c = omega (arith, head-is c .start-below, head-is c .few-states)
+start-small c = head-is c .start-below
 
 start-below : (c : tie.After-header) → c .header .result .start < decode (bytes-of c) .states
-start-below c = omega (arith, head-is c .start-below, head-is c .states-are)
+start-below c = omega (arith, head-is c .start-inside, head-is c .states-are)
 
 -- No more is kept than there was, so it fits.
 few-finals : (c : tie.After-put-finals) → c .put-finals .result ≤ max-states
 few-finals c =
     let h = head-of c in
     let t = decode (bytes-of h) in
-    omega (arith, c .put-finals .ensures .0, length-kept-finals t (t .finals), head-is h .finals-are, head-is h .few-finals)
+    omega (arith, c .put-finals .ensures .0, length-kept-finals t (t .finals), head-is h .finals-long, head-is h .few-finals)
 
 few-arcs : (c : tie.After-put-arcs) → c .put-arcs .result ≤ max-arcs
 few-arcs c =
@@ -109,7 +107,7 @@ fits c = let put = c .before .before .before in omega (arith, c .arcs-at2 .ensur
 header-requires : tie.Need-header-requires
 header-requires c κs =
     let from = lent c in
-    omega (arith, length-accepted (entry from .args .table .now) (is-bytes from) (entry from .pre .0))
+    head-inside (entry from .args .table .now) (is-bytes from) (entry from .pre .0)
 
 cast-n : tie.Need-cast-n
 cast-n c = search needs
@@ -130,7 +128,7 @@ renumber-requires : tie.Need-renumber-requires
 renumber-requires c κs =
     let h = at-header (c .before) in
     let k = head-is h in
-    (is-opened c, k .states-are, k .arcs-are, k .head-finals-are, k .start-is, k .few-states, start h .pre .3)
+    (is-opened c, k .states-are, k .arcs-are, k .finals-are, k .start-is, k .few-states, start h .pre .3)
 
 mul-if1 : tie.Need-mul-if1
 mul-if1 c = omega (arith, start-small (opened c))
@@ -180,7 +178,7 @@ put-finals-requires : tie.Need-put-finals-requires
 put-finals-requires c κs =
     let some = c .before .before in
     let h = opened (some .before) in
-    (start h .pre .0, head-is h .head-finals-are, some .before .renumber .ensures, omega (arith, head-is h .few-finals, start h .pre .1))
+    (start h .pre .0, head-is h .finals-are, some .before .renumber .ensures, omega (arith, head-is h .few-finals, start h .pre .1))
 
 arcs-at-requires-2 : tie.Need-arcs-at-requires-2
 arcs-at-requires-2 c κs = omega (arith, few-finals (c .before .before))

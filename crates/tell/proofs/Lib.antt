@@ -1,0 +1,3 @@
+-- A path told arc by arc; what is answered of it.
+pub mod Telling
+pub mod PathTold
