@@ -14,7 +14,8 @@
  *  - What is written (buffers, *len and the like) must not overlap anything else lent to the same call. What is only read may overlap.
  *  - On success, cells of a written buffer behind what was written are 0, and buffers lent to work in are all 0. After refusals 11 to 13
  *    every buffer lent for writing is all 0; after every other refusal each keeps its contents.
- *  - It always ends, and needs at most FORTHWN_STACK bytes of stack.
+ *  - It always ends, and needs at most FORTHWN_STACK bytes of stack. Its time grows with the bytes handed in, which it tests, with the
+ *    buffers lent, which it clears to their end, and beyond that as is said at each call.
  *
  * A label is 16 bits: 0 reads or writes nothing, 1 to 65534 are symbols. An arc of input 65535 reads any symbol that no arc of its state has
  * as its input, and with output 65535 it writes the symbol that it read; composed tables and lattices hold the symbol itself. States and

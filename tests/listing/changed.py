@@ -131,7 +131,8 @@ def document():
     for what, tables, case, call, told in calls():
         with as_before():
             old = told()
-        out += [f"## {what}", "", f"{tables} In `crates/limits`: `{case}`.", "", f"| | {call} |", "|---|---|", f"| before | {old} |", f"| after | {told()} |", ""]
+        out += [f"## {what}", "", f"{tables} In `crates/limits`: `{case}`.", "", f"| | {call} |", "|---|---|", f"| before | {old} |",
+                f"| after | {told()} |", ""]
     return "\n".join(out)
 
 
