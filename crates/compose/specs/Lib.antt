@@ -3,7 +3,7 @@ pub mod Compose
 pub mod Entry
 -- What is claimed
 pub mod Claim
--- What only inner contracts cite: the walk by keys, what its parts promise, and what is written when it is done
+-- What only inner contracts cite: the walk by keys, what is left of a run, and what is written when the walk is done
 pub mod Walk
 pub mod Taking
 pub mod Finished

@@ -1,1 +1,2 @@
+-- Marks of states in an array.
 pub mod MarksInPlace

@@ -1,1 +1,2 @@
+-- What a caller must believe, but for `Tells` and `Labels-put`
 pub mod Tell

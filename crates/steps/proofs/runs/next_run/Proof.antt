@@ -34,7 +34,7 @@ abbrev turn : tie.After-first-reading Inv-loop μ-loop → tie.In-loop Inv-loop 
 turn c = c .before .before .before
 
 pass-over-requires : tie.Need-pass-over-requires Inv-loop μ-loop
-pass-over-requires c κs = c .before .before .pre .0
+pass-over-requires c κs = let pre = c .before .before .pre .0 in (pre .0, omega (arith, pre .1), pre .2)
 
 loop-holds : tie.Need-loop-holds Inv-loop μ-loop
 loop-holds c = λ from leaving is fit.
