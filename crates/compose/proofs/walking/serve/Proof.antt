@@ -67,8 +67,11 @@ state c = unpacked (c .before .before .before)
 abbrev head : tie.After-next-run Inv-loop μ-loop → tie.At-loop Inv-loop μ-loop
 head c = c .before .before
 
+abbrev ending : tie.After-take-run-arg5 Inv-loop μ-loop → tie.After-end-of Inv-loop μ-loop
+ending c = c .before .before .before .before .before
+
 abbrev ended : tie.After-take-run Inv-loop μ-loop → tie.After-end-of Inv-loop μ-loop
-ended c = c .before .before .before .before .before .before
+ended c = ending (c .before)
 
 abbrev made : tie.After-take-run Inv-loop μ-loop → tie.After-run-of Inv-loop μ-loop
 made c = ended c .before
@@ -293,7 +296,7 @@ here c = begins (c .before) (c .run-of .result) (c .run-of .ensures)
 
 take-run-requires : tie.Need-take-run-requires Inv-loop μ-loop
 take-run-requires c κs =
-    let ended = c .before .before .before .before .before in
+    let ended = ending c in
     let t = head (ended .before .before) in
     let pre = entry (state t) .pre in
     let g = t .loop .inv .0 (pre .1 .1 .0) (pre .1 .1 .1) in (

@@ -35,14 +35,20 @@ abbrev μ-loop : tie.MeasureT-loop
 abbrev start : tie.After-shared-slice-known2 Inv-loop μ-loop → tie.Start Inv-loop μ-loop
 start c = c .before .before
 
+abbrev storing : tie.After-links Inv-loop μ-loop → tie.After-shared-slice-known2 Inv-loop μ-loop
+storing c = c .before .before .before .before .before .before
+
 abbrev lent : tie.After-insert Inv-loop μ-loop → tie.After-shared-slice-known2 Inv-loop μ-loop
-lent c = c .before .before .before .before .before .before .before
+lent c = storing (c .before)
 
 abbrev begun : tie.At-loop Inv-loop μ-loop → tie.After-insert Inv-loop μ-loop
 begun c = c .before .before .before
 
+abbrev serving : tie.After-links2 Inv-loop μ-loop → tie.Then1 Inv-loop μ-loop
+serving c = c .before .before .before .before .before
+
 abbrev turn : tie.After-serve Inv-loop μ-loop → tie.Then1 Inv-loop μ-loop
-turn c = c .before .before .before .before .before .before
+turn c = serving (c .before)
 
 abbrev head : tie.Then1 Inv-loop μ-loop → tie.At-loop Inv-loop μ-loop
 head c = c .before .before
@@ -68,7 +74,7 @@ keying : (c : tie.After-shared-slice-known2 Inv-loop μ-loop)
 keying c = composed-keying (decode (start c .args .left .now)) (decode (start c .args .right .now)) (left-good c) (right-good c)
 
 insert-requires : tie.Need-insert-requires Inv-loop μ-loop
-insert-requires c κs = (omega arith, start (c .before .before .before .before .before .before) .pre .1 .1 .2)
+insert-requires c κs = (omega arith, start (storing c) .pre .1 .1 .2)
 
 loop-holds : tie.Need-loop-holds Inv-loop μ-loop
 unfolding there
@@ -86,7 +92,7 @@ loop-holds c =
 
 serve-requires : tie.Need-serve-requires Inv-loop μ-loop
 serve-requires c κs =
-    let t = c .before .before .before .before .before in
+    let t = serving c in
     let k = lent (begun (head t)) in
     let a = start k .args in
     let g = head t .loop .inv .0 in (
