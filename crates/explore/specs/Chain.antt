@@ -10,7 +10,7 @@ use Rattle.transducer.specs.Format.{max-states}
 abbrev pub buckets : ℕ
 buckets = 4096
 
--- The bucket of a key: the top ten bits of its product with 2^32 over the golden ratio.
+-- The bucket of a key: the top twelve bits of its product with 2^32 over the golden ratio.
 unfoldable pub bucket-of : ℕ → ℕ
 bucket-of key = key * 2654435761 / 1048576 % buckets
 

@@ -6,7 +6,7 @@ use Prim.Native.Nat.{ℕ, zero, suc, _+_, _-_, _≤_, _<_}
 use lib.Dec.{ltb, eqb}
 use lib.ListN.{length}
 use Rattle.transducer.specs.declared.Arc.{Arc}
-use Rattle.transducer.specs.Format.{weight-good, barred, Transducer}
+use Rattle.transducer.specs.Format.{weight-good, barred, any, Transducer}
 use Rattle.transducer.specs.Path.{arc}
 use Rattle.transducer.specs.Each.{fits, passed}
 use Rattle.transducer.specs.Leaf.{Rest}
@@ -55,10 +55,11 @@ fitting-from u label count j = first-at u (fits u label) count j
 abbrev pub reading-from : Transducer → (label count j : ℕ) → ℕ
 reading-from u label count j = first-at u (λ a. eqb (a .input) label) count j
 
--- Of the right arcs from `from` to below `to`, none fits a label but this one, and 0 aside; 65,536, which is no label, promises nothing.
+-- What is told in the place of one label where several may fit: one more than the greatest label.
 abbrev pub several : ℕ
-several = 65536
+several = any + 1
 
+-- Of the right arcs from `from` to below `to` none fits a label other than this one, 0 aside; from `several` on nothing is promised.
 pub record Fits-only (u : Transducer) (from to only : ℕ) : Type 0 where
   pub no-other : only < several → (label : ℕ) → (label ≡ 0 → ⊥) → (label ≡ only → ⊥) → to ≤ fitting-from u label (to - from) from
 
