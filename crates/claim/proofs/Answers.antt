@@ -9,7 +9,7 @@ use lib.Dec.{ltb, leb, eqb}
 use lib.ListN.{length, take, length-take}
 use borrow.Author.Tests.{eqb-true, le-ltb, lt-leb}
 use Rattle.wire.specs.Bytes.{filled}
-use Rattle.wire.proofs.Places.{take-filled}
+use Rattle.wire.proofs.Places.{take-told}
 use Rattle.wire.proofs.Bool.{passed-last, raised-last, not-raised}
 use Rattle.transducer.specs.declared.Written.{Written}
 use Rattle.transducer.specs.Format.{max-path, Transducer, refusal, decode}
@@ -29,10 +29,6 @@ use Rattle.paths.specs.declared.Counted.{Counted}
 use Rattle.tell.specs.declared.Told.{Told}
 use Rattle.paths.specs.Count.{endless, path-count, nth-path}
 use Rattle.paths.specs.Entry.{count-refusal, Count-says, nth-refusal, Nth-says}
-
--- What was written, from the buffer as left behind and the length told.
-take-told : (len room : ℕ) (xs out : List ℕ) → len ≡ length xs → out ≡ filled room xs → take len out ≡ xs
-take-told len room xs out l e = rw (l, e) (take-filled room xs)
 
 front-fits : (len : ℕ) (xs out : List ℕ) → len ≡ length xs → take len out ≡ xs → len ≤ length out
 front-fits len xs out l e = omega (arith, length-take len out, ap length e)

@@ -2,15 +2,14 @@
 -- origins are the lattice's. Assumes nothing.
 use mathlib.Core.Path.{_≡_, refl, ap, _∙_}
 use mathlib.Core.List.{List, [], _∷_, map}
-use Prim.Native.Nat.{ℕ, _≤_, _<_}
-use lib.ListN.{length, getD}
+use Prim.Native.Nat.{ℕ, _≤_}
+use lib.ListN.{length}
 use Rattle.transducer.specs.Format.{max-states, Transducer, Good}
 use Rattle.explore.specs.Explore.{Step}
 use Rattle.explore.specs.Walk.{all-origins}
-use Rattle.explore.proofs.ExploredKeys.{explored-keys, explored-length, explored-key, explored-arcs, explored-origins}
-use Rattle.lattice.specs.declared.State.{State}
+use Rattle.explore.proofs.ExploredKeys.{explored-keys, explored-length, explored-arcs, explored-origins}
 use Rattle.lattice.specs.Apply.{final-state, applied}
-use Rattle.lattice.specs.Applying.{one, found, State-in}
+use Rattle.lattice.specs.Applying.{one, found}
 use Rattle.lattice.specs.Pack.{pack}
 use Rattle.lattice.proofs.KeyParts.{keying}
 use Rattle.lattice.proofs.LatticeGood.{state-weight}
@@ -29,12 +28,6 @@ module _ (cs : List ℕ) (t : Transducer) (good : Good t) where
   pub found-length : length (found cs t .keys) ≡ length (applied cs t .states)
   unfolding applied
   found-length = explored-length (keying cs t good) (final-state cs t) (state-weight t)
-
-  -- The key of each state by number, which is one of the lattice's.
-  pub found-key : (i : ℕ) (d : State) → i < length (applied cs t .states)
-      → (getD (found cs t .keys) i 0 ≡ pack (getD (applied cs t .states) i d)) × State-in cs t (getD (applied cs t .states) i d)
-  unfolding applied
-  found-key i d l = explored-key (keying cs t good) (final-state cs t) (state-weight t) i d l
 
   module _ (few : length (applied cs t .states) ≤ max-states) where
     pub found-arcs : found cs t .arcs ≡ applied cs t .result .arcs

@@ -4,16 +4,17 @@ use mathlib.Core.Bool.{Bool, true, _&&_, cond}
 use mathlib.Core.List.{List}
 use Prim.Native.Nat.{ℕ, _-_, _%_, _≤_, _<_}
 use native.Mathlib.Omega.{arith}
-use borrow.Author.Tests.{eq-eqb, ne-eqb, lt-ltb, le-ltb, lt-leb, leb-true, leb-false, eqb-true}
+use borrow.Author.Tests.{eq-eqb, ne-eqb, lt-ltb, le-ltb, lt-leb, leb-true, leb-false}
 use lib.Dec.{eqb, ltb, leb}
 use lib.ListN.{length, take, replicate, length-append, length-take}
 use lib.Seq.{take-at, take-all}
 use Rattle.wire.specs.Bytes.{Bytes, every, filled}
-use Rattle.wire.proofs.Bool.{by-test, and-true, clash, passed-last}
+use Rattle.wire.proofs.Bool.{by-test, and-true, passed-last}
 use Rattle.transducer.specs.declared.Written.{Written}
 use Rattle.transducer.specs.Format.{Transducer, Good, max-states, max-arcs, max-symbols, max-bytes, max-origins, barred, refusal, decode}
 use Rattle.transducer.specs.Encode.{encode}
 use Rattle.transducer.specs.Entry.{or-else, unless, left-in}
+use Rattle.transducer.proofs.Answers.{or-else-none}
 use Rattle.transducer.proofs.RoundTrip.{accepted-good}
 use Rattle.transducer.specs.Each.{named, any-refusal}
 use Rattle.explore.specs.Explore.{built-refusal, left-behind}
@@ -28,11 +29,6 @@ use Rattle.listing.specs.declared.Listed.{Listed}
 use Rattle.listing.specs.Code.{labels-in, most-loaded}
 use Rattle.listing.specs.Text.{listing-text, refused-text, least-room, Whole}
 use Rattle.listing.specs.Entry.{code-refusal, applied-refusal, listing-refusal, text-unless, applied-text, text-of, text-room, Listing-says}
-
-pub passed-both : (p q : ℕ) → or-else p q ≡ 0 → (p ≡ 0) × (q ≡ 0)
-unfolding or-else
-passed-both p q h =
-    by-test (eqb p 0) (λ e. (eqb-true p 0 e, rw e at h)) (λ e. let z : p ≡ 0 = rw e at h in clash (eq-eqb p 0 z) e)
 
 -- What a call wrote at the front of its buffer, by the length that it told.
 front : (n : ℕ) (a a' xs : List ℕ) → a' ≡ filled (length a) xs → n ≡ length xs → (take n a' ≡ xs) × (n ≤ length a')
@@ -93,7 +89,7 @@ pub applied-fine : (t : Transducer) (cs : List ℕ) → applied-refusal t cs ≡
 unfolding applied-refusal code-refusal
 applied-fine t cs h =
     let good : Bool = eqb (length cs % 2) 0 && string-good (labels-in cs) in
-    let both = passed-both (cond good 0 9) (built-refusal (applied (labels-in cs) t .result)) h in
+    let both = or-else-none (cond good 0 9) (built-refusal (applied (labels-in cs) t .result)) h in
     (and-true (eqb (length cs % 2) 0) (string-good (labels-in cs)) (passed-last good 8 (both .0)) .1, both .1)
 
 -- Applying
@@ -186,10 +182,10 @@ module _ {xs ys : List ℕ} {r : Written} {a a' b b' c c' : List ℕ} (cs : List
     parts =
         let built : ℕ = built-refusal (composed (decode xs) (decode ys) .result) in
         let room : ℕ = compose-room max-bytes max-origins max-states in
-        let p = passed-both (refusal xs) (or-else (cond (named (decode xs)) 0 18) (or-else (refusal ys) (or-else room built))) compose-fine in
-        let n = passed-both (cond (named (decode xs)) 0 18) (or-else (refusal ys) (or-else room built)) (p .1) in
-        let q = passed-both (refusal ys) (or-else room built) (n .1) in
-        (p .0, q .0, passed-both room built (q .1) .1, passed-last (named (decode xs)) 17 (n .0))
+        let p = or-else-none (refusal xs) (or-else (cond (named (decode xs)) 0 18) (or-else (refusal ys) (or-else room built))) compose-fine in
+        let n = or-else-none (cond (named (decode xs)) 0 18) (or-else (refusal ys) (or-else room built)) (p .1) in
+        let q = or-else-none (refusal ys) (or-else room built) (n .1) in
+        (p .0, q .0, or-else-none room built (q .1) .1, passed-last (named (decode xs)) 17 (n .0))
 
     pub composed-front : (take (r .len) a' ≡ encode (composed (decode xs) (decode ys) .result)) × (r .len ≤ length a')
     unfolding left-behind unless

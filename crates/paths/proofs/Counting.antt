@@ -16,12 +16,13 @@ use Rattle.wire.proofs.Bool.{clash, is-false, and-true, true-and}
 use Rattle.transducer.specs.Format.{Transducer}
 use Rattle.transducer.specs.Path.{arc}
 use Rattle.reach.specs.Counted.{count}
+use Rattle.reach.specs.Stack.{Off}
 use Rattle.reach.proofs.Counted.{count-wider, count-before, count-onto, count-none, count-most}
 use Rattle.reach.specs.Reach.{some-arc}
 use Rattle.reach.proofs.Reach.{SomeAt, some-arc-at, at-some-arc}
 use Rattle.tally.specs.Marks.{marked}
 use Rattle.paths.specs.Sweep.{leads-on}
-use Rattle.paths.specs.Counting.{open-at, by-marks, Opened-arcs, is-open, Not-on, Stacked, Counting}
+use Rattle.paths.specs.Counting.{open-at, by-marks, Opened-arcs, is-open, Stacked, Counting}
 use Rattle.paths.proofs.Ready.{Sized}
 use Rattle.tally.proofs.MarksInPlace.{marked-set-same, marked-set-other}
 use Rattle.paths.proofs.Shut.{shut-marked}
@@ -116,7 +117,7 @@ module _ (s : ℕ) (ms : List Bool) (left stack : List ℕ) (top : ℕ) (k : Sta
         few = rw (add-one s) (few (is-open left s));
       }
     where
-      all : (u : ℕ) → u < s + 1 → marked ms u ≡ false → getD left u 0 ≡ 0 → Dec (u ≡ s) → Not-on stack top u → ⊥
+      all : (u : ℕ) → u < s + 1 → marked ms u ≡ false → getD left u 0 ≡ 0 → Dec (u ≡ s) → Off stack top u → ⊥
       all u l m e (yes y) off = h (rw y at m) (rw y at e)
       all u l m e (no n) off = k .all u (omega arith) m e off
 
@@ -159,7 +160,7 @@ module _ (s : ℕ) (ms : List Bool) (left stack : List ℕ) (top : ℕ) (k : Sta
           omega (arith, k .held a (omega arith) .0, left', right, e)
       apart a b l m (no n) e = k .apart a b l (omega arith) (sym (other a (λ q. omega arith)) ∙ (e ∙ other b n))
 
-      all : (u : ℕ) → u < s + 1 → marked ms u ≡ false → getD left u 0 ≡ 0 → Dec (u ≡ s) → Not-on (set stack top s) (top + 1) u → ⊥
+      all : (u : ℕ) → u < s + 1 → marked ms u ≡ false → getD left u 0 ≡ 0 → Dec (u ≡ s) → Off (set stack top s) (top + 1) u → ⊥
       all u l m e (yes y) off = off top (omega arith) (here ∙ sym y)
       all u l m e (no n) off = k .all u (omega arith) m e (λ j h q. off j (omega arith) (other j (λ z. omega arith) ∙ q))
 
@@ -259,7 +260,7 @@ module _ (t : Transducer) (z : Sized t) (ms : List Bool) (left stack : List ℕ)
       shut u b m (yes y) = rw y (top-state .2)
       shut u b m (no n) = w .shut u b (sym (marked-set-other ms s true u n) ∙ m)
 
-      all : (u : ℕ) → u < t .states → marked (set ms s true) u ≡ false → getD left u 0 ≡ 0 → Dec (u ≡ s) → Not-on stack top u → ⊥
+      all : (u : ℕ) → u < t .states → marked (set ms s true) u ≡ false → getD left u 0 ≡ 0 → Dec (u ≡ s) → Off stack top u → ⊥
       all u b m e (yes y) off = clash (marked-set-same ms s true (omega (arith, top-state .0, w .marks-long, z .states))) (rw y at m)
       all u b m e (no n) off = w .stacked .all u b (sym (marked-set-other ms s true u n) ∙ m) e (λ j h q. last j h q (ℕ-discrete j top))
         where
@@ -343,7 +344,7 @@ module _ (t : Transducer) (z : Sized t) (d e : ℕ → Bool) (ms : List Bool) (l
         };
       }
     where
-      all : (v : ℕ) → v < t .states → marked ms v ≡ false → getD (set left u (getD left u 0 - 1)) v 0 ≡ 0 → Dec (v ≡ u) → Not-on stack top v → ⊥
+      all : (v : ℕ) → v < t .states → marked ms v ≡ false → getD (set left u (getD left u 0 - 1)) v 0 ≡ 0 → Dec (v ≡ u) → Off stack top v → ⊥
       all v b m q (yes y) off = n (sym off-here ∙ (ap (λ (x : ℕ). getD (set left u (getD left u 0 - 1)) x 0) (sym y) ∙ q))
       all v b m q (no o) off = w .stacked .all v b m (sym (off-other v o) ∙ q) off
 
@@ -393,7 +394,7 @@ module _ (t : Transducer) (z : Sized t) (d e : ℕ → Bool) (ms : List Bool) (l
           not-held a (omega arith) (sym (other a (λ x. omega arith)) ∙ (f ∙ (ap (λ (j : ℕ). getD (set stack top u) j 0) y ∙ here)))
       apart a b l m (no n) f = w .stacked .apart a b l (omega arith) (sym (other a (λ x. omega arith)) ∙ (f ∙ other b n))
 
-      all : (v : ℕ) → v < t .states → marked ms v ≡ false → getD (set left u (getD left u 0 - 1)) v 0 ≡ 0 → Dec (v ≡ u) → Not-on (set stack top u) (top + 1) v
+      all : (v : ℕ) → v < t .states → marked ms v ≡ false → getD (set left u (getD left u 0 - 1)) v 0 ≡ 0 → Dec (v ≡ u) → Off (set stack top u) (top + 1) v
           → ⊥
       all v b m f (yes y) off = off top (omega arith) (here ∙ sym y)
       all v b m f (no n) off = w .stacked .all v b m (sym (off-other v n) ∙ f) (λ j h g. off j (omega arith) (other j (λ x. omega arith) ∙ g))

@@ -9,6 +9,7 @@ use lib.ListN.{length, getD, set}
 use Rattle.transducer.specs.Format.{max-states, Transducer}
 use Rattle.transducer.specs.Path.{arc}
 use Rattle.reach.specs.Counted.{count}
+use Rattle.reach.specs.Stack.{Off}
 use Rattle.tally.specs.declared.Count.{Count}
 use Rattle.paths.specs.Count.{most-counted}
 use Rattle.paths.specs.Tally.{own}
@@ -32,16 +33,12 @@ pub record Opened-arcs (t : Transducer) (done : ℕ → Bool) (i : ℕ) (left : 
 unfoldable pub is-open : List ℕ → (u : ℕ) → Bool
 is-open left u = ltb 0 (getD left u 0)
 
--- A state is not among the first so many on a stack.
-abbrev pub Not-on : (stack : List ℕ) → (top s : ℕ) → Type 0
-Not-on stack top s = (j : ℕ) → j < top → getD stack j 0 ≡ s → ⊥
-
 -- Of the states below n, those that are not marked and have no open arc are on the stack, each once, and no others.
 pub record Stacked (n : ℕ) (ms : List Bool) (left stack : List ℕ) (top : ℕ) : Type 0 where
   pub long : length stack ≡ max-states
   pub held : (a : ℕ) → a < top → (getD stack a 0 < n) × (marked ms (getD stack a 0) ≡ false) × (getD left (getD stack a 0) 0 ≡ 0)
   pub apart : (a b : ℕ) → a < b → b < top → getD stack a 0 ≡ getD stack b 0 → ⊥
-  pub all : (u : ℕ) → u < n → marked ms u ≡ false → getD left u 0 ≡ 0 → Not-on stack top u → ⊥
+  pub all : (u : ℕ) → u < n → marked ms u ≡ false → getD left u 0 ≡ 0 → Off stack top u → ⊥
   pub few : top + count n (is-open left) ≤ n
 
 -- Marked states have no open arc.

@@ -14,6 +14,7 @@ use Rattle.transducer.specs.Each.{named, any-refusal}
 use Rattle.transducer.specs.Entry.{or-else}
 use Rattle.transducer.proofs.RoundTrip.{accepted-good}
 use Rattle.transducer.proofs.Runs.{Within, good-within}
+use Rattle.transducer.proofs.Answers.{or-else-none}
 use Rattle.explore.specs.Explore.{built-refusal}
 use Rattle.compose.specs.Claim.{Two-paths}
 use Rattle.compose.specs.Compose.{composed}
@@ -36,7 +37,7 @@ use Rattle.claim.specs.Entry.{composition-lattice}
 use Rattle.listing.specs.Code.{labels-in}
 use Rattle.listing.specs.Text.{line, line-of, lines}
 use Rattle.listing.specs.Entry.{applied-refusal, listing-refusal}
-use Rattle.listing.proofs.Steps.{passed-both, applied-fine}
+use Rattle.listing.proofs.Steps.{applied-fine}
 use Rattle.printed.specs.Printed.{leads-to, In-path-order, pair-lines}
 
 -- One line more.
@@ -72,16 +73,16 @@ module _ (xs ys cs : List ℕ) (bytes-xs : Bytes xs) (bytes-ys : Bytes ys) (fine
   unfolding listing-refusal compose-refusal any-refusal
   passed =
       let rest : ℕ = or-else (compose-room max-bytes max-origins max-states) (built-refusal z) in
-      let all = passed-both (compose-refusal xs ys max-bytes max-origins max-states) (applied-refusal z cs) fine in
-      let one = passed-both (refusal xs) (or-else (cond (named (decode xs)) 0 18) (or-else (refusal ys) rest)) (all .0) in
-      let any = passed-both (cond (named (decode xs)) 0 18) (or-else (refusal ys) rest) (one .1) in
-      let two = passed-both (refusal ys) rest (any .1) in
+      let all = or-else-none (compose-refusal xs ys max-bytes max-origins max-states) (applied-refusal z cs) fine in
+      let one = or-else-none (refusal xs) (or-else (cond (named (decode xs)) 0 18) (or-else (refusal ys) rest)) (all .0) in
+      let any = or-else-none (cond (named (decode xs)) 0 18) (or-else (refusal ys) rest) (one .1) in
+      let two = or-else-none (refusal ys) rest (any .1) in
       let code = applied-fine z cs (all .1) in
       record {
         left-good = accepted-good xs bytes-xs (one .0);
         left-named = passed-last (named (decode xs)) 17 (any .0);
         right-good = accepted-good ys bytes-ys (two .0);
-        composes = passed-both (compose-room max-bytes max-origins max-states) (built-refusal z) (two .1) .1;
+        composes = or-else-none (compose-room max-bytes max-origins max-states) (built-refusal z) (two .1) .1;
         string = code .0;
         applies = code .1;
       }

@@ -110,7 +110,7 @@ unfolding count
 count-none zero f e = refl
 count-none (suc n) f e = rw (e n (omega arith), add-zero) (count-none n f (λ i h. e i (omega arith)))
 
-count-same-below : (n : ℕ) (f g : ℕ → Bool) → ((j : ℕ) → j < n → g j ≡ f j) → count n g ≡ count n f
+pub count-same-below : (n : ℕ) (f g : ℕ → Bool) → ((j : ℕ) → j < n → g j ≡ f j) → count n g ≡ count n f
 unfolding count
 count-same-below zero f g e = refl
 count-same-below (suc n) f g e = ap₂ _+_ (count-same-below n f g (λ j h. e j (omega arith))) (ap (λ (b : Bool). cond b 1 0) (e n (omega arith)))

@@ -1,15 +1,13 @@
 -- Sizes as numbers: what a number is made of, and that numbers compare as sizes do. Assumes nothing.
-use mathlib.Core.Path.{_≡_, refl, sym, _∙_}
+use mathlib.Core.Path.{_≡_, refl, sym}
 use mathlib.Core.Bool.{Bool, true, false, _&&_, _||_}
 use Prim.Native.Nat.{ℕ, _+_, _*_, _/_, _%_, _≤_, _<_}
-use native.Mathlib.Nat.{add-mul-div-left, div-eq-of-lt, add-mul-mod-self-left, mod-eq-of-lt}
+use native.Mathlib.Nat.{add-mul-div-left, div-eq-of-lt}
 use native.Mathlib.Omega.{arith}
 use lib.Dec.{ltb, leb, lit<}
 use borrow.Author.Tests.{ltb-true, ltb-false, leb-true, leb-false, lt-ltb, le-ltb}
+use Rattle.transducer.proofs.Fields.{low-of}
 use Rattle.relax.specs.Nearest.{packed, unpacked, labels-of, longer}
-
-low-of : (a b : ℕ) → a < 65536 → (a + 65536 * b) % 65536 ≡ a
-low-of a b h = add-mul-mod-self-left a 65536 b ∙ mod-eq-of-lt h
 
 high-of : (a b : ℕ) → a < 65536 → (a + 65536 * b) / 65536 ≡ b
 high-of a b h = omega (arith, add-mul-div-left a b {y = 65536} (lit< tt), div-eq-of-lt h)

@@ -10,15 +10,10 @@ use lib.Seq.{getD-set-same, getD-set-other}
 use Rattle.transducer.specs.Format.{max-states}
 use Rattle.wire.proofs.Bool.{clash}
 use Rattle.reach.specs.Counted.{count}
-use Rattle.reach.proofs.Counted.{count-most, count-none, count-before}
+use Rattle.reach.proofs.Counted.{count-most, count-none, count-before, count-same-below}
 use Rattle.settle.specs.Queue.{cell, waiting, Queue}
 
 -- One more that has a property.
-
-count-alike : (n : ℕ) (f g : ℕ → Bool) → ((s : ℕ) → s < n → g s ≡ f s) → count n g ≡ count n f
-unfolding count
-count-alike zero f g e = refl
-count-alike (suc n) f g e = rw (e n (omega arith), count-alike n f g (λ s b. e s (omega arith))) refl
 
 count-more : (n : ℕ) (f g : ℕ → Bool) (u : ℕ) → u < n → ((s : ℕ) → (s ≡ u → ⊥) → g s ≡ f s) → f u ≡ false → g u ≡ true → count n g ≡ count n f + 1
 unfolding count
@@ -26,7 +21,7 @@ count-more zero f g u b e p q = absurd (omega arith)
 count-more (suc n) f g u b e p q = on (ℕ-discrete n u) (λ c. count-more n f g u c e p q)
   where
     on : Dec (n ≡ u) → (u < n → count n g ≡ count n f + 1) → count n g + cond (g n) 1 0 ≡ count n f + cond (f n) 1 0 + 1
-    on (yes i) more = rw (i, p, q, count-alike u f g (λ s c. e s (λ v. omega arith))) (omega arith)
+    on (yes i) more = rw (i, p, q, count-same-below u f g (λ s c. e s (λ v. omega arith))) (omega arith)
     on (no i) more = rw (e n i, more (omega arith)) (omega arith)
 
 -- The cells

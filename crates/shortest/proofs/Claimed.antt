@@ -6,12 +6,11 @@ use mathlib.Core.List.{List}
 use Prim.Native.Nat.{ℕ, _≤_}
 use native.Mathlib.Omega.{arith}
 use lib.Dec.{ltb}
-use lib.ListN.{length, take}
+use lib.ListN.{length}
 use borrow.Author.Tests.{le-ltb}
-use Rattle.wire.specs.Bytes.{filled}
 use Rattle.wire.proofs.Bool.{by-test, clash}
 use Rattle.transducer.proofs.Weights.{sums}
-use Rattle.wire.proofs.Places.{take-filled}
+use Rattle.wire.proofs.Places.{take-told}
 use Rattle.transducer.specs.Format.{max-path, Transducer, refusal, decode}
 use Rattle.transducer.specs.Path.{accepts, written-by, path-cost}
 use Rattle.transducer.specs.Weight.{no-weight}
@@ -43,10 +42,6 @@ is-19 : (some falls : Bool) → last-two some falls ≡ 19 → falls ≡ true
 is-19 some true h = refl
 is-19 false false h = absurd (omega arith)
 is-19 true false h = absurd (omega arith)
-
--- What is told stands at the front of a buffer.
-take-told : (len room : ℕ) (xs out : List ℕ) → len ≡ length xs → out ≡ filled room xs → take len out ≡ xs
-take-told len room xs out l e = rw (l, e) (take-filled room xs)
 
 module _ (bs : List ℕ) (r : Told) (a a' b b' : List ℕ) (ok : refusal bs ≡ 0) (within : Within (decode bs)) (room-a : max-path ≤ length a)
     (room-b : max-path ≤ length b) (says : Shortest-says bs (shortest-refusal bs (length a) (length b)) r a a' b b') where

@@ -66,7 +66,7 @@ and-output-r a b = rw (and-output a b) (and-le-r (output-of a) (output-of b))
 
 -- Fields
 
-low-of : (a b : ℕ) → a < 65536 → (a + 65536 * b) % 65536 ≡ a
+pub low-of : (a b : ℕ) → a < 65536 → (a + 65536 * b) % 65536 ≡ a
 low-of a b h = add-mul-mod-self-left a 65536 b ∙ mod-eq-of-lt h
 
 four-low-half : (bs : List ℕ) (at : ℕ) → Bytes bs → four bs at % 65536 ≡ two bs at

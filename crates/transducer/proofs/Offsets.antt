@@ -52,9 +52,6 @@ module _ (bs : List ℕ) (bytes : Bytes bs) (ok : refusal bs ≡ 0) where
   pub arc-inside : (i : ℕ) → i < length (decode bs .arcs) → arcs-at (head-finals bs) + arc-bytes * i + 16 ≤ length bs
   arc-inside i h = omega (arith, length-accepted, length-arcs)
 
-  pub final-inside : (i : ℕ) → i < length (decode bs .finals) → head-bytes + final-bytes * i + 10 ≤ length bs
-  final-inside i h = omega (arith, length-accepted, length-finals)
-
   pub accepted-within : Head-range (head-states bs) (head-arcs bs) (head-finals bs) (head-start bs)
   accepted-within = head-range (head-states bs) (head-arcs bs) (head-finals bs) (head-start bs) (accepted-head bs ok)
 

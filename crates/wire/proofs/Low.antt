@@ -1,5 +1,5 @@
 -- Numbers and their bytes: `two` and `four` read what `low` makes. Assumes nothing.
-use mathlib.Core.Path.{_≡_, refl, sym, ap, _∙_}
+use mathlib.Core.Path.{_≡_, sym, ap, _∙_}
 use mathlib.Core.List.{List, [], _∷_, _++_, append-assoc}
 use Prim.Native.Nat.{ℕ, zero, suc, _+_, _*_, _/_, _%_, _≤_, _<_}
 use native.Mathlib.Nat.{add-mul-div-left, div-eq-of-lt, add-mul-mod-self-left, mod-eq-of-lt, add-zero}
@@ -9,11 +9,6 @@ use lib.Dec.{lit<}
 use lib.ListN.{length, getD, drop}
 use lib.Seq.{getD-drop, drop-append-seam, drop-cons}
 use Rattle.wire.specs.Bytes.{Bytes, two, four, low}
-
-pub length-low : (n v : ℕ) → length (low n v) ≡ n
-unfolding low
-length-low zero v = refl
-length-low (suc n) v = ap suc (length-low n (v / 256))
 
 pub two-below : (bs : List ℕ) (at : ℕ) → Bytes bs → two bs at < 65536
 unfolding two

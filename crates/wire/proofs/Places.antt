@@ -85,11 +85,6 @@ unfolding every
 getD-every t [] d h = refl
 getD-every t (x ∷ xs) d h = true-and (t x) (every t xs) (h 0 (omega arith)) (getD-every t xs d (λ i l. h (suc i) (omega arith)))
 
-pub every-map : {A B : Type 0} (t : B → Bool) (g : A → B) (xs : List A) → every t (map g xs) ≡ every (λ x. t (g x)) xs
-unfolding every
-every-map t g [] = refl
-every-map t g (x ∷ xs) = ap (λ (b : Bool). t (g x) && b) (every-map t g xs)
-
 -- sets
 
 pub sets-append : (l : List ℕ) (i : ℕ) (xs ys : List ℕ) → sets l i (xs ++ ys) ≡ sets (sets l i xs) (i + length xs) ys
@@ -139,6 +134,10 @@ length-filled room xs h = length-padded 0 room xs h
 pub take-filled : (room : ℕ) (xs : List ℕ) → take (length xs) (filled room xs) ≡ xs
 unfolding filled
 take-filled room xs = take-padded 0 room xs
+
+-- What was written stands at the front of a buffer, as long as was told.
+pub take-told : (len room : ℕ) (xs out : List ℕ) → len ≡ length xs → out ≡ filled room xs → take len out ≡ xs
+take-told len room xs out l e = rw (l, e) (take-filled room xs)
 
 pub getD-filled : (room : ℕ) (xs : List ℕ) (i : ℕ) → getD (filled room xs) i 0 ≡ getD xs i 0
 unfolding filled
