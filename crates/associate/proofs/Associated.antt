@@ -19,11 +19,11 @@ use Rattle.associate.specs.Associate.{Holds, left-result, right-result, 
 use Rattle.associate.proofs.Triples.{left-paths, right-paths}
 use Rattle.associate.proofs.Agreeing.{holds, agree}
 
-composing : {xs ys : List ℕ} (c : Composition xs ys) → Composed-well xs ys (composed-bytes c) (c .origins-left)
+pub composing : {xs ys : List ℕ} (c : Composition xs ys) → Composed-well xs ys (composed-bytes c) (c .origins-left)
 composing {xs} {ys} c =
     composed-well xs ys (c .answer) (c .table) (c .table-left) (c .origins) (c .origins-left) (c .states) (c .states-left) (c .says) (c .well)
 
-applying : {cs zs : List ℕ} (x : Application cs zs) → Applied-well cs zs (lattice-bytes x) (x .origins-left)
+pub applying : {cs zs : List ℕ} (x : Application cs zs) → Applied-well cs zs (lattice-bytes x) (x .origins-left)
 applying {cs} {zs} x =
     applied-well cs zs (x .answer) (x .lattice) (x .lattice-left) (x .origins) (x .origins-left) (x .pairs) (x .pairs-left) (x .says) (x .well)
 

@@ -84,7 +84,7 @@ computed =
       applied-fine = refl;
     }
 
-all-bytes : (xs : List ℕ) → every (λ x. ltb x 256) xs ≡ true → Bytes xs
+pub all-bytes : (xs : List ℕ) → every (λ x. ltb x 256) xs ≡ true → Bytes xs
 unfolding every
 all-bytes [] h i = omega arith
 all-bytes (x ∷ xs) h zero = ltb-true x 256 (and-true (ltb x 256) (every (λ x. ltb x 256) xs) h .0)
@@ -95,12 +95,12 @@ unfolding one-arc every
 bytes-all = (all-bytes a refl, all-bytes b refl, all-bytes c refl)
 
 -- The bytes that a composition hands on are those of the definition.
-handed-on : {xs ys : List ℕ} (x : Composition xs ys) → composed-bytes x ≡ encode (composed (decode xs) (decode ys) .result)
+pub handed-on : {xs ys : List ℕ} (x : Composition xs ys) → composed-bytes x ≡ encode (composed (decode xs) (decode ys) .result)
 handed-on {xs} {ys} x =
     composed-well xs ys (x .answer) (x .table) (x .table-left) (x .origins) (x .origins-left) (x .states) (x .states-left) (x .says) (x .well) .bytes
 
 module _ (t o s : List ℕ) (long-t : max-bytes ≤ length t) (long-o : max-origins ≤ length o) (long-s : max-states ≤ length s) where
-  composing : (xs ys : List ℕ) → compose-refusal xs ys max-bytes max-origins max-states ≡ 0 → Composition xs ys
+  pub composing : (xs ys : List ℕ) → compose-refusal xs ys max-bytes max-origins max-states ≡ 0 → Composition xs ys
   unfolding compose-refusal compose-room unless
   composing xs ys none =
       record {
@@ -142,25 +142,27 @@ module _ (t o s : List ℕ) (long-t : max-bytes ≤ length t) (long-o : max-orig
       ∙ ap (λ (xs : List ℕ). encode (composed (decode a) (decode xs) .result)) (handed-on (some-brackets .bc) ∙ computed .bc-is) ∙ computed .a-bc-is
 
   module _ (l : List ℕ) (long-l : max-arcs ≤ length l) where
-    applying : Application (1 ∷ []) (one-arc 1 4 18)
+    pub applying : (cs zs : List ℕ) → apply-refusal cs zs max-bytes max-arcs max-states ≡ 0 → Application cs zs
     unfolding apply-refusal apply-room unless
-    applying =
+    applying cs zs none =
         record {
-          answer = record { refusal = 0; len = length (encode (lattice (1 ∷ []) (decode (one-arc 1 4 18)))) };
+          answer = record { refusal = 0; len = length (encode (lattice cs (decode zs))) };
           lattice = t;
-          lattice-left = left-behind 0 t (encode (lattice (1 ∷ []) (decode (one-arc 1 4 18))));
+          lattice-left = left-behind 0 t (encode (lattice cs (decode zs)));
           origins = l;
-          origins-left = left-behind 0 l (lattice-origins (1 ∷ []) (decode (one-arc 1 4 18)));
+          origins-left = left-behind 0 l (lattice-origins cs (decode zs));
           pairs = s;
           pairs-left = left-behind 0 s [];
           says =
-              rw (le-ltb (length t) max-bytes long-t, le-ltb (length l) max-arcs long-l, le-ltb (length s) max-states long-s, computed .applied-fine)
+              rw (le-ltb (length t) max-bytes long-t, le-ltb (length l) max-arcs long-l, le-ltb (length s) max-states long-s, none)
               (record { refusal-is = refl; len-is = refl; table = refl; origins = refl; work = refl });
           well = refl;
         }
 
     pub some-applications : Application (1 ∷ []) (left-result some-brackets) × Application (1 ∷ []) (right-result some-brackets)
-    some-applications = (subst (Application (1 ∷ [])) (sym left-is) applying, subst (Application (1 ∷ [])) (sym right-is) applying)
+    some-applications =
+        let both : Application (1 ∷ []) (one-arc 1 4 18) = applying (1 ∷ []) (one-arc 1 4 18) (computed .applied-fine) in
+        (subst (Application (1 ∷ [])) (sym left-is) both, subst (Application (1 ∷ [])) (sym right-is) both)
 
 pub some-counting : (bs : List ℕ) → Counting bs
 some-counting bs =

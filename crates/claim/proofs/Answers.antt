@@ -82,6 +82,7 @@ composed-fits xs ys r a a' b b' c c' says well =
 -- Applying
 
 pub record Applied-well (cs bs ws ls : List ℕ) : Type 0 where
+  pub table-good : refusal bs ≡ 0
   pub string : string-good cs ≡ true
   pub fine : built-refusal (applied cs (decode bs) .result) ≡ 0
   pub bytes : ws ≡ encode (lattice cs (decode bs))
@@ -101,6 +102,7 @@ applied-well cs bs r a a' b b' c c' says well =
     let two = or-else-none (cond (string-good cs) 0 9) rest (one .1) in
     let three = or-else-none (apply-room (length a) (length b) (length c)) last (two .1) in
     record {
+      table-good = one .0;
       string = passed-last (string-good cs) 8 (two .0);
       fine = three .1;
       bytes =

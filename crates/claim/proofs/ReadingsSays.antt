@@ -46,10 +46,8 @@ module _ (xs ys cs : List ℕ) where
   unfolding readings-refusal
   number-third e f = none-or-else m (or-else n last) e ∙ none-or-else n last f
 
--- Composing was called on bytes, with buffers of the least lengths.
+-- Composing was called with buffers of the least lengths.
 pub record Composed-call (xs ys : List ℕ) (made : Written) (a a' b b' c c' : List ℕ) : Type 0 where
-  pub left-bytes : Bytes xs
-  pub right-bytes : Bytes ys
   pub table-room : length a ≡ max-bytes
   pub origins-room : length b ≡ max-origins
   pub states-room : length c ≡ max-states
@@ -64,7 +62,8 @@ pub record Applied-call (cs bs : List ℕ) (put : Written) (d d' e e' f f' : Lis
 
 -- The composition's answer
 
-module _ {xs ys : List ℕ} {made : Written} {a a' b b' c c' : List ℕ} (composing : Composed-call xs ys made a a' b b' c c') where
+module _ {xs ys : List ℕ} {made : Written} {a a' b b' c c' : List ℕ} (bytes-xs : Bytes xs) (bytes-ys : Bytes ys)
+    (composing : Composed-call xs ys made a a' b b' c c') where
   made-number : made .refusal ≡ composition-refusal xs ys
   unfolding compose-refusal compose-room composition-refusal or-else
   made-number = composing .says .refusal-is ∙ (rw (composing .table-room, composing .origins-room, composing .states-room))
@@ -90,10 +89,10 @@ module _ {xs ys : List ℕ} {made : Written} {a a' b b' c c' : List ℕ} (compos
     none = sym made-number ∙ well
 
     good-xs : Good (decode xs)
-    good-xs = accepted-good xs (composing .left-bytes) (made-well .left-good)
+    good-xs = accepted-good xs bytes-xs (made-well .left-good)
 
     good-ys : Good (decode ys)
-    good-ys = accepted-good ys (composing .right-bytes) (made-well .right-good)
+    good-ys = accepted-good ys bytes-ys (made-well .right-good)
 
     read : decode (take (made .len) a') ≡ composition xs ys
     read = composition-read good-xs good-ys made-well
@@ -136,8 +135,8 @@ module _ {xs ys : List ℕ} {made : Written} {a a' b b' c c' : List ℕ} (compos
             let w : Transducer = composition-lattice xs ys cs in
             let chained : Calls-chained xs ys cs bs b' ws e' r =
             record {
-              left-bytes = composing .left-bytes;
-              right-bytes = composing .right-bytes;
+              left-bytes = bytes-xs;
+              right-bytes = bytes-ys;
               composing = made-well;
               applying = put-well;
               counting = counting;

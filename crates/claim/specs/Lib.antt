@@ -1,4 +1,5 @@
 -- What a caller must believe, and what is claimed
 pub mod Kind
+pub mod Listed
 pub mod Claim
 pub mod Entry

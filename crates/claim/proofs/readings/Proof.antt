@@ -5,6 +5,7 @@ use Prim.Native.Nat.{ℕ, _≤_}
 use native.Mathlib.Omega.{arith}
 use lib.ListN.{length, take, replicate, length-replicate}
 use lib.Seq.{length-take-le}
+use Rattle.wire.specs.Bytes.{Bytes}
 use Rattle.transducer.specs.Format.{max-arcs, max-bytes, max-origins, max-states}
 use Rattle.claim.proofs.ReadingsSays.{Composed-call, Applied-call, says-uncomposed, made-fits, says-unapplied, put-fits, says-counted}
 use Rattle.claim.proofs.readings.Statement.{statement}
@@ -35,14 +36,18 @@ uncomposed c = c .before .before .before .before .before
 abbrev unapplied : tie.Then2 → tie.After-apply
 unapplied c = c .before .before .before .before .before
 
+left-bytes : (c : tie.After-compose) → Bytes (start c .args .left .now)
+left-bytes c = λ i. omega (arith, lent-left c .shared-slice-known .given i)
+
+right-bytes : (c : tie.After-compose) → Bytes (start c .args .right .now)
+right-bytes c = λ i. omega (arith, lent-right c .shared-slice-known2 .given i)
+
 -- What the two calls were handed and answered.
 compose-said : (c : tie.After-compose)
     → Composed-call (start c .args .left .now) (start c .args .right .now) (c .compose .result) (replicate max-bytes 0) (c .compose .last .1 .1 .0)
     (replicate max-origins 0) (c .compose .last .1 .1 .1 .0) (replicate max-states 0) (c .compose .last .1 .1 .1 .1 .0)
 compose-said c =
     record {
-      left-bytes = λ i. omega (arith, lent-left c .shared-slice-known .given i);
-      right-bytes = λ i. omega (arith, lent-right c .shared-slice-known2 .given i);
       table-room = length-replicate {A = ℕ} max-bytes 0;
       origins-room = length-replicate {A = ℕ} max-origins 0;
       states-room = length-replicate {A = ℕ} max-states 0;
@@ -64,12 +69,13 @@ apply-said c =
 
 -- What is handed on lies within its array.
 table-fits : (c : tie.Else1) → composing c .compose .result .len ≤ length (composing c .compose .last .1 .1 .0)
-table-fits c = made-fits (compose-said (composing c)) (c .if1 .left)
+table-fits c = made-fits (left-bytes (composing c)) (right-bytes (composing c)) (compose-said (composing c)) (c .if1 .left)
 
 lattice-fits : (c : tie.Else2) → applying c .apply .result .len ≤ length (applying c .apply .last .1 .1 .0)
 lattice-fits c =
     let put = applying c in
-    put-fits (compose-said (composing (composed put))) (composed put .if1 .left) (apply-said put) (c .if2 .left)
+    let made = composing (composed put) in
+    put-fits (left-bytes made) (right-bytes made) (compose-said made) (composed put .if1 .left) (apply-said put) (c .if2 .left)
 
 slice-aggregate-compose : tie.Need-slice-aggregate-compose
 slice-aggregate-compose c = search needs
@@ -86,7 +92,7 @@ compose-requires c κs = tt
 returns : tie.Need-returns
 returns c =
     let made = uncomposed c in
-    says-uncomposed (compose-said made) (start made .args .string .now) (c .if1 .taken)
+    says-uncomposed (left-bytes made) (right-bytes made) (compose-said made) (start made .args .string .now) (c .if1 .taken)
 
 cast-size : tie.Need-cast-size
 cast-size c = search needs
@@ -114,7 +120,8 @@ apply-requires c κs = tt
 returns-2 : tie.Need-returns-2
 returns-2 c =
     let put = unapplied c in
-    says-unapplied (compose-said (composing (composed put))) (composed put .if1 .left) (apply-said put) (c .if2 .taken)
+    let made = composing (composed put) in
+    says-unapplied (left-bytes made) (right-bytes made) (compose-said made) (composed put .if1 .left) (apply-said put) (c .if2 .taken)
 
 cast-len : tie.Need-cast-len
 cast-len c = search needs
@@ -134,7 +141,8 @@ returns-3 : tie.Need-returns-3
 returns-3 c =
     let else2 = c .before .before .before in
     let put = applying else2 in
-    says-counted (compose-said (composing (composed put))) (composed put .if1 .left) (apply-said put) (else2 .if2 .left) (c .count .result)
+    let made = composing (composed put) in
+    says-counted (left-bytes made) (right-bytes made) (compose-said made) (composed put .if1 .left) (apply-said put) (else2 .if2 .left) (c .count .result)
     (c .count .ensures)
 
 pub readings-spec : {M : Type 1} → statement M

@@ -1,0 +1,174 @@
+-- The answers of the one call: one law for each, in the order of its calls. Assumes nothing.
+use mathlib.Core.Path.{_≡_, sym, ap, _∙_}
+use mathlib.Core.Bool.{true, cond}
+use mathlib.Core.List.{List}
+use Prim.Native.Nat.{ℕ, _≤_}
+use lib.ListN.{length, take}
+use Rattle.wire.specs.Bytes.{Bytes}
+use Rattle.transducer.specs.declared.Written.{Written}
+use Rattle.transducer.specs.Format.{Transducer, Good, refusal, decode}
+use Rattle.transducer.specs.Each.{named, any-refusal}
+use Rattle.transducer.specs.Entry.{or-else}
+use Rattle.transducer.proofs.Answers.{or-else-none, some-or-else, none-or-else, unless-some}
+use Rattle.transducer.proofs.Fits.{plain-named}
+use Rattle.transducer.proofs.RoundTrip.{accepted-good}
+use Rattle.explore.specs.Explore.{built-refusal}
+use Rattle.compose.specs.Compose.{composed}
+use Rattle.compose.specs.Entry.{compose-room, compose-refusal}
+use Rattle.lattice.specs.ApplyEntry.{apply-room, apply-refusal}
+use Rattle.lattice.specs.Lattice.{lattice}
+use Rattle.lattice.proofs.LatticeGood.{lattice-plain}
+use Rattle.paths.specs.declared.Counted.{Counted}
+use Rattle.paths.specs.Count.{endless, path-count}
+use Rattle.paths.specs.Entry.{count-refusal, Count-says}
+use Rattle.claim.specs.Entry.{application-refusal}
+use Rattle.claim.proofs.Answers.{composed-well, composed-fits, Applied-well, applied-well, applied-fits}
+use Rattle.claim.proofs.HandedOn.{composition-read, composition-accepted, applied-read, applied-good, applied-accepted}
+use Rattle.claim.proofs.ReadingsSays.{Composed-call, Applied-call}
+use Rattle.cascade.specs.Cascade.{Cascaded}
+use Rattle.cascade.specs.Entry.{cascade, tables-refusal, cascade-refusal, readings-refusal, Readings-says}
+use Rattle.cascade.proofs.Cascaded.{claim}
+
+-- A refusal of the cascade is the answer.
+says-refused : (xs ys cs : List ℕ) (n : ℕ) → cascade-refusal xs ys cs ≡ n → (n ≡ 0 → ⊥)
+    → Readings-says xs ys cs (record { refusal = n; count = 0 })
+unfolding readings-refusal
+says-refused xs ys cs n is bad =
+    let some : cascade-refusal xs ys cs ≡ 0 → ⊥ = λ none. bad (sym is ∙ none) in
+    let number : readings-refusal xs ys cs ≡ n = some-or-else (cascade-refusal xs ys cs) (cond (endless (cascade xs ys cs)) 14 0) some ∙ is in
+    record {
+      refusal-is = sym number;
+      count-is = sym (unless-some (readings-refusal xs ys cs) (path-count (cascade xs ys cs)) (λ none. bad (sym number ∙ none)));
+      counts = λ none. absurd (some none);
+    }
+
+module _ (xs ys cs : List ℕ) where
+  abbrev behind : ℕ
+  behind = or-else (application-refusal cs (decode xs)) (built-refusal (cascade xs ys cs))
+
+  -- The tables' answer
+
+  pub says-unaccepted : (n : ℕ) → n ≡ tables-refusal xs ys → (n ≡ 0 → ⊥) → Readings-says xs ys cs (record { refusal = n; count = 0 })
+  unfolding cascade-refusal
+  says-unaccepted n is bad =
+      says-refused xs ys cs n (some-or-else (tables-refusal xs ys) behind (λ none. bad (is ∙ none)) ∙ sym is) bad
+
+  module _ (bytes-xs : Bytes xs) (bytes-ys : Bytes ys) (none : tables-refusal xs ys ≡ 0) where
+    both : (refusal xs ≡ 0) × (refusal ys ≡ 0)
+    unfolding tables-refusal
+    both = or-else-none (refusal xs) (refusal ys) none
+
+    good-xs : Good (decode xs)
+    good-xs = accepted-good xs bytes-xs (both .0)
+
+    good-ys : Good (decode ys)
+    good-ys = accepted-good ys bytes-ys (both .1)
+
+    number-behind : cascade-refusal xs ys cs ≡ behind
+    unfolding cascade-refusal
+    number-behind = none-or-else (tables-refusal xs ys) behind none
+
+    -- The application's answer
+
+    module _ {put : Written} {d d' e e' f f' : List ℕ} (applying : Applied-call cs xs put d d' e e' f f') where
+      abbrev ws : List ℕ
+      ws = take (put .len) d'
+
+      put-number : put .refusal ≡ application-refusal cs (decode xs)
+      unfolding apply-refusal apply-room application-refusal or-else
+      put-number = applying .says .refusal-is ∙ (rw (applying .lattice-room, applying .origins-room, applying .pairs-room, both .0))
+
+      pub says-unapplied : (put .refusal ≡ 0 → ⊥) → Readings-says xs ys cs (record { refusal = put .refusal; count = 0 })
+      says-unapplied bad =
+          says-refused xs ys cs (put .refusal)
+          (number-behind
+          ∙ some-or-else (application-refusal cs (decode xs)) (built-refusal (cascade xs ys cs)) (λ free. bad (put-number ∙ free)) ∙ sym put-number)
+          bad
+
+      module _ (fine : put .refusal ≡ 0) where
+        put-well : Applied-well cs xs ws e'
+        put-well = applied-well cs xs put d d' e e' f f' (applying .says) fine
+
+        pub put-fits : put .len ≤ length d'
+        put-fits = applied-fits cs xs put d d' e e' f f' (applying .says) fine
+
+        good-ws : Good (decode ws)
+        good-ws = applied-good good-xs put-well
+
+        read : decode ws ≡ lattice cs (decode xs)
+        read = applied-read good-xs put-well
+
+        -- 18 never holds of a lattice.
+        all-named : named (lattice cs (decode xs)) ≡ true
+        all-named = plain-named (lattice cs (decode xs)) (lattice-plain cs (decode xs) good-xs (put-well .string))
+
+        -- The composition's answer
+
+        module _ {made : Written} {a a' b b' c c' : List ℕ} (composing : Composed-call ws ys made a a' b b' c c') where
+          made-number : made .refusal ≡ built-refusal (cascade xs ys cs)
+          unfolding compose-refusal compose-room any-refusal or-else
+          made-number =
+              composing .says .refusal-is
+              ∙ (rw (composing .table-room, composing .origins-room, composing .states-room, applied-accepted good-xs put-well, both .1, read, all-named))
+
+          number-last : cascade-refusal xs ys cs ≡ built-refusal (cascade xs ys cs)
+          number-last =
+              number-behind ∙ none-or-else (application-refusal cs (decode xs)) (built-refusal (cascade xs ys cs)) (sym put-number ∙ fine)
+
+          pub says-uncomposed : (made .refusal ≡ 0 → ⊥) → Readings-says xs ys cs (record { refusal = made .refusal; count = 0 })
+          says-uncomposed bad = says-refused xs ys cs (made .refusal) (number-last ∙ sym made-number) bad
+
+          module _ (well : made .refusal ≡ 0) where
+            pub made-fits : made .len ≤ length a'
+            made-fits = composed-fits ws ys made a a' b b' c c' (composing .says) well
+
+            -- The count's answer
+
+            cascaded : Cascaded xs ys cs
+            cascaded =
+                record {
+                  left-bytes = bytes-xs;
+                  right-bytes = bytes-ys;
+                  applying =
+                      record {
+                        answer = put;
+                        lattice = d;
+                        lattice-left = d';
+                        origins = e;
+                        origins-left = e';
+                        pairs = f;
+                        pairs-left = f';
+                        says = applying .says;
+                        well = fine;
+                      };
+                  composing =
+                      record {
+                        answer = made;
+                        table = a;
+                        table-left = a';
+                        origins = b;
+                        origins-left = b';
+                        states = c;
+                        states-left = c';
+                        says = composing .says;
+                        well = well;
+                      };
+                }
+
+            pub says-counted : (r : Counted) → Count-says (take (made .len) a') (count-refusal (take (made .len) a')) r → Readings-says xs ys cs r
+            unfolding count-refusal readings-refusal cascaded
+            says-counted r counting =
+                let zs : List ℕ = take (made .len) a' in
+                let made-well = composed-well ws ys made a a' b b' c c' (composing .says) well in
+                let in-bytes : decode zs ≡ cascade xs ys cs =
+                composition-read good-ws good-ys made-well ∙ ap (λ (t : Transducer). composed t (decode ys) .result) read in
+                let number : count-refusal zs ≡ readings-refusal xs ys cs =
+                none-or-else (refusal zs) (cond (endless (decode zs)) 14 0) (composition-accepted good-ws good-ys made-well)
+                ∙ ap (λ (t : Transducer). cond (endless t) 14 0) in-bytes
+                ∙ sym
+                (none-or-else (cascade-refusal xs ys cs) (cond (endless (cascade xs ys cs)) 14 0) (number-last ∙ sym made-number ∙ well)) in
+                record {
+                  refusal-is = counting .refusal-is ∙ number;
+                  count-is = counting .count-is ∙ (rw (number, in-bytes));
+                  counts = λ _. claim cascaded .holds .counts (record { answer = r; says = counting });
+                }
