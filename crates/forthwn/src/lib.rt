@@ -12,7 +12,7 @@ ghost use Rattle.distance.specs.Entry.{Costs-say, costs-refusal};
 ghost use Rattle.shortest.specs.Entry.{Shortest-says, shortest-refusal};
 ghost use Rattle.claim.specs.Entry.{Readings-says};
 ghost use Rattle.listing.specs.Entry.{Listing-says, text-room};
-ghost use Rattle.forthwn.specs.Answer.{header, written, counted, told, listed};
+ghost use Rattle.forthwn.specs.Answer.{written, counted, listed, head-numbers, path-numbers, Head-in, Told-in};
 
 // Refusals 1 to 8 of a transducer's bytes, or 0 where they are accepted. Linear in the bytes.
 #[no_mangle]
@@ -20,6 +20,13 @@ pub extern "C" fn forthwn_refusal(bytes: &[u8]) -> u32
     ensures { λ r. ⌜ r ≡ refusal (now (bytes .entry)) ⌝ }
 {
     transducer::refusal(bytes)
+}
+
+// A head as C gets it: four numbers.
+fn head_numbers(states: u32, arcs: u32, finals: u32, start: u32) -> [u32; 4]
+    ensures { λ r. ⌜ r ≡ head-numbers states arcs finals start ⌝ }
+{
+    [states, arcs, finals, start]
 }
 
 // Reads a transducer into four lent buffers, and its states, arcs, finals and start into `head`. Linear in the bytes and in what is lent.
@@ -32,15 +39,14 @@ pub extern "C" fn forthwn_read(
     arc_weights: &mut [i32],
     head: &mut [u32; 4],
 ) -> u32
-    ensures { λ r. ⌜ Read-says (now (bytes .entry))
+    ensures { λ r. ⌜ Head-in r (now (head .exit)) (λ h. Read-says (now (bytes .entry))
         (read-refusal (now (bytes .entry)) (length (now («final_states» .entry))) (length (now («final_weights» .entry)))
         (length (now (fields .entry))) (length (now («arc_weights» .entry))))
-        (header r (now (head .exit)))
-        (now («final_states» .entry)) (now («final_states» .exit)) (now («final_weights» .entry)) (now («final_weights» .exit))
-        (now (fields .entry)) (now (fields .exit)) (now («arc_weights» .entry)) (now («arc_weights» .exit)) ⌝ }
+        h (now («final_states» .entry)) (now («final_states» .exit)) (now («final_weights» .entry)) (now («final_weights» .exit))
+        (now (fields .entry)) (now (fields .exit)) (now («arc_weights» .entry)) (now («arc_weights» .exit))) ⌝ }
 {
     let answer = codec::read(bytes, final_states, final_weights, fields, arc_weights);
-    *head = [answer.states, answer.arcs, answer.finals, answer.start];
+    *head = head_numbers(answer.states, answer.arcs, answer.finals, answer.start);
     answer.refusal
 }
 
@@ -149,6 +155,13 @@ pub extern "C" fn forthwn_count(table: &[u8], count: &mut u32) -> u32
     answer.refusal
 }
 
+// What is told of a path as C gets it: three signed numbers.
+fn path_numbers(cost: i64, arcs: u32, labels: u32) -> [i64; 3]
+    ensures { λ r. ⌜ r ≡ path-numbers cost arcs labels ⌝ }
+{
+    [cost, arcs as i64, labels as i64]
+}
+
 // The k-th path: its arcs and labels into lent buffers, and its cost, number of arcs and number of labels into `numbers`. Linear in states
 // and arcs.
 #[no_mangle]
@@ -159,12 +172,12 @@ pub extern "C" fn forthwn_nth(
     labels: &mut [u16],
     numbers: &mut [i64; 3],
 ) -> u32
-    ensures { λ r. ⌜ Nth-says (now (table .entry)) k
+    ensures { λ r. ⌜ Told-in r (now (numbers .exit)) (λ t. Nth-says (now (table .entry)) k
         (nth-refusal (now (table .entry)) k (length (now (arcs .entry))) (length (now (labels .entry))))
-        (told r (now (numbers .exit))) (now (arcs .entry)) (now (arcs .exit)) (now (labels .entry)) (now (labels .exit)) ⌝ }
+        t (now (arcs .entry)) (now (arcs .exit)) (now (labels .entry)) (now (labels .exit))) ⌝ }
 {
     let answer = paths::nth_path(table, k, arcs, labels);
-    *numbers = [answer.cost, answer.arcs as i64, answer.labels as i64];
+    *numbers = path_numbers(answer.cost, answer.arcs, answer.labels);
     answer.refusal
 }
 
@@ -177,12 +190,12 @@ pub extern "C" fn forthwn_shortest(
     labels: &mut [u16],
     numbers: &mut [i64; 3],
 ) -> u32
-    ensures { λ r. ⌜ Shortest-says (now (table .entry))
+    ensures { λ r. ⌜ Told-in r (now (numbers .exit)) (λ t. Shortest-says (now (table .entry))
         (shortest-refusal (now (table .entry)) (length (now (arcs .entry))) (length (now (labels .entry))))
-        (told r (now (numbers .exit))) (now (arcs .entry)) (now (arcs .exit)) (now (labels .entry)) (now (labels .exit)) ⌝ }
+        t (now (arcs .entry)) (now (arcs .exit)) (now (labels .entry)) (now (labels .exit))) ⌝ }
 {
     let answer = shortest::shortest_path(table, arcs, labels);
-    *numbers = [answer.cost, answer.arcs as i64, answer.labels as i64];
+    *numbers = path_numbers(answer.cost, answer.arcs, answer.labels);
     answer.refusal
 }
 

@@ -1,2 +1,0 @@
--- What is told of a path, handed over as three signed numbers.
-pub mod Handed
