@@ -1,6 +1,5 @@
 #!/usr/bin/env python3
-"""Whether what docs/MAP.md names is there: definitions, laws, proof files, functions, must-fail edits, cases and files, and sections of docs/reference.md;
-and whether the README says of each file of definitions who must believe it.
+"""Whether what docs/MAP.md names is there: definitions, laws, proof files, functions, must-fail edits, cases and files, and sections of docs/reference.md.
 
   tests/map/check.py      prints each name that is not, with its line; status 1 where there is one
 
@@ -126,19 +125,6 @@ def refusal_faults():
             yield f"docs/reference.md: refusal {number}, {name}, is not in its table"
 
 
-def belief_faults():
-    """Each file of definitions that is not in its crate's row of the README's table "What a caller must believe"."""
-    table = (ROOT / "README.md").read_text().split("### What a caller must believe", 1)[1]
-    named = {row.split("|")[1].strip(" `"): row for row in table.splitlines() if row.startswith("| `")}
-    for path in sorted((ROOT / "crates").glob("*/specs/*.antt")):
-        crate, module = path.parts[-3], path.stem
-        if module != "Lib" and not re.search(rf"`{module}[.`]", named.get(crate, "")):
-            yield f"README.md: {crate}'s {module} is not in the table of what a caller must believe"
-    for crate in named:
-        if crate not in CRATES:
-            yield f"README.md: {crate} is no crate"
-
-
 def main():
     faults, checked = [], 0
     for number, heading, line in rows((ROOT / "docs" / "MAP.md").read_text()):
@@ -147,7 +133,7 @@ def main():
         for name, wrong in name_faults(line):
             checked += 1
             faults += [f"docs/MAP.md:{number}: `{name}`: {wrong}"] if wrong else []
-    faults += [*section_faults(), *refusal_faults(), *belief_faults()]
+    faults += [*section_faults(), *refusal_faults()]
     print("\n".join([*faults, f"docs/MAP.md: {checked} names, {len(faults)} faults"]))
     return 1 if faults else 0
 
