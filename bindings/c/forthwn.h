@@ -4,9 +4,12 @@
  *
  * What holds for every call:
  *
- *  - It returns a refusal: 0 (FORTHWN_OK), or the lowest number of `enum forthwn_refusals` whose condition holds (of two tables, 1 to 8
- *    and then 18 of the left one come before 1 to 8 of the right one). forthwn_refusal_text says it in words. The other numbers that
- *    the call tells (len, count, head, path) are 0 on every refusal.
+ *  - It returns a refusal: 0 (FORTHWN_OK), or the first number whose condition holds, in the order in which the call tests; each call below
+ *    names its numbers in that order. For a call on one table, and for forthwn_write, that is the lowest number whose condition holds. Of
+ *    two tables, 1 to 8 of the left one and then its 18 come before 1 to 8 of the right one, and 10 to 13 behind these. forthwn_readings
+ *    tests the string (9) behind the composition's 11 to 13, and then the lattice's 11 and 12, then 14; what forthwn_list says goes in the
+ *    same order, without 14, and it returns 0 or 10. forthwn_refusal_text says a number in words. The other numbers that the call tells
+ *    (len, count, head, path) are 0 on every refusal.
  *  - Memory is lent as a pointer and a number of cells (bytes, 16-bit, 32-bit or 64-bit numbers, not always bytes); enough of them is never too
  *    many. The call touches no other memory, keeps no pointer, allocates nothing and has no state of its own, so calls may run in
  *    several threads at once.
@@ -203,7 +206,7 @@ uint32_t forthwn_shortest(const uint8_t *table, size_t table_len, uint16_t *arcs
 
 /* The least cost still to come from each state (the shortest distance to the final states), over all paths that lead from it to a final
  * state, the final weight included, into cell s for state s; FORTHWN_NO_COST where no path does, and in the cells past the last state.
- * States that the start does not reach have theirs too. The start's cell is the cost of the shortest path.
+ * States that the start does not reach have theirs too. The start's cell is the cost of the shortest path, where there is one.
  * Lent: FORTHWN_CELLS_LEN cells. Refusals: 1 to 8, 10, 19 (a cycle that sums below 0 and leads to a final state, wherever it is).
  * Time as for forthwn_shortest. */
 uint32_t forthwn_distance(const uint8_t *table, size_t table_len, forthwn_cost *cells, size_t cells_len);
