@@ -19,7 +19,8 @@ use Rattle.transducer.specs.Each.{by-number, each-arc, unnamed, fits, passed, n
 use Rattle.transducer.specs.Entry.{or-else}
 use Rattle.transducer.proofs.RoundTrip.{refusal-encode, decode-encode}
 use Rattle.codec.specs.Entry.{arc-fields, read-room, read-refusal}
-use Rattle.explore.specs.Explore.{there, place, met, served, numbered, targets, arcs-here, arcs-from, finals-from, steps-from, built, built-refusal}
+use Rattle.explore.specs.Explore.{there, place, met, served, numbered, targets, arcs-here, arcs-from, finals-from, steps-from, built}
+use Rattle.explore.specs.Explore.{built-refusal, keeps}
 use Rattle.explore.specs.Walk.{all-origins}
 use Rattle.steps.specs.Steps.{same-state, left-alone, right-alone, both-step, left-steps, right-steps, steps, first-state, left-origin, right-origin}
 use Rattle.steps.specs.Steps.{origin-pair}
@@ -40,7 +41,8 @@ use Rattle.shortest.specs.Entry.{shortest-refusal}
 use Rattle.listing.specs.Code.{labels-in}
 use Rattle.listing.specs.Text.{digits, decimal, cost-text, readings-word, labels-text, line, line-of, lines, counted-text, listing-text}
 use Rattle.listing.specs.Entry.{code-refusal, applied-refusal, text-unless, listing-refusal, text-of}
-use Rattle.starred.specs.Answer.{Answer, Case, All-hold, counts, or-refused, read-answer, write-answer, path-answer, defined}
+use Rattle.starred.specs.Answer.{Answer, Case, All-hold, counts, or-refused, built-or-refused}
+use Rattle.starred.specs.Answer.{read-answer, write-answer, path-answer, defined}
 use Rattle.starred.specs.Answer.Call.{counting}
 use Rattle.starred.specs.Cases.{repeated, like-arcs, cases}
 
@@ -91,7 +93,7 @@ unfolding two four low signed-four signed-low places every framed-from framed re
     goes-on endless path-count nth-path count-refusal nth-refusal size-of nearer nearer-path better best-of best shortest some-leaving falls-to
     falls-round some-below falling-among falling shortest-refusal labels-in digits
     decimal cost-text readings-word labels-text line line-of lines counted-text listing-text code-refusal applied-refusal text-unless listing-refusal text-of
-    or-refused read-answer write-answer path-answer defined repeated
+    or-refused built-or-refused keeps read-answer write-answer path-answer defined repeated
 all-hold x y z =
     together (take 13 (cases x y z)) (drop 13 (cases x y z)) refl
     (together (take 3 (drop 13 (cases x y z))) (drop 16 (cases x y z)) (like-arcs-hold x y z) refl)
