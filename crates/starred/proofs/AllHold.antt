@@ -1,9 +1,9 @@
 -- The one proof of the starred cases: each row of the table holds, by computing what the definitions give. Only the counts of 98 to 100 like
 -- arcs go by the round trip of the bytes, since to read 1,600 bytes by the definitions takes long.
 -- Assumes nothing.
-use mathlib.Core.Path.{_≡_, refl, sym, ap₂, _∙_}
+use mathlib.Core.Path.{_≡_, refl, ap₂}
 use mathlib.Core.Bool.{false}
-use mathlib.Core.List.{List, [], _∷_, _++_, map-append}
+use mathlib.Core.List.{List, [], _∷_}
 use Prim.Native.Nat.{ℕ}
 use lib.ListN.{take, drop, replicate}
 use Rattle.wire.specs.Bytes.{low, signed-low, every}
@@ -21,11 +21,7 @@ use Rattle.paths.specs.Entry.{count-refusal}
 use Rattle.starred.specs.Answer.{Answer, Case, All-hold, counts, or-refused, defined}
 use Rattle.starred.specs.Answer.Call.{counting}
 use Rattle.starred.specs.Cases.{repeated, like-arcs, cases}
-use Rattle.starred.proofs.Definitions.{definitions}
-
--- Tables that hold, one behind the other.
-together : (cs ds : List Case) → All-hold cs → All-hold ds → All-hold (cs ++ ds)
-together cs ds h k = map-append (λ c. defined (c .call)) cs ds ∙ ap₂ _++_ h k ∙ sym (map-append (λ c. c .answer) cs ds)
+use Rattle.starred.proofs.Computing.{definitions, together}
 
 cons : {x y : Answer} {xs ys : List Answer} → x ≡ y → xs ≡ ys → (x ∷ xs) ≡ (y ∷ ys)
 cons e h = ap₂ _∷_ e h

@@ -1,5 +1,5 @@
--- The definitions that cases compute with
-pub mod Definitions
+-- How cases are computed
+pub mod Computing
 -- Each case holds by the definitions
 pub mod AllHold
 -- What each call promises is what the definitions give

@@ -2,10 +2,10 @@
 -- Assumes nothing: these are definitions.
 use mathlib.Core.Path.{_≡_}
 use mathlib.Core.Bool.{cond}
-use mathlib.Core.List.{List, [], _∷_, _++_, map}
-use Prim.Native.Nat.{ℕ, _-_}
+use mathlib.Core.List.{List, [], _∷_, map}
+use Prim.Native.Nat.{ℕ}
 use lib.Dec.{eqb}
-use lib.ListN.{length, replicate}
+use lib.ListN.{length}
 use Rattle.transducer.specs.Format.{Transducer, max-states, max-arcs, max-fields, max-origins, max-bytes, max-path, decode}
 use Rattle.transducer.specs.Encode.{encode}
 use Rattle.transducer.specs.Path.{written-by, path-cost}
@@ -84,12 +84,9 @@ path-told cost arcs labels =
 abbrev pub tells : (cost : ℕ) → (arcs labels : List ℕ) → Answer
 tells cost arcs labels = path-told (amount cost) arcs labels
 
--- The cells of costs to come: those of the first states, and none, written as 1,000,000,000,001, in the others, up to 1,024.
+-- The cells of costs to come.
 abbrev pub cells-told : (cells : List Weight) → Answer
 cells-told cells = record { refusal = 0; left = written; cost = no-weight; numbers = []; buffers = []; weights = cells ∷ [] }
-
-abbrev pub costs : (first : List Weight) → Answer
-costs first = cells-told (first ++ replicate (1024 - length first) (amount 1000000000001))
 
 -- A listing, and the refusal that its text says.
 abbrev pub lists : (said : ℕ) → (text : List ℕ) → Answer

@@ -2,8 +2,10 @@
 -- in the buffers, by numbers and bytes and not by the definitions: one that is misread, even if the code is misread alike, is refused by a row.
 -- Assumes nothing: these are definitions.
 use mathlib.Core.List.{List, [], _∷_, _++_}
-use Rattle.transducer.specs.Weight.{amount, rebate}
-use Rattle.starred.specs.Answer.{Case, _gives_, refused, refused-with-zeros, reads, table-read, writes, counts, tells, costs}
+use Prim.Native.Nat.{_-_}
+use lib.ListN.{length, replicate}
+use Rattle.transducer.specs.Weight.{Weight, amount, rebate}
+use Rattle.starred.specs.Answer.{Answer, Case, _gives_, refused, refused-with-zeros, reads, table-read, writes, counts, tells, cells-told}
 use Rattle.starred.specs.Answer.Call.{reading, composing, applying, counting, kth-path, shortest-path, distances}
 use Rattle.starred.specs.Cases.{weight-1000000, weight-1000001, weight-1, weight-4, one-arc, one-final, like-arcs}
 use Rattle.worked.specs.Tables.{label, any, units, rebate-1000000, rebate-1000001, rebate-600000, rebate-400000, rebate-400001, head, final, arc}
@@ -96,6 +98,10 @@ cycle-rows =
     ∷ (shortest-path falling-unreached gives tells 0 [] [])
     ∷ (shortest-path level-cycle gives tells 0 [] [])
     ∷ []
+
+-- The cells of the first states; the others, up to 1,024, hold none.
+abbrev pub costs : (first : List Weight) → Answer
+costs first = cells-told (first ++ replicate (1024 - length first) (amount 1000000000001))
 
 -- Points 2 and 8: the least cost still to come from each state, none written as 1,000,000,000,001; 19 for a cycle below zero from which a final state can be
 -- reached, whether the start reaches it or not.

@@ -1,5 +1,7 @@
--- The definitions that a case computes with, all under one name: a proof that says `unfolding definitions` computes with every one of them. The number
--- that this is has no meaning. Assumes nothing.
+-- How the cases of a table are computed: the definitions that they compute with, and tables one behind the other.
+-- Assumes nothing.
+use mathlib.Core.Path.{sym, ap₂, _∙_}
+use mathlib.Core.List.{List, _++_, map-append}
 use Prim.Native.Nat.{ℕ}
 use Rattle.wire.specs.Bytes.{two, four, low, signed-four, signed-low, places, every}
 use Rattle.transducer.specs.Format.{framed-from, framed, records-from, records, kind-good, in-order, kinds-good}
@@ -36,8 +38,9 @@ use Rattle.shortest.specs.Entry.{shortest-refusal}
 use Rattle.listing.specs.Code.{labels-in}
 use Rattle.listing.specs.Text.{digits, decimal, cost-text, readings-word, labels-text, line, line-of, lines, counted-text, listing-text}
 use Rattle.listing.specs.Entry.{code-refusal, applied-refusal, text-unless, listing-refusal, text-of}
-use Rattle.starred.specs.Answer.{or-refused, built-or-refused, read-answer, write-answer, path-answer, defined}
+use Rattle.starred.specs.Answer.{Case, All-hold, or-refused, built-or-refused, read-answer, write-answer, path-answer, defined}
 
+-- All of them under one name: a proof that says `unfolding definitions` computes with each. The number that it is has no meaning.
 unfoldable pub definitions : ℕ
 unfolding two four low signed-four signed-low places every framed-from framed records-from records kind-good in-order kinds-good weight-at weight-good
     labels-good finals-in arcs-in head-states head-arcs head-finals head-start decode head-good states-good finals-rise sources-stay order-good
@@ -53,3 +56,7 @@ unfolding two four low signed-four signed-low places every framed-from framed re
     text-of or-refused built-or-refused keeps read-answer write-answer path-answer defined falling-anywhere cost-from lesser least-of least-to-come
     costs-refusal costs-to-come
 definitions = 0
+
+-- Tables that hold, one behind the other.
+pub together : (cs ds : List Case) → All-hold cs → All-hold ds → All-hold (cs ++ ds)
+together cs ds h k = map-append (λ c. defined (c .call)) cs ds ∙ ap₂ _++_ h k ∙ sym (map-append (λ c. c .answer) cs ds)
