@@ -59,7 +59,7 @@ infix 20 _gives_
 abbrev pub _gives_ : Call → Answer → Case
 c gives a = record { call = c; answer = a }
 
--- Answers as rows have them. A refusal by a number, the buffers as they were; and one that leaves nothing but zeros in them.
+-- Answers as rows have them. A refusal by a number that leaves the buffers as they were, and one that leaves only zeros in them.
 abbrev pub refused-leaving : Left → (number : ℕ) → Answer
 refused-leaving left number = record { refusal = number; left = left; cost = no-weight; numbers = []; buffers = []; weights = [] }
 
@@ -69,8 +69,7 @@ refused number = refused-leaving kept number
 abbrev pub refused-with-zeros : (number : ℕ) → Answer
 refused-with-zeros number = refused-leaving zeros number
 
--- An answer without refusal: its numbers, buffers and weights; a transducer written, with its length and origins; a count; a path with its cost.
-
+-- Without refusal: a transducer written, with its length and origins; a count; a path with its cost.
 abbrev pub writes : (len : ℕ) → (bytes origins : List ℕ) → Answer
 writes len bytes origins = record { refusal = 0; left = written; cost = no-weight; numbers = len ∷ []; buffers = bytes ∷ origins ∷ []; weights = [] }
 
@@ -98,7 +97,7 @@ abbrev pub table-read : (states arcs finals start : ℕ) → (final-states : Lis
 table-read n m f start a b c d =
     record { refusal = 0; left = written; cost = no-weight; numbers = n ∷ m ∷ f ∷ start ∷ []; buffers = a ∷ c ∷ []; weights = b ∷ d ∷ [] }
 
--- The same, if no weight is below 0.
+-- Like `table-read`, for weights that are not below 0.
 abbrev pub reads : (states arcs finals start : ℕ) → (final-states final-weights fields arc-weights : List ℕ) → Answer
 reads n m f start a b c d = table-read n m f start a (map amount b) c (map amount d)
 
@@ -106,7 +105,7 @@ reads n m f start a b c d = table-read n m f start a (map amount b) c (map amoun
 unfoldable pub or-refused : Left → (number : ℕ) → Answer → Answer
 or-refused left number a = cond (eqb number 0) a (refused-leaving left number)
 
--- The same of a call that builds a transducer: some of its refusals leave zeros.
+-- Like `or-refused`, for a call that builds a transducer: some of its refusals leave zeros.
 unfoldable pub built-or-refused : (number : ℕ) → Answer → Answer
 built-or-refused number a = or-refused (cond (keeps number) kept zeros) number a
 

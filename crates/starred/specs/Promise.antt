@@ -33,8 +33,8 @@ buffer x i = getD (x .buffers) i []
 unfoldable pub weights : Answer → (i : ℕ) → List Weight
 weights x i = getD (x .weights) i []
 
--- What a lent buffer holds then, by what it held before and what is written. That is said here by itself, and not by the definitions that the contracts
--- cite, so that a row also says what is left in the buffers.
+-- What a lent buffer holds after the call, by what it held before and what is written. This does not use the definitions that the contracts cite
+-- (`left-in`, `left-behind`): a row says by itself what is left in the buffers, so that it refuses these if they are misread.
 unfoldable pub after : {A : Type 0} → (blank : A) → Left → (before xs : List A) → List A
 after blank written before xs = xs ++ replicate (length before - length xs) blank
 after blank kept before xs = before

@@ -1,5 +1,5 @@
--- Worked rows: small cases in which a rule of papers 01 and 02, misread, gives another answer. Each says what is handed in, what is answered and what is left
--- in the buffers, by numbers and bytes and not by the definitions: one that is misread, even if the code is misread alike, is refused by a row.
+-- Worked rows: small cases in which a rule of papers 01 and 02, misread, gives another answer. A row says what is handed in, what is answered and what is
+-- left in the buffers, by numbers and bytes and not by the definitions. So if a definition is misread, a row refuses it, even if the code is misread alike.
 -- Assumes nothing: these are definitions.
 use mathlib.Core.List.{List, [], _∷_, _++_}
 use Prim.Native.Nat.{_-_}
@@ -67,8 +67,8 @@ least-weight-rows =
     ∷ (composing (one-arc 1 2 weight-1000000) (one-arc 2 3 rebate-1000000) gives writes 38 (one-arc 1 3 (units 0)) (0 ∷ 0 ∷ []))
     ∷ []
 
--- Point 7: the shortest path is that of least cost, then of fewest labels, then of fewest arcs, then the first in path order. Each rule by itself, the next
--- one or all that follow deciding otherwise.
+-- Point 7: the shortest path is that of least cost, then of fewest labels, then of fewest arcs, then the first in path order. A row for each of these rules,
+-- in which those that follow it would decide otherwise.
 abbrev pub tie-rows : List Case
 tie-rows =
     (shortest-path lesser-cost gives tells 2 (1 ∷ 2 ∷ []) (5 ∷ 6 ∷ []))
@@ -88,7 +88,8 @@ order-rows =
     ∷ (kth-path all-final 4 gives refused 15)
     ∷ []
 
--- Point 8: 19 of the shortest path for a cycle below zero on an accepting path, after 16; the buffers are kept. Elsewhere such a cycle does not matter.
+-- Point 8: 19 of the shortest path for a cycle below zero on an accepting path, after 16; the buffers are kept. A cycle below zero elsewhere does not matter,
+-- nor does one that sums to zero.
 abbrev pub cycle-rows : List Case
 cycle-rows =
     (shortest-path falling-loop gives refused 19)

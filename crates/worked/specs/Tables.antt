@@ -57,18 +57,19 @@ named-elsewhere = head 2 2 1 0 ++ final 1 (units 0) ++ arc 0 any (label 5) 1 (un
 abbrev pub named-in-vain : List ℕ
 named-in-vain = head 3 2 1 0 ++ final 1 (units 0) ++ arc 0 (label 6) (label 6) 2 (units 4) ++ arc 0 any any 1 (units 1)
 
--- Two paths to state 2: arc 0, and arcs 1 and 2. Of the same cost, with one label and with none; of the same cost with one label each; and the first one
--- dearer, with no label against two.
+-- Three states, of which 2 is final at 0, and three arcs by which two paths lead there.
 abbrev pub two-ways : (first second third : List ℕ) → List ℕ
 two-ways first second third = head 3 3 1 0 ++ final 2 (units 0) ++ first ++ second ++ third
 
+-- Arc 0 costs 2 and writes a label; arcs 1 and 2 cost 2 together and write none.
 abbrev pub fewer-labels : List ℕ
 fewer-labels = two-ways (arc 0 (label 1) (label 5) 2 (units 2)) (arc 0 (label 1) (label 0) 1 (units 1)) (arc 1 (label 2) (label 0) 2 (units 1))
 
+-- Arc 0 costs 3 and writes no label; arcs 1 and 2 cost 2 together and write two.
 abbrev pub lesser-cost : List ℕ
 lesser-cost = two-ways (arc 0 (label 1) (label 0) 2 (units 3)) (arc 0 (label 1) (label 5) 1 (units 1)) (arc 1 (label 2) (label 6) 2 (units 1))
 
--- Here the paths to state 2 are arcs 0 and 2, and arc 1.
+-- Arcs 0 and 2 cost 2 together and write one label; arc 1 costs 2 and writes one label.
 abbrev pub fewer-arcs : List ℕ
 fewer-arcs = two-ways (arc 0 (label 1) (label 5) 1 (units 1)) (arc 0 (label 1) (label 6) 2 (units 2)) (arc 1 (label 2) (label 0) 2 (units 1))
 
