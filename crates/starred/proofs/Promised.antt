@@ -6,17 +6,18 @@ use mathlib.Core.Path.{_≡_, refl, sym, subst, ap, _∙_}
 use mathlib.Core.Bool.{Bool, true, false, cond}
 use mathlib.Core.List.{List, [], _∷_}
 use Prim.Native.Nat.{ℕ, _≤_}
+use native.Mathlib.Nat.{sub-zero}
 use borrow.Author.Tests.{le-ltb, eqb-true}
 use lib.Dec.{eqb}
 use lib.ListN.{length, getD, drop}
-use Rattle.wire.specs.Bytes.{signed-filled}
+use Rattle.wire.specs.Bytes.{filled, signed-filled}
 use Rattle.transducer.specs.declared.Written.{Written}
 use Rattle.transducer.specs.Format.{max-arcs, max-bytes, max-fields, max-origins, max-path, max-states, Transducer, decode}
 use Rattle.transducer.specs.Encode.{encode}
 use Rattle.transducer.specs.Entry.{unless, cost-unless, left-in, weights-left-in}
 use Rattle.transducer.specs.Weight.{Weight, no-weight}
 use Rattle.codec.specs.Entry.{read-room, read-refusal, Read-says}
-use Rattle.explore.specs.Explore.{left-behind, Built-says}
+use Rattle.explore.specs.Explore.{keeps, left-behind, Built-says}
 use Rattle.compose.specs.Compose.{composed}
 use Rattle.compose.specs.Entry.{compose-room, compose-refusal, Compose-says, origin-pairs}
 use Rattle.lattice.specs.Lattice.{lattice, lattice-origins}
@@ -25,71 +26,79 @@ use Rattle.paths.specs.Count.{path-count, nth-path}
 use Rattle.tell.specs.declared.Told.{Told}
 use Rattle.tell.specs.Tell.{Path-told}
 use Rattle.paths.specs.Entry.{count-refusal, nth-refusal, Nth-says}
+use Rattle.distance.specs.Entry.{costs-to-come, costs-refusal, Costs-say}
 use Rattle.shortest.specs.Shortest.{shortest}
 use Rattle.shortest.specs.Entry.{shortest-refusal, Shortest-says}
 use Rattle.listing.specs.Entry.{text-room, Listing-says}
-use Rattle.starred.specs.Answer.{Call, Answer, Case, All-hold, refused, counts, or-refused, read-answer, write-answer, path-answer, defined}
-use Rattle.starred.specs.Answer.Call.{reading, composing, applying, counting, kth-path, shortest-path, listing}
-use Rattle.starred.specs.Promise.{number, buffer, weights, Tells-as, Writes-as, Promises, All-promised}
+use Rattle.starred.specs.Answer.{Call, Left, Answer, Case, All-hold, refused, refused-leaving, counts, cells-told, or-refused, built-or-refused}
+use Rattle.starred.specs.Answer.{read-answer, write-answer, path-answer, defined}
+use Rattle.starred.specs.Answer.Call.{reading, composing, applying, counting, kth-path, shortest-path, listing, distances}
+use Rattle.starred.specs.Answer.Left.{written, kept, zeros}
+use Rattle.starred.specs.Promise.{number, buffer, weights, after, numbers-after, weights-after, Tells-as, Writes-as, Promises, All-promised}
 use Rattle.starred.specs.Cases.{cases}
 use Rattle.starred.proofs.AllHold.{all-hold}
 
--- An answer unless refused: its refusal, its numbers, and what is left in a buffer.
+-- An answer unless refused: its refusal, its numbers, its cost.
 
-refusal-of : (n : ℕ) (y : Answer) → y .refusal ≡ 0 → n ≡ or-refused n y .refusal
+refusal-of : (l : Left) (n : ℕ) (y : Answer) → y .refusal ≡ 0 → n ≡ or-refused l n y .refusal
 unfolding or-refused
-refusal-of n y h = on (eqb n 0) refl
+refusal-of l n y h = on (eqb n 0) refl
   where
-    on : (b : Bool) → eqb n 0 ≡ b → n ≡ cond b y (refused n) .refusal
+    on : (b : Bool) → eqb n 0 ≡ b → n ≡ cond b y (refused-leaving l n) .refusal
     on true e = eqb-true n 0 e ∙ sym h
     on false e = refl
 
-number-of : (n : ℕ) (y : Answer) (i : ℕ) → unless n (number y i) ≡ number (or-refused n y) i
+number-of : (l : Left) (n : ℕ) (y : Answer) (i : ℕ) → unless n (number y i) ≡ number (or-refused l n y) i
 unfolding or-refused unless number
-number-of n y i = on (eqb n 0)
+number-of l n y i = on (eqb n 0)
   where
-    on : (b : Bool) → cond b (number y i) 0 ≡ number (cond b y (refused n)) i
+    on : (b : Bool) → cond b (number y i) 0 ≡ number (cond b y (refused-leaving l n)) i
     on true = refl
     on false = refl
 
-cost-of : (n : ℕ) (y : Answer) → cost-unless n (y .cost) ≡ or-refused n y .cost
+cost-of : (l : Left) (n : ℕ) (y : Answer) → cost-unless n (y .cost) ≡ or-refused l n y .cost
 unfolding or-refused cost-unless
-cost-of n y = on (eqb n 0)
+cost-of l n y = on (eqb n 0)
   where
-    on : (b : Bool) → cond b (y .cost) no-weight ≡ cond b y (refused n) .cost
+    on : (b : Bool) → cond b (y .cost) no-weight ≡ cond b y (refused-leaving l n) .cost
     on true = refl
     on false = refl
 
--- A buffer that on refusal does not depend on what would be written, as both `left-in` and `left-behind` leave it.
-left-of : (left : ℕ → List ℕ → List ℕ) → ((n : ℕ) (v w : List ℕ) → eqb n 0 ≡ false → left n v ≡ left n w) → (n : ℕ) (y : Answer) (i : ℕ)
-    → y .refusal ≡ 0 → left n (buffer y i) ≡ left (or-refused n y .refusal) (buffer (or-refused n y) i)
-unfolding or-refused
-left-of left same n y i h = on (eqb n 0) refl
+-- What is left in a buffer, for each definition of it that the contracts cite: a refusal keeps it, but for those of a call that builds which leave zeros.
+
+left-in-of : (n : ℕ) (y : Answer) (i : ℕ) (before : List ℕ) → y .left ≡ written → left-in n before (buffer y i) ≡ numbers-after (or-refused kept n y) i before
+unfolding or-refused left-in filled after
+left-in-of n y i before h = on (eqb n 0)
   where
-    on : (b : Bool) → eqb n 0 ≡ b → left n (buffer y i) ≡ left (cond b y (refused n) .refusal) (buffer (cond b y (refused n)) i)
-    on true e = ap (λ (m : ℕ). left m (buffer y i)) (eqb-true n 0 e ∙ sym h)
-    on false e = same n (buffer y i) (buffer (refused n) i) e
+    on : (b : Bool)
+        → cond b (filled (length before) (buffer y i)) before
+        ≡ after 0 (cond b y (refused n) .left) before (buffer (cond b y (refused n)) i)
+    on true = rw h refl
+    on false = refl
 
-left-in-of : (n : ℕ) (y : Answer) (i : ℕ) (before : List ℕ) → y .refusal ≡ 0
-    → left-in n before (buffer y i) ≡ left-in (or-refused n y .refusal) before (buffer (or-refused n y) i)
-unfolding left-in
-left-in-of n y i before h = left-of (λ m w. left-in m before w) (λ m v w e. rw e refl) n y i h
-
-weights-left-in-of : (n : ℕ) (y : Answer) (i : ℕ) (before : List Weight) → y .refusal ≡ 0
-    → weights-left-in n before (weights y i) ≡ weights-left-in (or-refused n y .refusal) before (weights (or-refused n y) i)
-unfolding or-refused weights-left-in
-weights-left-in-of n y i before h = on (eqb n 0) refl
+weights-left-in-of : (n : ℕ) (y : Answer) (i : ℕ) (before : List Weight) → y .left ≡ written
+    → weights-left-in n before (weights y i) ≡ weights-after (or-refused kept n y) i before
+unfolding or-refused weights-left-in signed-filled after
+weights-left-in-of n y i before h = on (eqb n 0)
   where
-    on : (b : Bool) → eqb n 0 ≡ b
-        → cond (eqb n 0) (signed-filled (length before) (weights y i)) before
-        ≡ cond (eqb (cond b y (refused n) .refusal) 0) (signed-filled (length before) (weights (cond b y (refused n)) i)) before
-    on true e = rw (e, h) refl
-    on false e = rw e refl
+    on : (b : Bool)
+        → cond b (signed-filled (length before) (weights y i)) before
+        ≡ after no-weight (cond b y (refused n) .left) before (weights (cond b y (refused n)) i)
+    on true = rw h refl
+    on false = refl
 
-left-behind-of : (n : ℕ) (y : Answer) (i : ℕ) (before : List ℕ) → y .refusal ≡ 0
-    → left-behind n before (buffer y i) ≡ left-behind (or-refused n y .refusal) before (buffer (or-refused n y) i)
-unfolding left-behind
-left-behind-of n y i before h = left-of (λ m w. left-behind m before w) (λ m v w e. rw e refl) n y i h
+-- `from` is what the buffer gets of an answer that is no refusal.
+left-behind-of : (n : ℕ) (y : Answer) (from : Answer → List ℕ) (before : List ℕ) → y .left ≡ written
+    → left-behind n before (from y) ≡ after 0 (built-or-refused n y .left) before (from (built-or-refused n y))
+unfolding or-refused built-or-refused left-behind filled after
+left-behind-of n y from before h = on (eqb n 0) (keeps n)
+  where
+    on : (b k : Bool)
+        → cond b (filled (length before) (from y)) (cond k before (filled (length before) []))
+        ≡ after 0 (cond b y (refused-leaving (cond k kept zeros) n) .left) before (from (cond b y (refused-leaving (cond k kept zeros) n)))
+    on true k = rw h refl
+    on false true = refl
+    on false false = rw sub-zero refl
 
 -- Sufficient lengths, all alike: 10 does not hold.
 
@@ -126,11 +135,11 @@ read-promised bs r a a' b b' c c' d d' ha hb hc hd says =
     let e = read-enough bs (length a) (length b) (length c) (length d) ha hb hc hd in
     let told = subst (λ (m : ℕ). Read-says bs m r a a' b b' c c' d d') e says in
     record {
-      refusal = told .refusal-is ∙ refusal-of n y refl;
-      states = told .states-is ∙ number-of n y 0;
-      arcs = told .arcs-is ∙ number-of n y 1;
-      finals = told .finals-is ∙ number-of n y 2;
-      start = told .start-is ∙ number-of n y 3;
+      refusal = told .refusal-is ∙ refusal-of kept n y refl;
+      states = told .states-is ∙ number-of kept n y 0;
+      arcs = told .arcs-is ∙ number-of kept n y 1;
+      finals = told .finals-is ∙ number-of kept n y 2;
+      start = told .start-is ∙ number-of kept n y 3;
       final-states = told .final-states ∙ left-in-of n y 0 a refl;
       final-weights = told .final-weights ∙ weights-left-in-of n y 0 b refl;
       fields = told .fields ∙ left-in-of n y 1 c refl;
@@ -139,16 +148,17 @@ read-promised bs r a a' b b' c c' d d' ha hb hc hd says =
 
 -- Two calls write a transducer with its origins.
 written-as : (n : ℕ) (t : Transducer) (os : List ℕ) {r : Written} {a a' b b' c c' : List ℕ} → Built-says (encode t) os n r a a' b b' c c'
-    → Writes-as (or-refused n (write-answer t os)) r a a' b b' c c'
-unfolding number buffer write-answer
+    → Writes-as (built-or-refused n (write-answer t os)) r a a' b b' c c'
+unfolding built-or-refused number buffer write-answer
 written-as n t os {a = a} {b = b} {c = c} says =
     let y = write-answer t os in
+    let l = cond (keeps n) kept zeros in
     record {
-      refusal = says .refusal-is ∙ refusal-of n y refl;
-      length-told = says .len-is ∙ number-of n y 0;
-      table = says .table ∙ left-behind-of n y 0 a refl;
-      origins = says .origins ∙ left-behind-of n y 1 b refl;
-      work = says .work ∙ ap (λ (m : ℕ). left-behind m c []) (refusal-of n y refl);
+      refusal = says .refusal-is ∙ refusal-of l n y refl;
+      length-told = says .len-is ∙ number-of l n y 0;
+      table = says .table ∙ left-behind-of n y (λ x. buffer x 0) a refl;
+      origins = says .origins ∙ left-behind-of n y (λ x. buffer x 1) b refl;
+      work = says .work ∙ left-behind-of n y (λ x. []) c refl;
     }
 
 compose-promised : (xs ys : List ℕ) → Promises (composing xs ys) (defined (composing xs ys))
@@ -169,19 +179,19 @@ unfolding Promises defined number
 count-promised bs r says =
     let n = count-refusal bs in
     let y = counts (path-count (decode bs)) in
-    record { refusal = says .refusal-is ∙ refusal-of n y refl; count = says .count-is ∙ number-of n y 0 }
+    record { refusal = says .refusal-is ∙ refusal-of kept n y refl; count = says .count-is ∙ number-of kept n y 0 }
 
 -- Two calls tell a path.
 told-as : (n : ℕ) (t : Transducer) (p : List ℕ) {r : Told} {a a' b b' : List ℕ} → Path-told t p n r a a' b b'
-    → Tells-as (or-refused n (path-answer t p)) r a a' b b'
+    → Tells-as (or-refused kept n (path-answer t p)) r a a' b b'
 unfolding number buffer path-answer
 told-as n t p {a = a} {b = b} says =
     let y = path-answer t p in
     record {
-      refusal = says .refusal-is ∙ refusal-of n y refl;
-      cost = says .cost-is ∙ cost-of n y;
-      arc-count = says .arcs-is ∙ number-of n y 0;
-      label-count = says .labels-is ∙ number-of n y 1;
+      refusal = says .refusal-is ∙ refusal-of kept n y refl;
+      cost = says .cost-is ∙ cost-of kept n y;
+      arc-count = says .arcs-is ∙ number-of kept n y 0;
+      label-count = says .labels-is ∙ number-of kept n y 1;
       arcs = says .arcs ∙ left-in-of n y 0 a refl;
       labels = says .labels ∙ left-in-of n y 1 b refl;
     }
@@ -203,10 +213,22 @@ unfolding text-room
 text-enough room h = rw (le-ltb room 602996 h) refl
 
 listing-promised : (xs ys cs : List ℕ) → Promises (listing xs ys cs) (defined (listing xs ys cs))
-unfolding Promises defined number buffer unless left-in
+unfolding Promises defined number buffer unless left-in filled after
 listing-promised xs ys cs r out out' h says =
     let told = subst (λ (m : ℕ). Listing-says xs ys cs m r out out') (text-enough (length out) h) says in
     record { refusal = told .refusal-is; length-told = told .len-is; said = told .said-is; text = told .text }
+
+costs-enough : (bs : List ℕ) (a : ℕ) → max-states ≤ a → costs-refusal bs a ≡ costs-refusal bs max-states
+unfolding costs-refusal
+costs-enough bs a h = rw (le-ltb a max-states h) refl
+
+costs-promised : (bs : List ℕ) → Promises (distances bs) (defined (distances bs))
+unfolding Promises defined weights
+costs-promised bs r cells cells' h says =
+    let n = costs-refusal bs max-states in
+    let y = cells-told (costs-to-come (decode bs)) in
+    let told = subst (λ (m : ℕ). Costs-say bs m r cells cells') (costs-enough bs (length cells) h) says in
+    record { refusal = told .refusal-is ∙ refusal-of kept n y refl; cells-left = told .cells-are ∙ weights-left-in-of n y 0 cells refl }
 
 promises-defined : (k : Call) → Promises k (defined k)
 promises-defined (reading bs) = read-promised bs
@@ -216,10 +238,11 @@ promises-defined (counting bs) = count-promised bs
 promises-defined (kth-path bs k) = nth-promised bs k
 promises-defined (shortest-path bs) = shortest-promised bs
 promises-defined (listing xs ys cs) = listing-promised xs ys cs
+promises-defined (distances bs) = costs-promised bs
 
 -- So is each row of a table that holds.
 
-hold-promised : (cs : List Case) → All-hold cs → All-promised cs
+pub hold-promised : (cs : List Case) → All-hold cs → All-promised cs
 unfolding All-promised
 hold-promised [] h = tt
 hold-promised (c ∷ cs) h = (

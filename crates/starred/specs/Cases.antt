@@ -3,7 +3,7 @@
 -- Assumes nothing: these are definitions.
 use mathlib.Core.List.{List, [], _∷_, _++_}
 use Prim.Native.Nat.{ℕ, zero, suc}
-use Rattle.starred.specs.Answer.{Case, _gives_, refused, reads, writes, counts, tells, lists}
+use Rattle.starred.specs.Answer.{Case, _gives_, refused, refused-with-zeros, reads, writes, counts, tells, lists}
 use Rattle.starred.specs.Answer.Call.{reading, composing, applying, counting, kth-path, shortest-path, listing}
 
 -- Weights in their four bytes.
@@ -121,9 +121,9 @@ cases x y z =
     ∷ (reading (one-arc 2 3 weight-400000) gives reads 2 1 1 0 (1 ∷ []) (0 ∷ []) (0 ∷ 2 ∷ 3 ∷ 1 ∷ []) (400000 ∷ []))
     ∷ (reading (one-arc 2 3 weight-400001) gives reads 2 1 1 0 (1 ∷ []) (0 ∷ []) (0 ∷ 2 ∷ 3 ∷ 1 ∷ []) (400001 ∷ []))
     ∷ (composing (one-arc 1 2 weight-600000) (one-arc 2 3 weight-400000) gives writes 38 (one-arc 1 3 weight-1000000) (0 ∷ 0 ∷ []))
-    ∷ (composing (one-arc 1 2 weight-600000) (one-arc 2 3 weight-400001) gives refused 13)
+    ∷ (composing (one-arc 1 2 weight-600000) (one-arc 2 3 weight-400001) gives refused-with-zeros 13)
     ∷ (composing (one-final weight-600000) (one-final weight-400000) gives writes 22 (one-final weight-1000000) [])
-    ∷ (composing (one-final weight-600000) (one-final weight-400001) gives refused 13)
+    ∷ (composing (one-final weight-600000) (one-final weight-400001) gives refused-with-zeros 13)
     -- 98, 99 and 100 like arcs from start to final: counts 98, 99, 99.
     ∷ (counting (like-arcs 98) gives counts 98)
     ∷ (counting (like-arcs 99) gives counts 99)

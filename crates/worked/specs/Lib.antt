@@ -1,0 +1,3 @@
+-- What is claimed: tables by their bytes, and the rows
+pub mod Tables
+pub mod Rows
