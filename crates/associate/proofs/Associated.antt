@@ -10,14 +10,17 @@ use Rattle.transducer.proofs.Fits.{named-plain}
 use Rattle.transducer.proofs.Good.{good-tests}
 use Rattle.transducer.proofs.RoundTrip.{accepted-good}
 use Rattle.trim.specs.Trim.{through}
+use Rattle.compose.specs.Composition.{Composition, composed-bytes}
+use Rattle.lattice.specs.Application.{Application, lattice-bytes}
 use Rattle.claim.specs.Kind.{Paths-are}
+use Rattle.claim.specs.Agree.{Holds}
 use Rattle.claim.proofs.Answers.{Composed-well, composed-well, Applied-well, applied-well}
 use Rattle.claim.proofs.Chain.{lattice-paths}
+use Rattle.claim.proofs.Agreeing.{holds, agree}
 use Rattle.claim.proofs.HandedOn.{composition-good, composition-plain, composition-accepted, composition-pairs, applied-good, applied-accepted, applied-reads}
-use Rattle.associate.specs.Associate.{Composition, composed-bytes, Brackets, Application, lattice-bytes, Triple-of, Triples, Triples-of, Three-paths}
-use Rattle.associate.specs.Associate.{Holds, left-result, right-result, left-leads, right-leads, Associates, Applied-alike}
+use Rattle.associate.specs.Associate.{Brackets, Triple-of, Triples, Triples-of, Three-paths}
+use Rattle.associate.specs.Associate.{left-result, right-result, left-leads, right-leads, Associates, Applied-alike}
 use Rattle.associate.proofs.Triples.{left-paths, right-paths}
-use Rattle.associate.proofs.Agreeing.{holds, agree}
 
 pub composing : {xs ys : List ℕ} (c : Composition xs ys) → Composed-well xs ys (composed-bytes c) (c .origins-left)
 composing {xs} {ys} c =

@@ -24,16 +24,20 @@ use Rattle.explore.specs.Explore.{built, built-refusal, left-behind}
 use Rattle.steps.specs.Steps.{same-state, left-alone, right-alone, both-step, left-steps, right-steps, steps, first-state}
 use Rattle.compose.specs.Compose.{final-state, state-weight, composed}
 use Rattle.compose.specs.Entry.{origin-pairs, compose-room, compose-refusal}
+use Rattle.compose.specs.Composition.{Composition, composed-bytes}
 use Rattle.lattice.specs.Apply.{string-good, step, arc-steps, applied}
 use Rattle.lattice.specs.Apply.{same-state as same-position, steps as applied-steps, final-state as final-position}
 use Rattle.lattice.specs.Lattice.{lattice, lattice-origins}
 use Rattle.lattice.specs.ApplyEntry.{apply-room, apply-refusal}
+use Rattle.lattice.specs.Application.{Application}
 use Rattle.paths.specs.Count.{path-count}
 use Rattle.paths.specs.Entry.{count-refusal}
+use Rattle.paths.specs.Calls.{Counting}
 use Rattle.shortest.specs.Shortest.{shortest}
 use Rattle.shortest.specs.Entry.{shortest-refusal}
+use Rattle.shortest.specs.Claim.{Shortest-path}
 use Rattle.claim.proofs.Answers.{composed-well}
-use Rattle.associate.specs.Associate.{Composition, composed-bytes, Brackets, Application, Counting, Shortest-path, left-result, right-result}
+use Rattle.associate.specs.Associate.{Brackets, left-result, right-result}
 
 -- One arc from state 0 to state 1, which is final.
 unfoldable pub one-arc : (input output weight : ℕ) → List ℕ

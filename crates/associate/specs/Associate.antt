@@ -3,45 +3,19 @@
 -- nothing of the k-th path and of the shortest path's arcs: they may differ. Assumes nothing: these are definitions.
 use mathlib.Core.Path.{_≡_}
 use mathlib.Core.Bool.{true}
-use mathlib.Core.Logic.{_↔_}
 use mathlib.Core.List.{List}
-use Prim.Native.Nat.{ℕ, _≤_}
-use lib.ListN.{length, take}
+use Prim.Native.Nat.{ℕ}
 use Rattle.wire.specs.Bytes.{Bytes}
-use Rattle.transducer.specs.declared.Written.{Written}
-use Rattle.transducer.specs.Format.{max-path, Transducer, decode}
+use Rattle.transducer.specs.Format.{Transducer, decode}
 use Rattle.transducer.specs.Path.{accepts, read-by, written-by, path-cost}
 use Rattle.transducer.specs.Each.{path-fits, path-passed}
-use Rattle.transducer.specs.Weight.{Weight, plus, Below}
-use Rattle.compose.specs.Claim.{met-at, Least}
-use Rattle.compose.specs.Entry.{compose-refusal, Compose-says}
+use Rattle.transducer.specs.Weight.{Weight, plus}
+use Rattle.compose.specs.Claim.{met-at}
+use Rattle.compose.specs.Composition.{Composition, composed-bytes}
 use Rattle.trim.specs.Trim.{through}
-use Rattle.lattice.specs.ApplyEntry.{apply-refusal, Apply-says}
-use Rattle.paths.specs.declared.Counted.{Counted}
-use Rattle.tell.specs.declared.Told.{Told}
-use Rattle.paths.specs.Entry.{count-refusal, Count-says}
-use Rattle.shortest.specs.Entry.{shortest-refusal, Shortest-says}
-use Rattle.claim.specs.Kind.{Kind, those, Paths-are, Counts}
-
--- The calls: the answer of each, what it was lent, and the same as it was left behind (`-left`), answered as its contract says
-
--- A composition (paper 01: a join) that was not refused.
-pub record Composition (left right : List ℕ) : Type 0 where
-  pub answer : Written
-  pub table : List ℕ
-  pub table-left : List ℕ
-  pub origins : List ℕ
-  pub origins-left : List ℕ
-  pub states : List ℕ
-  pub states-left : List ℕ
-  pub says :
-      Compose-says left right (compose-refusal left right (length table) (length origins) (length states)) answer table table-left origins origins-left
-      states states-left
-  pub well : answer .refusal ≡ 0
-
--- What is handed on: the table as left behind, at the length told.
-abbrev pub composed-bytes : {left right : List ℕ} → Composition left right → List ℕ
-composed-bytes c = take (c .answer .len) (c .table-left)
+use Rattle.lattice.specs.Application.{Application, lattice-bytes}
+use Rattle.claim.specs.Kind.{Kind, those}
+use Rattle.claim.specs.Agree.{Agree}
 
 -- The four compositions of three transducers: the first two and then the third, the last two and the first before them.
 -- That the three are bytes holds of slices of bytes.
@@ -53,38 +27,6 @@ pub record Brackets (a b c : List ℕ) : Type 0 where
   pub ab-c : Composition (composed-bytes ab) c
   pub bc : Composition b c
   pub a-bc : Composition a (composed-bytes bc)
-
--- A string (paper 01: a code) applied without refusal.
-pub record Application (string table : List ℕ) : Type 0 where
-  pub answer : Written
-  pub lattice : List ℕ
-  pub lattice-left : List ℕ
-  pub origins : List ℕ
-  pub origins-left : List ℕ
-  pub pairs : List ℕ
-  pub pairs-left : List ℕ
-  pub says :
-      Apply-says string table (apply-refusal string table (length lattice) (length origins) (length pairs)) answer lattice lattice-left origins
-      origins-left pairs pairs-left
-  pub well : answer .refusal ≡ 0
-
-abbrev pub lattice-bytes : {string table : List ℕ} → Application string table → List ℕ
-lattice-bytes x = take (x .answer .len) (x .lattice-left)
-
--- The path count, and the shortest path with at least 1,023 cells lent for the arcs and for the labels; either may be refused.
-pub record Counting (bytes : List ℕ) : Type 0 where
-  pub answer : Counted
-  pub says : Count-says bytes (count-refusal bytes) answer
-
-pub record Shortest-path (bytes : List ℕ) : Type 0 where
-  pub answer : Told
-  pub arcs : List ℕ
-  pub arcs-left : List ℕ
-  pub labels : List ℕ
-  pub labels-left : List ℕ
-  pub says : Shortest-says bytes (shortest-refusal bytes (length arcs) (length labels)) answer arcs arcs-left labels labels-left
-  pub arcs-room : max-path ≤ length arcs
-  pub labels-room : max-path ≤ length labels
 
 -- The three paths
 
@@ -136,58 +78,6 @@ to-triple-left inner outer p =
 unfoldable pub to-triple-right : (inner outer path : List ℕ) → Three-paths
 to-triple-right inner outer p =
     record { left = met-at outer 0 p; middle = met-at inner 0 (met-at outer 1 p); right = met-at inner 1 (met-at outer 1 p) }
-
--- What is claimed of two transducers, for things of any kind
-
--- There is nothing of the kind.
-abbrev pub Nothing : Kind → Type 0
-Nothing K = (x : K .Thing) → K .Is x → ⊥
-
--- There is no least cost: below any weight there is something of the kind.
-abbrev pub No-least : Kind → Type 0
-No-least K = (w : Weight) → (x : K .Thing) × K .Is x × Below (K .cost x) w
-
--- A shortest path is refused by 16 exactly where there is nothing of the kind, and by 19 exactly where there is no least cost; otherwise its cost is
--- the least.
-pub record Tells-least (K : Kind) (r : Told) : Type 0 where
-  pub none : (r .refusal ≡ 16) ↔ Nothing K
-  pub endless : (r .refusal ≡ 19) ↔ No-least K
-  pub some : (Nothing K → ⊥) → (No-least K → ⊥) → (r .refusal ≡ 0) × Least (K .Thing) (K .Is) (K .cost) (r .cost)
-
--- The accepting paths in some bytes stand one to one with the things of a kind; so the count is their number and the shortest path costs the least.
-pub record Holds (K : Kind) (bytes : List ℕ) (to : List ℕ → K .Thing) : Type 0 where
-  pub paths : Paths-are K (decode bytes) to
-  pub counts : (n : Counting bytes) → Counts K (n .answer)
-  pub least : (n : Shortest-path bytes) → Tells-least K (n .answer)
-
--- A path q on one side is like the path p on the other: it accepts, leads to the same thing, and has the same input, output and cost.
-pub record Alike (K : Kind) (z z' : Transducer) (to to' : List ℕ → K .Thing) (p q : List ℕ) : Type 0 where
-  pub accepting : accepts z' q ≡ true
-  pub same-thing : to' q ≡ to p
-  pub same-input : read-by z' q ≡ read-by z p
-  pub same-output : written-by z' q ≡ written-by z p
-  pub same-cost : path-cost z' q ≡ path-cost z p
-
-pub record Exactly-one (P : List ℕ → Type 0) : Type 0 where
-  pub one : List ℕ
-  pub holds : P one
-  pub only : (q : List ℕ) → P q → q ≡ one
-
--- Accepting paths of two transducers stand one to one: each has exactly one like it on the other side.
-pub record Stand-one-to-one (K : Kind) (z z' : Transducer) (to to' : List ℕ → K .Thing) : Type 0 where
-  pub over : (p : List ℕ) → accepts z p ≡ true → Exactly-one (Alike K z z' to to' p)
-  pub back : (q : List ℕ) → accepts z' q ≡ true → Exactly-one (Alike K z' z to' to q)
-
--- Two runs of bytes agree on a kind.
-pub record Agree (K : Kind) (left right : List ℕ) (to to' : List ℕ → K .Thing) : Type 0 where
-  pub left-holds : Holds K left to
-  pub right-holds : Holds K right to'
-  pub one-to-one : Stand-one-to-one K (decode left) (decode right) to to'
-  -- The same count, 14 on both sides or on neither.
-  pub same-count : (m : Counting left) (n : Counting right) → m .answer ≡ n .answer
-  -- The same least cost, 16 and 19 on both sides or on neither.
-  pub same-least : (m : Shortest-path left) (n : Shortest-path right)
-      → (m .answer .refusal ≡ n .answer .refusal) × (m .answer .cost ≡ n .answer .cost)
 
 -- What is claimed of three transducers
 

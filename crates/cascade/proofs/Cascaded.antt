@@ -12,13 +12,15 @@ use Rattle.transducer.proofs.Good.{good-tests}
 use Rattle.transducer.proofs.RoundTrip.{accepted-good}
 use Rattle.transducer.proofs.Runs.{good-within}
 use Rattle.compose.specs.Claim.{Two-paths}
+use Rattle.compose.specs.Composition.{composed-bytes}
+use Rattle.lattice.specs.Application.{lattice-bytes}
 use Rattle.claim.specs.Kind.{Paths-are}
 use Rattle.claim.specs.Claim.{Pairs}
 use Rattle.claim.proofs.Chain.{chain-pairs}
 use Rattle.claim.proofs.HandedOn.{composition-good, composition-plain, composition-accepted, composition-pairs, applied-good, applied-accepted, applied-reads}
-use Rattle.associate.specs.Associate.{composed-bytes, lattice-bytes, Holds}
+use Rattle.claim.specs.Agree.{Holds}
+use Rattle.claim.proofs.Agreeing.{holds, agree}
 use Rattle.associate.proofs.Associated.{composing, applying}
-use Rattle.associate.proofs.Agreeing.{holds, agree}
 use Rattle.cascade.specs.Cascade.{Cascaded, cascaded-bytes, Fitting-pairs, Same-pairs, leads-to, Claim, Chained, chained-bytes, chained-leads, Agrees}
 use Rattle.claim.proofs.Listing.{lists}
 use Rattle.cascade.proofs.Pairs.{fitting-paths, same-pairs, paths-pairs}

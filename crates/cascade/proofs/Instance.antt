@@ -29,9 +29,10 @@ use Rattle.lattice.specs.ApplyEntry.{apply-room, apply-refusal}
 use Rattle.paths.specs.Count.{nth-path}
 use Rattle.paths.specs.Entry.{nth-refusal}
 use Rattle.claim.proofs.Answers.{applied-well}
-use Rattle.associate.specs.Associate.{Composition, Application, lattice-bytes}
+use Rattle.compose.specs.Composition.{Composition}
+use Rattle.lattice.specs.Application.{Application, lattice-bytes}
+use Rattle.paths.specs.Calls.{Telling}
 use Rattle.associate.proofs.Instance.{one-arc, all-bytes, handed-on, composing, applying}
-use Rattle.claim.specs.Listed.{Telling}
 use Rattle.cascade.specs.Cascade.{Cascaded, Chained}
 
 -- One arc for any symbol, which passes it on, from state 0 to state 1, which is final.

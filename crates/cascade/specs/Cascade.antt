@@ -11,11 +11,14 @@ use Rattle.transducer.specs.Format.{decode}
 use Rattle.transducer.specs.Path.{accepts}
 use Rattle.transducer.specs.Each.{path-fits, path-passed}
 use Rattle.compose.specs.Claim.{met-at, Two-paths}
+use Rattle.compose.specs.Composition.{Composition, composed-bytes}
 use Rattle.trim.specs.Trim.{through}
+use Rattle.lattice.specs.Application.{Application, lattice-bytes}
+use Rattle.paths.specs.Calls.{Counting, Telling}
 use Rattle.claim.specs.Kind.{Kind}
 use Rattle.claim.specs.Claim.{Pair, Pairs, pair-output, pair-cost, to-pair}
-use Rattle.associate.specs.Associate.{Composition, composed-bytes, Application, lattice-bytes, Counting, Holds, Agree}
-use Rattle.claim.specs.Listed.{Telling, Lists}
+use Rattle.claim.specs.Listed.{Lists}
+use Rattle.claim.specs.Agree.{Holds, Agree}
 
 -- A string applied to the left transducer without refusal, and the lattice, as left behind and at the length told, composed with the right one without
 -- refusal. That the two inputs are bytes holds of slices of bytes.

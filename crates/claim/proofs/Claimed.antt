@@ -1,7 +1,8 @@
 -- The single claim holds of any calls that were answered as their contracts say: composing, applying and counting give the pairs and their
 -- number, and the k-th path is told of the same lattice. Assumes nothing.
 use Prim.Native.Nat.{ℕ, _<_}
-use Rattle.claim.specs.Listed.{Telling, Lists}
+use Rattle.paths.specs.Calls.{Telling}
+use Rattle.claim.specs.Listed.{Lists}
 use Rattle.claim.specs.Listed.{Tells as Tells-thing}
 use Rattle.claim.specs.Claim.{Calls, composed-bytes, lattice-bytes, Answered, Pairs, leads-to, told-arcs, Tells, Claim}
 use Rattle.claim.proofs.Answers.{composed-well, applied-well}

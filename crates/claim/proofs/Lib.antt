@@ -1,8 +1,10 @@
 -- What the calls' answers say.
 pub mod Answers
--- Lists and counts: paths and other things that stand one to one.
+-- Paths and other things that stand one to one: their number, the k-th, the least cost, and two runs of bytes that agree on them.
 pub mod Counting
 pub mod Listing
+pub mod Least
+pub mod Agreeing
 -- What is handed on from call to call, and the chain of calls.
 pub mod HandedOn
 pub mod Chain

@@ -1,5 +1,5 @@
--- Kinds of things that accepting paths stand for, stated once for all of them: the claim's pairs (specs/Claim.antt), and the triples of three
--- transducers (`associate`). Assumes nothing: these are definitions.
+-- Kinds of things that accepting paths stand for, stated once for all of them: the claim's pairs (specs/Claim.antt), the triples of three
+-- transducers (`associate`), the pairs of a cascade (`cascade`). Assumes nothing: these are definitions.
 use mathlib.Core.Path.{_≡_}
 use mathlib.Core.Bool.{true}
 use mathlib.Core.Logic.{_↔_}

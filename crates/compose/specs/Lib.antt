@@ -3,6 +3,7 @@ pub mod Compose
 pub mod Entry
 -- What is claimed
 pub mod Claim
+pub mod Composition
 -- What only inner contracts cite: the walk by keys, what is left of a run, and what is written when the walk is done
 pub mod Walk
 pub mod Taking

@@ -2,6 +2,8 @@
 pub mod Apply
 pub mod Lattice
 pub mod ApplyEntry
+-- What is claimed
+pub mod Application
 -- What only inner contracts cite
 pub mod Pack
 pub mod Applying

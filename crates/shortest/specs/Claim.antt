@@ -14,6 +14,18 @@ use Rattle.least.specs.Cycles.{Falling}
 use Rattle.shortest.specs.Shortest.{better}
 use Rattle.shortest.specs.Entry.{shortest-refusal, Shortest-says}
 
+-- A call of `shortest_path` on some bytes, answered as its contract says, with at least 1,023 cells lent for the arcs and for the labels; it may be
+-- refused. What it was lent stands beside the same as it was left behind (`-left`).
+pub record Shortest-path (bytes : List ℕ) : Type 0 where
+  pub answer : Told
+  pub arcs : List ℕ
+  pub arcs-left : List ℕ
+  pub labels : List ℕ
+  pub labels-left : List ℕ
+  pub says : Shortest-says bytes (shortest-refusal bytes (length arcs) (length labels)) answer arcs arcs-left labels labels-left
+  pub arcs-room : max-path ≤ length arcs
+  pub labels-room : max-path ≤ length labels
+
 -- A call on a table that is not refused, lent at least 1,023 cells for the arcs and for the labels, answered as its contract says. That the table is bytes
 -- holds of slices of bytes.
 pub record Answered (table : List ℕ) (r : Told) (arcs arcs-left labels labels-left : List ℕ) : Type 0 where

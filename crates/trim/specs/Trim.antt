@@ -1,7 +1,8 @@
 -- Trimming: the states and arcs that lie on an accepting path, in their order, renumbered. Assumes nothing: these are definitions.
-use mathlib.Core.Bool.{Bool, _&&_, cond}
+use mathlib.Core.Path.{_≡_}
+use mathlib.Core.Bool.{Bool, true, _&&_, cond}
 use mathlib.Core.List.{List, [], _∷_, map}
-use Prim.Native.Nat.{ℕ, zero, suc, _+_}
+use Prim.Native.Nat.{ℕ, zero, suc, _+_, _<_}
 use lib.ListN.{getD}
 use Rattle.transducer.specs.declared.Arc.{Arc}
 use Rattle.transducer.specs.declared.Final.{Final}
@@ -11,6 +12,10 @@ use Rattle.reach.specs.Reach.{accessible, coaccessible}
 -- Whether a state lies on an accepting path: it is accessible and coaccessible.
 unfoldable pub useful : Transducer → (s : ℕ) → Bool
 useful t s = accessible (t .states) t s && coaccessible (t .states) t s
+
+-- A transducer is trim where each state lies on an accepting path.
+abbrev pub Trim : Transducer → Type 0
+Trim t = (s : ℕ) → s < t .states → useful t s ≡ true
 
 unfoldable pub arc-useful : Transducer → Arc → Bool
 arc-useful t a = useful t (a .source) && useful t (a .target)

@@ -11,10 +11,10 @@ use Rattle.transducer.specs.Path.{accepts, path-cost}
 use Rattle.transducer.specs.Weight.{At-most}
 use Rattle.transducer.proofs.Runs.{Within}
 use Rattle.compose.specs.Claim.{Least}
-use Rattle.shortest.specs.Claim.{No-least-cost, Best-of-all, Tells-path, Shortest-claim}
+use Rattle.shortest.specs.Claim.{Shortest-path, No-least-cost, Best-of-all, Tells-path, Shortest-claim}
 use Rattle.shortest.proofs.Claimed.{shortest-claimed}
 use Rattle.claim.specs.Kind.{Kind, Stands-for, Paths-are}
-use Rattle.associate.specs.Associate.{Shortest-path, Nothing, No-least, Tells-least}
+use Rattle.claim.specs.Agree.{Nothing, No-least, Tells-least}
 
 module _ (K : Kind) (bs : List ℕ) (to : List ℕ → K .Thing) (ok : refusal bs ≡ 0) (within : Within (decode bs)) (are : Paths-are K (decode bs) to)
     (call : Shortest-path bs) where

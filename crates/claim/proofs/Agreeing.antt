@@ -18,12 +18,14 @@ use Rattle.compose.specs.Claim.{Least}
 use Rattle.paths.specs.declared.Counted.{Counted}
 use Rattle.paths.specs.Count.{path-count}
 use Rattle.paths.specs.Entry.{count-refusal}
+use Rattle.paths.specs.Calls.{Counting}
 use Rattle.shortest.specs.Shortest.{shortest}
 use Rattle.shortest.specs.Entry.{shortest-refusal}
+use Rattle.shortest.specs.Claim.{Shortest-path}
 use Rattle.claim.specs.Kind.{Kind, Stands-for, Paths-are, Counts}
+use Rattle.claim.specs.Agree.{Nothing, No-least, Tells-least, Holds, Alike, Exactly-one, Agree}
 use Rattle.claim.proofs.Counting.{counts}
-use Rattle.associate.specs.Associate.{Counting, Shortest-path, Nothing, No-least, Tells-least, Holds, Alike, Exactly-one, Agree}
-use Rattle.associate.proofs.Least.{tells-least}
+use Rattle.claim.proofs.Least.{tells-least}
 
 -- Paths, one to one.
 over : (K : Kind) (z z' : Transducer) (to to' : List ℕ → K .Thing) → Paths-are K z to → Paths-are K z' to' → (p : List ℕ) → accepts z p ≡ true
