@@ -1,10 +1,11 @@
 // The path count and the k-th path.
 ghost use mathlib.Core.Path.{_≡_};
+ghost use Prim.Native.Nat.{_≤_};
 ghost use lib.ListN.{length};
-ghost use Rattle.transducer.specs.Format.{decode};
+ghost use Rattle.transducer.specs.Format.{max-path, decode, refusal};
 ghost use Rattle.transducer.specs.Leaf.{Finals-by-state};
 ghost use Rattle.paths.specs.Sweep.{Ready, Totals-say};
-ghost use Rattle.paths.specs.Entry.{Count-says, count-refusal, Nth-says, nth-refusal};
+ghost use Rattle.paths.specs.Entry.{Count-says, accepted-count-refusal, count-refusal, Nth-says, accepted-nth-refusal, nth-refusal};
 use crate::Counted;
 use crate::Totals;
 use crate::counts;
@@ -50,17 +51,11 @@ fn counted(all: Count) -> Counted
     }
 }
 
-// The number of accepting paths, 99 standing for 99 or more. Linear in states and arcs.
-pub fn count(table: &[u8]) -> Counted
-    ensures { λ r. ⌜ Count-says (now (table .entry)) (count-refusal (now (table .entry))) r ⌝ }
+// Counts the accepting paths of accepted bytes, 99 standing for 99 or more; refuses only with 14. Linear in states and arcs.
+pub fn count_accepted(table: &[u8]) -> Counted
+    requires { ⌜ refusal (now table) ≡ 0 ⌝ }
+    ensures { λ r. ⌜ Count-says (now (table .entry)) (accepted-count-refusal (decode (now (table .entry)))) r ⌝ }
 {
-    let number = transducer::refusal(table);
-    if number != 0 {
-        return Counted {
-            refusal: number,
-            count: 0,
-        };
-    }
     let shape = transducer::shape_of(table);
     let start = shape.start;
     // By way of 32 bits, so that the compiler sees that no loop over the arcs wraps.
@@ -81,22 +76,27 @@ pub fn count(table: &[u8]) -> Counted
     counted(all)
 }
 
-// The k-th path: its arc numbers and the labels that it writes go into two lent buffers. Linear in states and arcs.
-pub fn nth(table: &[u8], k: u32, arcs: &mut [u16], labels: &mut [u16]) -> Told
-    ensures { λ r. ⌜ Nth-says (now (table .entry)) k
-        (nth-refusal (now (table .entry)) k (length (now (arcs .entry))) (length (now (labels .entry))))
-        r (now (arcs .entry)) (now (arcs .exit)) (now (labels .entry)) (now (labels .exit)) ⌝ }
+// The number of accepting paths, 99 standing for 99 or more.
+pub fn count(table: &[u8]) -> Counted
+    ensures { λ r. ⌜ Count-says (now (table .entry)) (count-refusal (now (table .entry))) r ⌝ }
 {
     let number = transducer::refusal(table);
     if number != 0 {
-        return tell::refused(number);
+        return Counted {
+            refusal: number,
+            count: 0,
+        };
     }
-    if arcs.len() < transducer::MAX_PATH {
-        return tell::refused(10);
-    }
-    if labels.len() < transducer::MAX_PATH {
-        return tell::refused(10);
-    }
+    count_accepted(table)
+}
+
+// Puts the k-th path of accepted bytes into two lent buffers that are long enough: its arc numbers, and the labels that it writes. Refuses only with
+// 14 and 15. Linear in states and arcs.
+pub fn nth_accepted(table: &[u8], k: u32, arcs: &mut [u16], labels: &mut [u16]) -> Told
+    requires { ⌜ (refusal (now table) ≡ 0) × (max-path ≤ length (now arcs)) × (max-path ≤ length (now labels)) ⌝ }
+    ensures { λ r. ⌜ Nth-says (now (table .entry)) k (accepted-nth-refusal (decode (now (table .entry))) k)
+        r (now (arcs .entry)) (now (arcs .exit)) (now (labels .entry)) (now (labels .exit)) ⌝ }
+{
     let mut index = [0u16; transducer::INDEX_LEN];
     let mut codes = [0u32; transducer::MAX_STATES];
     let shape = transducer::prepare(table, &mut index, &mut codes);
@@ -122,4 +122,23 @@ pub fn nth(table: &[u8], k: u32, arcs: &mut [u16], labels: &mut [u16]) -> Told
         arcs,
     );
     tell::tell(table, shape.first, start, &codes, arcs, len, labels)
+}
+
+// The k-th path: its arc numbers and the labels that it writes go into two lent buffers.
+pub fn nth(table: &[u8], k: u32, arcs: &mut [u16], labels: &mut [u16]) -> Told
+    ensures { λ r. ⌜ Nth-says (now (table .entry)) k
+        (nth-refusal (now (table .entry)) k (length (now (arcs .entry))) (length (now (labels .entry))))
+        r (now (arcs .entry)) (now (arcs .exit)) (now (labels .entry)) (now (labels .exit)) ⌝ }
+{
+    let number = transducer::refusal(table);
+    if number != 0 {
+        return tell::refused(number);
+    }
+    if arcs.len() < transducer::MAX_PATH {
+        return tell::refused(10);
+    }
+    if labels.len() < transducer::MAX_PATH {
+        return tell::refused(10);
+    }
+    nth_accepted(table, k, arcs, labels)
 }

@@ -5,8 +5,10 @@ mod path;
 mod sorted;
 
 pub use entry::count as path_count;
+pub use entry::count_accepted;
 pub use entry::counts_by_state;
 pub use entry::nth as nth_path;
+pub use entry::nth_accepted;
 pub use path::walk as nth_arcs;
 use tally::Count;
 use transducer::MAX_STATES;
