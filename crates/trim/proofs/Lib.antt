@@ -1,3 +1,5 @@
+-- The arcs that pass a test
+pub mod Passing
 -- Which states and arcs are useful
 pub mod Useful
 -- What trimming keeps, one by one

@@ -2,4 +2,5 @@
 pub mod Trim
 pub mod TrimEntry
 -- What only inner contracts cite
+pub mod Passing
 pub mod Parts
