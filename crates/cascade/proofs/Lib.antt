@@ -7,5 +7,7 @@ pub mod Cascaded
 pub mod CascadeSays
 pub mod ReadingsSays
 pub mod SameReadings
--- It is not empty.
+-- Three transducers.
+pub mod Three
+-- The claims are not empty.
 pub mod Instance

@@ -3,3 +3,4 @@ pub mod Pairs
 pub mod Tracing
 pub mod Entry
 pub mod Cascade
+pub mod Three
