@@ -1,4 +1,5 @@
--- What bytes were as a transducer while weights had no sign, and which were refused (paper 02, Point 8: old tables mean what they meant).
+-- What bytes were as a transducer while weights had no sign, and which were refused then (paper 02, Point 8: old tables mean what they meant), but that
+-- labels are tested as they are now: 7 refused every label of 65,535 then, and since Point 5 no longer refuses an arc for any symbol.
 -- Assumes nothing: these are definitions.
 use mathlib.Core.Path.{_≡_}
 use mathlib.Core.Bool.{Bool, _&&_, not, cond}
@@ -34,7 +35,7 @@ unfoldable pub unsigned-decode : List ℕ → Transducer
 unsigned-decode bs =
     record { states = head-states bs; start = head-start bs; finals = unsigned-finals bs (records bs); arcs = unsigned-arcs bs (records bs) }
 
--- 8 was a weight above 1,000,000. The other refusals were what they are.
+-- 8 was a weight above 1,000,000. The other refusals are those of now: they were the same, 7 aside.
 unfoldable pub unsigned-weights-good : Transducer → Bool
 unsigned-weights-good t =
     every (λ f. at-most (f .weight) max-weight) (t .finals) && every (λ a. at-most (a .weight) max-weight) (t .arcs)
@@ -49,7 +50,7 @@ unsigned-refusal bs =
     (unsigned-weights-good (unsigned-decode bs))))))
 
 -- Bytes that were accepted are accepted, as the transducer that they were, arc for arc; those that were refused by 8 are accepted exactly where all their
--- weights, read with their sign, are in range; the others are refused by the same number.
+-- weights, read with their sign, are in range; the others are refused by the same number. (Labels are tested as they are now in all of this.)
 pub record As-before (bs : List ℕ) : Type 0 where
   pub accepted : unsigned-refusal bs ≡ 0 → refusal bs ≡ 0
   pub same : unsigned-refusal bs ≡ 0 → decode bs ≡ unsigned-decode bs

@@ -1,4 +1,3 @@
--- What a caller must believe, and what 19 is in words
-pub mod Cycles
--- What only inner contracts cite
+-- What a caller must believe, and what 19 is in words (`Falling`, `Falls`)
 pub mod Costs
+pub mod Cycles

@@ -18,7 +18,7 @@ unless number value = cond (eqb number 0) value 0
 unfoldable pub cost-unless : (number : ℕ) → (cost : Weight) → Weight
 cost-unless number cost = cond (eqb number 0) cost no-weight
 
--- A lent buffer after a refusal of 1 to 10 or 14 to 16 is as it was; on success it holds what is written, zeros behind.
+-- A lent buffer after a refusal of 1 to 10, 14 to 16, 18 or 19 is as it was; on success it holds what is written, zeros behind.
 unfoldable pub left-in : (number : ℕ) → (before written : List ℕ) → List ℕ
 left-in number before written = cond (eqb number 0) (filled (length before) written) before
 
