@@ -1,7 +1,7 @@
 -- The one proof of the starred cases: each row of the table holds, by computing what the definitions give. Only the counts of 98 to 100 like
 -- arcs go by the round trip of the bytes, since to read 1,600 bytes by the definitions takes long.
 -- Assumes nothing.
-use mathlib.Core.Path.{_≡_, refl}
+use mathlib.Core.Path.{_≡_, refl, ap₂}
 use mathlib.Core.Bool.{false}
 use mathlib.Core.List.{List, [], _∷_}
 use Prim.Native.Nat.{ℕ}
@@ -18,10 +18,13 @@ use Rattle.transducer.proofs.RoundTrip.{refusal-encode, decode-encode}
 use Rattle.reach.specs.Reach.{coaccessible, some-arc}
 use Rattle.paths.specs.Count.{paths-from, paths, goes-on, endless, path-count}
 use Rattle.paths.specs.Entry.{count-refusal}
-use Rattle.starred.specs.Answer.{All-hold, counts, or-refused, defined}
+use Rattle.starred.specs.Answer.{Answer, All-hold, counts, or-refused, defined}
 use Rattle.starred.specs.Answer.Call.{counting}
 use Rattle.starred.specs.Cases.{repeated, like-arcs, cases}
-use Rattle.starred.proofs.Computing.{definitions, _and_, together}
+use Rattle.starred.proofs.Computing.{definitions, together}
+
+cons : {x y : Answer} {xs ys : List Answer} → x ≡ y → xs ≡ ys → (x ∷ xs) ≡ (y ∷ ys)
+cons e h = ap₂ _∷_ e h
 
 -- The transducer whose bytes are those of so many like arcs.
 unfoldable alike : ℕ → Transducer
@@ -44,9 +47,9 @@ unfolding alike repeated encode head-record final-records final-record arc-recor
     states-good order-good finals-rise sources-stay all-labels-good labels-good weights-good weight-good endless goes-on coaccessible some-arc path-count
     paths paths-from each-arc by-number is-final
 like-arcs-hold x y z =
-    counted (like-arcs 98) (alike 98) refl (record { head = refl; content = refl }) refl
-    and counted (like-arcs 99) (alike 99) refl (record { head = refl; content = refl }) refl
-    and counted (like-arcs 100) (alike 100) refl (record { head = refl; content = refl }) refl and refl
+    cons (counted (like-arcs 98) (alike 98) refl (record { head = refl; content = refl }) refl)
+    (cons (counted (like-arcs 99) (alike 99) refl (record { head = refl; content = refl }) refl)
+    (cons (counted (like-arcs 100) (alike 100) refl (record { head = refl; content = refl }) refl) refl))
 
 -- The first thirteen rows, the three of like arcs, the rest.
 pub all-hold : (x y z : ℕ) → All-hold (cases x y z)

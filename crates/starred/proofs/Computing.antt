@@ -1,7 +1,7 @@
--- How the cases of a table are computed: the definitions that they compute with, a table row by row, and tables one behind the other.
+-- How the cases of a table are computed: the definitions that they compute with, and tables one behind the other.
 -- Assumes nothing.
-use mathlib.Core.Path.{_≡_, sym, ap₂, _∙_}
-use mathlib.Core.List.{List, _∷_, _++_, map-append}
+use mathlib.Core.Path.{sym, ap₂, _∙_}
+use mathlib.Core.List.{List, _++_, map-append}
 use Prim.Native.Nat.{ℕ}
 use Rattle.wire.specs.Bytes.{two, four, low, signed-four, signed-low, places, every}
 use Rattle.transducer.specs.Format.{framed-from, framed, records-from, records, kind-good, in-order, kinds-good}
@@ -38,7 +38,7 @@ use Rattle.shortest.specs.Entry.{shortest-refusal}
 use Rattle.listing.specs.Code.{labels-in}
 use Rattle.listing.specs.Text.{digits, decimal, cost-text, readings-word, labels-text, line, line-of, lines, counted-text, listing-text}
 use Rattle.listing.specs.Entry.{code-refusal, applied-refusal, text-unless, listing-refusal, text-of}
-use Rattle.starred.specs.Answer.{Answer, Case, All-hold, or-refused, built-or-refused, read-answer, write-answer, path-answer, defined}
+use Rattle.starred.specs.Answer.{Case, All-hold, or-refused, built-or-refused, read-answer, write-answer, path-answer, defined}
 
 -- All of them under one name: a proof that says `unfolding definitions` computes with each. The number that it is has no meaning.
 unfoldable pub definitions : ℕ
@@ -56,11 +56,6 @@ unfolding two four low signed-four signed-low places every framed-from framed re
     text-of or-refused built-or-refused keeps read-answer write-answer path-answer defined falling-anywhere cost-from lesser least-of least-to-come
     costs-refusal costs-to-come
 definitions = 0
-
--- One row, and those behind it.
-infixr 20 _and_
-pub _and_ : {x y : Answer} {xs ys : List Answer} → x ≡ y → xs ≡ ys → (x ∷ xs) ≡ (y ∷ ys)
-e and h = ap₂ _∷_ e h
 
 -- Tables that hold, one behind the other.
 pub together : (cs ds : List Case) → All-hold cs → All-hold ds → All-hold (cs ++ ds)

@@ -12,22 +12,31 @@ use Rattle.worked.specs.Tables.{label, any, units, rebate-1000000, rebat
 use Rattle.worked.specs.Tables.{nothing, any-arc, named-elsewhere, named-in-vain, fewer-labels, lesser-cost, fewer-arcs, all-final}
 use Rattle.worked.specs.Tables.{falling-loop, falling-in-vain, falling-aside, falling-unreached, level-cycle}
 
--- Point 5: input 65,535 fits each symbol. Any output but 65,535 is written as it is, 0 as the empty label; 65,535 passes the symbol on.
-abbrev pub any-rows : List Case
-any-rows =
+-- Point 5: input 65,535 fits each symbol. Any output but 65,535 is written as it is, 0 as the empty label; 65,535 passes the symbol on. A string: it never fits
+-- the empty one.
+abbrev pub any-applied-rows : List Case
+any-applied-rows =
     (reading (any-arc (label 5) weight-1) gives reads 2 1 1 0 (1 ∷ []) (0 ∷ []) (0 ∷ 65535 ∷ 5 ∷ 1 ∷ []) (1 ∷ []))
     ∷ (applying (7 ∷ []) (any-arc (label 5) weight-1) gives writes 38 (one-arc 7 5 weight-1) (0 ∷ []))
     ∷ (applying (7 ∷ []) (any-arc (label 0) weight-1) gives writes 38 (one-arc 7 0 weight-1) (0 ∷ []))
     ∷ (applying (7 ∷ []) (any-arc any weight-1) gives writes 38 (one-arc 7 7 weight-1) (0 ∷ []))
-    ∷ (composing (one-arc 1 7 weight-4) (any-arc (label 5) weight-1) gives writes 38 (one-arc 1 5 (units 5)) (0 ∷ 0 ∷ []))
+    ∷ (applying [] (any-arc (label 5) weight-1) gives writes 12 nothing [])
+    ∷ []
+
+-- A left arc's output: if that is the empty label, the left arc goes alone.
+abbrev pub any-composed-rows : List Case
+any-composed-rows =
+    (composing (one-arc 1 7 weight-4) (any-arc (label 5) weight-1) gives writes 38 (one-arc 1 5 (units 5)) (0 ∷ 0 ∷ []))
     ∷ (composing (one-arc 1 7 weight-4) (any-arc (label 0) weight-1) gives writes 38 (one-arc 1 0 (units 5)) (0 ∷ 0 ∷ []))
     ∷ (composing (one-arc 1 7 weight-4) (any-arc any weight-1) gives writes 38 (one-arc 1 7 (units 5)) (0 ∷ 0 ∷ []))
-    -- It never fits the empty label: nothing reads the empty string, and a left arc that writes nothing goes alone.
-    ∷ (applying [] (any-arc (label 5) weight-1) gives writes 12 nothing [])
     ∷ (composing (one-arc 1 0 weight-4) (any-arc (label 5) weight-1)
     gives writes 28 (head 2 1 0 0 ++ arc 0 (label 1) (label 0) 1 weight-4) (0 ∷ 65535 ∷ []))
-    -- Output 65,535 beside another input is refused by 7. In a table handed over directly 65,535 is one arc and one label.
-    ∷ (reading (head 2 1 1 0 ++ final 1 (units 0) ++ arc 0 (label 6) any 1 weight-1) gives refused 7)
+    ∷ []
+
+-- Output 65,535 beside another input is refused by 7. To the count and the shortest path 65,535 is one arc and one label.
+abbrev pub any-label-rows : List Case
+any-label-rows =
+    (reading (head 2 1 1 0 ++ final 1 (units 0) ++ arc 0 (label 6) any 1 weight-1) gives refused 7)
     ∷ (counting (any-arc any weight-1) gives counts 1)
     ∷ (shortest-path (any-arc any weight-1) gives tells 1 (0 ∷ []) (65535 ∷ []))
     ∷ []
@@ -116,7 +125,12 @@ distance-rows =
     ∷ (distances falling-unreached gives refused 19)
     ∷ []
 
--- The table.
+-- The table: rows on labels, and rows on weights, costs and the order of paths.
+abbrev pub label-rows : List Case
+label-rows = any-applied-rows ++ any-composed-rows ++ any-label-rows ++ named-rows ++ left-any-rows
+
+abbrev pub cost-rows : List Case
+cost-rows = least-weight-rows ++ tie-rows ++ order-rows ++ cycle-rows ++ distance-rows
+
 abbrev pub rows : List Case
-rows =
-    any-rows ++ named-rows ++ left-any-rows ++ least-weight-rows ++ tie-rows ++ order-rows ++ cycle-rows ++ distance-rows
+rows = label-rows ++ cost-rows
