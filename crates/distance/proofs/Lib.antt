@@ -3,6 +3,8 @@
 pub mod ToCome
 pub mod Settled
 pub mod Ended
+-- The facts of a look that hold without one.
+pub mod LeastKnown
 -- The lent cells.
 pub mod Written
 -- What is answered.

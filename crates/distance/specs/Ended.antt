@@ -3,12 +3,17 @@ use mathlib.Core.Path.{_≡_}
 use mathlib.Core.Bool.{Bool, true, false, cond}
 use mathlib.Core.List.{List}
 use Prim.Native.Nat.{ℕ, _<_}
-use Rattle.transducer.specs.Format.{Transducer}
+use Rattle.transducer.specs.declared.Looked.{Looked}
+use Rattle.transducer.specs.Format.{Transducer, min-weight}
 use Rattle.transducer.specs.Weight.{Weight, below}
 use Rattle.reach.specs.Reach.{accessible}
 use Rattle.least.specs.Cycles.{anywhere, Falls}
 use Rattle.relax.specs.Nearest.{Sizes, unreached, cost-at, by-state, Cells, Settled}
 use Rattle.distance.specs.Distance.{no-path, least-to-come}
+
+-- The facts of a look that hold of all accepted bytes.
+abbrev pub unvalidated : Looked
+unvalidated = record { refusal = 0; least = min-weight; up = false; writes = false; named = false }
 
 -- The states that count: all, or those that the start reaches.
 abbrev pub counted : (everywhere : Bool) → Transducer → (s : ℕ) → Bool

@@ -14,12 +14,13 @@ use Rattle.distance.specs.Distance.{no-path, least-to-come}
 use Rattle.relax.specs.Nearest.{cost-at}
 use Rattle.distance.specs.Ended.{cost-told}
 
--- 1 to 8, 10 for fewer than 1,024 cells, then 19 where a final state can be reached from a cycle below zero, whether the start reaches that or not.
+-- What distance refuses of accepted bytes: 19 if a final state can be reached from a cycle below zero, whether the start reaches that or not.
+abbrev pub accepted-costs-refusal : Transducer → ℕ
+accepted-costs-refusal t = cond (falling-anywhere t) 19 0
+
+-- 1 to 8, 10 for fewer than 1,024 cells, then 19.
 unfoldable pub costs-refusal : List ℕ → (cells : ℕ) → ℕ
-costs-refusal bs cells =
-    or-else (refusal bs)
-    (cond (ltb cells max-states) 10
-    (cond (falling-anywhere (decode bs)) 19 0))
+costs-refusal bs cells = or-else (refusal bs) (cond (ltb cells max-states) 10 (accepted-costs-refusal (decode bs)))
 
 -- A cell for each state that there can be. Past the last state nothing is final, so the cell has none.
 unfoldable pub costs-to-come : Transducer → List Weight

@@ -6,7 +6,7 @@ ghost use Rattle.transducer.specs.Format.{max-states, decode};
 ghost use Rattle.transducer.specs.Leaf.{Looked-says};
 ghost use Rattle.transducer.specs.Weight.{no-weight};
 ghost use Rattle.relax.specs.Begun.{Cleared};
-ghost use Rattle.distance.specs.Entry.{Costs-say, costs-refusal};
+ghost use Rattle.distance.specs.Entry.{Costs-say, accepted-costs-refusal, costs-refusal};
 use crate::cells;
 use crate::near;
 use transducer::Looked;
@@ -21,7 +21,7 @@ fn costs_by(
 ) -> u32
     requires { ⌜ Looked-says (now table) seen × (seen .refusal ≡ 0) × Cleared no-weight (decode (now table) .states) (now costs)
         × Cleared {A = ℕ} 0 (decode (now table) .states) (now lens) × (max-states ≤ length (now cells)) ⌝ }
-    ensures { λ r. ⌜ Costs-say (now (table .entry)) (costs-refusal (now (table .entry)) (length (now (cells .entry)))) r
+    ensures { λ r. ⌜ Costs-say (now (table .entry)) (accepted-costs-refusal (decode (now (table .entry)))) r
         (now (cells .entry)) (now (cells .exit)) ⌝ }
 {
     let shape = relax::begin(table, costs);
@@ -32,8 +32,25 @@ fn costs_by(
     0
 }
 
-// The least cost still to come from each state, over all paths to a final state, into 1,024 lent cells; 1,000,000,000,001 where there is no such path.
-// Linear in states and arcs where one sweep settles all, at worst states times arcs.
+// Puts the least cost still to come from each state of accepted bytes, over all paths to a final state, into 1,024 lent cells or more;
+// 1,000,000,000,001 where there is no such path. Refuses only with 19. `seen` has the facts that validation found; `unvalidated` stands for them if the bytes
+// were not validated but made by a call. Linear in states and arcs where one sweep settles all, at worst states times arcs.
+pub fn costs_accepted(table: &[u8], seen: Looked, cells: &mut [i64]) -> u32
+    requires { ⌜ Looked-says (now table) seen × (seen .refusal ≡ 0) × (max-states ≤ length (now cells)) ⌝ }
+    ensures { λ r. ⌜ Costs-say (now (table .entry)) (accepted-costs-refusal (decode (now (table .entry)))) r
+        (now (cells .entry)) (now (cells .exit)) ⌝ }
+{
+    if relax::is_small(table) {
+        let mut costs = [0i32; relax::FEW_STATES];
+        let mut lens = [0u32; relax::FEW_STATES];
+        return costs_by(table, seen, &mut costs, &mut lens, cells);
+    }
+    let mut costs = [0i32; transducer::MAX_STATES];
+    let mut lens = [0u32; transducer::MAX_STATES];
+    costs_by(table, seen, &mut costs, &mut lens, cells)
+}
+
+// The least cost still to come from each state, into 1,024 lent cells.
 pub fn costs_to_come(table: &[u8], cells: &mut [i64]) -> u32
     ensures { λ r. ⌜ Costs-say (now (table .entry)) (costs-refusal (now (table .entry)) (length (now (cells .entry)))) r
         (now (cells .entry)) (now (cells .exit)) ⌝ }
@@ -46,12 +63,5 @@ pub fn costs_to_come(table: &[u8], cells: &mut [i64]) -> u32
     if cells.len() < transducer::MAX_STATES {
         return 10;
     }
-    if relax::is_small(table) {
-        let mut costs = [0i32; relax::FEW_STATES];
-        let mut lens = [0u32; relax::FEW_STATES];
-        return costs_by(table, seen, &mut costs, &mut lens, cells);
-    }
-    let mut costs = [0i32; transducer::MAX_STATES];
-    let mut lens = [0u32; transducer::MAX_STATES];
-    costs_by(table, seen, &mut costs, &mut lens, cells)
+    costs_accepted(table, seen, cells)
 }

@@ -3,5 +3,7 @@ mod cells;
 mod entry;
 mod near;
 
+pub use entry::costs_accepted;
 pub use entry::costs_to_come;
 pub use near::distances;
+pub use near::unvalidated;

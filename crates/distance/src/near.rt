@@ -1,9 +1,10 @@
 // By state, the least cost to come, the fewest labels at that cost and the fewest arcs with these.
+ghost use mathlib.Core.Path.{_≡_};
 ghost use Prim.Native.Nat.{ℕ};
 ghost use Rattle.transducer.specs.Format.{decode};
 ghost use Rattle.transducer.specs.Leaf.{Looked-says};
 ghost use Rattle.relax.specs.Begun.{Cleared, Begun};
-ghost use Rattle.distance.specs.Ended.{counted, Distances-say};
+ghost use Rattle.distance.specs.Ended.{counted, Distances-say, unvalidated};
 use transducer::Looked;
 use transducer::MAX_STATES;
 use transducer::Shape;
@@ -52,4 +53,18 @@ pub fn distances(
     }
     let reached = reach::accessible(table, first, states, arcs, shape.start);
     settle::drain(table, first, states, arcs, &reached, costs, lens)
+}
+
+// The facts that hold of all accepted bytes, for bytes that a call made and nobody validated. The sweep is right with them for every table; it spares
+// nothing where states have many arcs.
+pub fn unvalidated() -> Looked
+    ensures { λ r. ⌜ r ≡ unvalidated ⌝ }
+{
+    Looked {
+        refusal: 0,
+        least: transducer::MIN_WEIGHT,
+        up: false,
+        writes: false,
+        named: false,
+    }
 }

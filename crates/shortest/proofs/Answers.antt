@@ -1,6 +1,6 @@
--- What `shortest_path` answers, case by case: a refusal of 1 to 8, a buffer that is too short, 16, 19, and success. Assumes nothing.
+-- What `shortest_path` and `shortest_accepted` answer, case by case: a refusal of 1 to 8, a buffer that is too short, 16, 19, and success. Assumes nothing.
 use mathlib.Core.Path.{_≡_, refl, sym, ap, _∙_}
-use mathlib.Core.Bool.{Bool, true, false, _||_, not, cond}
+use mathlib.Core.Bool.{Bool, true, false, _||_, cond}
 use mathlib.Core.List.{List, _++_}
 use Prim.Native.Nat.{ℕ, _-_, _≤_, _<_}
 use native.Mathlib.Omega.{arith}
@@ -31,7 +31,7 @@ use Rattle.distance.specs.Ended.{Distances-say}
 use Rattle.distance.proofs.Settled.{few-arcs, reached-accepting, no-path-none}
 use Rattle.shortest.specs.Shortest.{shortest}
 use Rattle.shortest.specs.Tight.{first-tight, follow}
-use Rattle.shortest.specs.Entry.{shortest-refusal, Shortest-says}
+use Rattle.shortest.specs.Entry.{accepted-shortest-refusal, shortest-refusal, Shortest-says}
 use Rattle.shortest.proofs.Followed.{Followed, followed, rises, follow-shortest}
 
 -- The shortest path along an arc for each state.
@@ -103,72 +103,70 @@ pub stored-costs : (t : Transducer) {v : ℕ → ℕ} {start len : ℕ} {a' : Li
     → path-cost t (follow len t v start) ≡ x → x ≡ path-cost t (take len a')
 stored-costs t st f e = sym e ∙ ap (path-cost t) (f .is ∙ sym (st .taken))
 
-module _ (bs : List ℕ) {a b : List ℕ} {n : ℕ} {r : Told} where
+module _ (bs : List ℕ) {a b : List ℕ} {n : ℕ} {r : Told} (e : n ≡ refusal bs) where
   -- 1 to 8
-  pub shortest-bad : n ≡ refusal bs → (n ≡ 0 → ⊥) → r ≡ refused-told n → Shortest-says bs (shortest-refusal bs (length a) (length b)) r a a b b
+  pub shortest-bad : (n ≡ 0 → ⊥) → r ≡ refused-told n → Shortest-says bs (shortest-refusal bs (length a) (length b)) r a a b b
   unfolding shortest-refusal or-else
-  shortest-bad e nonzero h =
-      let t : Transducer = decode bs in
-      let rest : ℕ =
-      cond (ltb (length a) max-path || ltb (length b) max-path) 10
-      (cond (not (coaccessible (t .states) t (t .start))) 16 (cond (falling t) 19 0)) in
+  shortest-bad nonzero h =
+      let rest : ℕ = cond (ltb (length a) max-path || ltb (length b) max-path) 10 (accepted-shortest-refusal (decode bs)) in
       let number : cond (eqb (refusal bs) 0) rest (refusal bs) ≡ n = rw (← e, ne-eqb n 0 nonzero) in
       told-refused (decode bs) (shortest (decode bs)) (shortest-refusal bs (length a) (length b)) n r a b number nonzero h
 
   -- 10
-  pub shortest-short-arcs : n ≡ refusal bs → n ≡ 0 → length a < max-path → r ≡ refused-told 10
-      → Shortest-says bs (shortest-refusal bs (length a) (length b)) r a a b b
+  pub shortest-short-arcs : n ≡ 0 → length a < max-path → r ≡ refused-told 10 → Shortest-says bs (shortest-refusal bs (length a) (length b)) r a a b b
   unfolding shortest-refusal or-else
-  shortest-short-arcs e z l h =
+  shortest-short-arcs z l h =
       let ok : refusal bs ≡ 0 = sym e ∙ z in
       told-refused (decode bs) (shortest (decode bs)) (shortest-refusal bs (length a) (length b)) 10 r a b (rw (ok, lt-ltb (length a) max-path l))
       (λ q. omega arith) h
 
-  pub shortest-short-labels : n ≡ refusal bs → n ≡ 0 → max-path ≤ length a → length b < max-path → r ≡ refused-told 10
+  pub shortest-short-labels : n ≡ 0 → max-path ≤ length a → length b < max-path → r ≡ refused-told 10
       → Shortest-says bs (shortest-refusal bs (length a) (length b)) r a a b b
   unfolding shortest-refusal or-else
-  shortest-short-labels e z la l h =
+  shortest-short-labels z la l h =
       let ok : refusal bs ≡ 0 = sym e ∙ z in
       told-refused (decode bs) (shortest (decode bs)) (shortest-refusal bs (length a) (length b)) 10 r a b
       (rw (ok, le-ltb (length a) max-path la, lt-ltb (length b) max-path l)) (λ q. omega arith) h
 
-  module _ (e : n ≡ refusal bs) (z : n ≡ 0) (la : max-path ≤ length a) (lb : max-path ≤ length b) where
-    -- 16
-    pub shortest-none : {cs : List Weight} {ls : Sizes} {start : ℕ} {d : Bool} → Sized (decode bs)
-        → Distances-say (decode bs) (accessible (decode bs .states) (decode bs)) cs ls d → d ≡ true
-        → start ≡ decode bs .start → At-most unreached (cost-at cs start)
-        → r ≡ refused-told 16 → Shortest-says bs (shortest-refusal bs (length a) (length b)) r a a b b
-    unfolding shortest-refusal or-else
-    shortest-none {cs} {ls} {start} size says on s q h =
-        let ok : refusal bs ≡ 0 = sym e ∙ z in
-        let t : Transducer = decode bs in
-        let k : Settled t (accessible (t .states) t) (cost-at cs) (by-state ls) = says .settled on in
-        let none : coaccessible (t .states) t (t .start) ≡ false =
-        no-path-none t size (accessible (t .states) t) (cost-at cs) (by-state ls) k (t .start) (size .within .starts) (accessible-start (t .states) t)
-        (rw s at q) in
-        told-refused (decode bs) (shortest (decode bs)) (shortest-refusal bs (length a) (length b)) 16 r a b
-        (rw (ok, le-ltb (length a) max-path la, le-ltb (length b) max-path lb, none)) (λ q'. omega arith) h
+  -- Accepted bytes and enough room: answered as `shortest_accepted` does.
+  pub shortest-passed : {a' b' : List ℕ} → n ≡ 0 → max-path ≤ length a → max-path ≤ length b
+      → Shortest-says bs (accepted-shortest-refusal (decode bs)) r a a' b b' → Shortest-says bs (shortest-refusal bs (length a) (length b)) r a a' b b'
+  unfolding shortest-refusal or-else
+  shortest-passed z la lb says =
+      let ok : refusal bs ≡ 0 = sym e ∙ z in
+      rw (ok, le-ltb (length a) max-path la, le-ltb (length b) max-path lb) says
 
-    -- 19: some path accepts, and a cycle below zero lies on it.
-    pub shortest-falls : {cs : List Weight} {ls : Sizes} {d : Bool} → Sized (decode bs)
-        → Distances-say (decode bs) (accessible (decode bs .states) (decode bs)) cs ls d → d ≡ false
-        → r ≡ refused-told 19 → Shortest-says bs (shortest-refusal bs (length a) (length b)) r a a b b
-    unfolding shortest-refusal or-else
-    shortest-falls {cs} {ls} size says off h =
-        let ok : refusal bs ≡ 0 = sym e ∙ z in
-        let t : Transducer = decode bs in
-        let f : Falling t (t .start) = falls-start t (says .falls off) in
-        let some : coaccessible (t .states) t (t .start) ≡ true =
-        path-coaccessible t (size .within) (t .start) (f .lead ++ (f .cycle ++ f .rest)) (falling-accepting t (t .start) f) in
-        told-refused (decode bs) (shortest (decode bs)) (shortest-refusal bs (length a) (length b)) 19 r a b
-        (rw (ok, le-ltb (length a) max-path la, le-ltb (length b) max-path lb, some, falling-true t (size .within) f)) (λ q'. omega arith) h
+module _ (bs : List ℕ) {a b : List ℕ} {r : Told} where
+  -- 16
+  pub shortest-none : {cs : List Weight} {ls : Sizes} {start : ℕ} {d : Bool} → Sized (decode bs)
+      → Distances-say (decode bs) (accessible (decode bs .states) (decode bs)) cs ls d → d ≡ true
+      → start ≡ decode bs .start → At-most unreached (cost-at cs start)
+      → r ≡ refused-told 16 → Shortest-says bs (accepted-shortest-refusal (decode bs)) r a a b b
+  shortest-none {cs} {ls} {start} size says on s q h =
+      let t : Transducer = decode bs in
+      let k : Settled t (accessible (t .states) t) (cost-at cs) (by-state ls) = says .settled on in
+      let none : coaccessible (t .states) t (t .start) ≡ false =
+      no-path-none t size (accessible (t .states) t) (cost-at cs) (by-state ls) k (t .start) (size .within .starts) (accessible-start (t .states) t)
+      (rw s at q) in
+      told-refused (decode bs) (shortest (decode bs)) (accepted-shortest-refusal (decode bs)) 16 r a b (rw none) (λ q'. omega arith) h
 
-    pub shortest-told : {v : ℕ → ℕ} {start len : ℕ} {a' b' : List ℕ} → Found (decode bs) v start len → a' ≡ filled (length a) (follow len (decode bs) v start)
-        → Tells (decode bs) (take len a') r b b' → Shortest-says bs (shortest-refusal bs (length a) (length b)) r a a' b b'
-    unfolding shortest-refusal or-else
-    shortest-told {v} {start} {len} {a'} {b'} f put told' =
-        let st : Stored (decode bs) len a' = stored (decode bs) v start len a a' f la put in
-        let told : Tells (decode bs) (shortest (decode bs)) r b b' = rw (st .taken) at told' in
-        let ok : refusal bs ≡ 0 = sym e ∙ z in
-        told-found (decode bs) (shortest (decode bs)) (shortest-refusal bs (length a) (length b)) r a a' b b'
-        (rw (ok, le-ltb (length a) max-path la, le-ltb (length b) max-path lb, f .some, f .rises)) (put ∙ ap (filled (length a)) (f .is)) told
+  -- 19: some path accepts, and a cycle below zero lies on it.
+  pub shortest-falls : {cs : List Weight} {ls : Sizes} {d : Bool} → Sized (decode bs)
+      → Distances-say (decode bs) (accessible (decode bs .states) (decode bs)) cs ls d → d ≡ false
+      → r ≡ refused-told 19 → Shortest-says bs (accepted-shortest-refusal (decode bs)) r a a b b
+  shortest-falls {cs} {ls} size says off h =
+      let t : Transducer = decode bs in
+      let f : Falling t (t .start) = falls-start t (says .falls off) in
+      let some : coaccessible (t .states) t (t .start) ≡ true =
+      path-coaccessible t (size .within) (t .start) (f .lead ++ (f .cycle ++ f .rest)) (falling-accepting t (t .start) f) in
+      told-refused (decode bs) (shortest (decode bs)) (accepted-shortest-refusal (decode bs)) 19 r a b
+      (rw (some, falling-true t (size .within) f)) (λ q'. omega arith) h
+
+  pub shortest-told : {v : ℕ → ℕ} {start len : ℕ} {a' b' : List ℕ} → max-path ≤ length a → Found (decode bs) v start len
+      → a' ≡ filled (length a) (follow len (decode bs) v start)
+      → Tells (decode bs) (take len a') r b b' → Shortest-says bs (accepted-shortest-refusal (decode bs)) r a a' b b'
+  shortest-told {v} {start} {len} {a'} {b'} la f put told' =
+      let st : Stored (decode bs) len a' = stored (decode bs) v start len a a' f la put in
+      let told : Tells (decode bs) (shortest (decode bs)) r b b' = rw (st .taken) at told' in
+      told-found (decode bs) (shortest (decode bs)) (accepted-shortest-refusal (decode bs)) r a a' b b'
+      (rw (f .some, f .rises)) (put ∙ ap (filled (length a)) (f .is)) told

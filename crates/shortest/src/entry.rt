@@ -6,7 +6,7 @@ ghost use Rattle.transducer.specs.Format.{max-path, decode};
 ghost use Rattle.transducer.specs.Leaf.{Looked-says};
 ghost use Rattle.transducer.specs.Weight.{no-weight};
 ghost use Rattle.relax.specs.Begun.{Cleared};
-ghost use Rattle.shortest.specs.Entry.{Shortest-says, shortest-refusal};
+ghost use Rattle.shortest.specs.Entry.{Shortest-says, accepted-shortest-refusal, shortest-refusal};
 use crate::walk;
 use tell::Told;
 use transducer::Looked;
@@ -22,8 +22,7 @@ fn shortest_by(
 ) -> Told
     requires { ⌜ Looked-says (now table) seen × (seen .refusal ≡ 0) × Cleared no-weight (decode (now table) .states) (now costs)
         × Cleared {A = ℕ} 0 (decode (now table) .states) (now lens) × (max-path ≤ length (now arcs)) × (max-path ≤ length (now labels)) ⌝ }
-    ensures { λ r. ⌜ Shortest-says (now (table .entry))
-        (shortest-refusal (now (table .entry)) (length (now (arcs .entry))) (length (now (labels .entry))))
+    ensures { λ r. ⌜ Shortest-says (now (table .entry)) (accepted-shortest-refusal (decode (now (table .entry))))
         r (now (arcs .entry)) (now (arcs .exit)) (now (labels .entry)) (now (labels .exit)) ⌝ }
 {
     let shape = relax::begin(table, costs);
@@ -51,8 +50,25 @@ fn shortest_by(
     tell::answer(cost as i64, len, end.labels)
 }
 
-// The shortest path: its arc numbers and the labels that it writes go into two lent buffers. Linear in states and arcs where one sweep settles
-// all, at worst states times arcs.
+// Puts the shortest path of accepted bytes into two lent buffers that are long enough: its arc numbers, and the labels that it writes. Refuses only with
+// 16 and 19. `seen` has the facts that validation found; `distance::unvalidated` stands for them if the bytes were not validated but made by a call.
+// Linear in states and arcs where one sweep settles all, at worst states times arcs.
+pub fn shortest_accepted(table: &[u8], seen: Looked, arcs: &mut [u16], labels: &mut [u16]) -> Told
+    requires { ⌜ Looked-says (now table) seen × (seen .refusal ≡ 0) × (max-path ≤ length (now arcs)) × (max-path ≤ length (now labels)) ⌝ }
+    ensures { λ r. ⌜ Shortest-says (now (table .entry)) (accepted-shortest-refusal (decode (now (table .entry))))
+        r (now (arcs .entry)) (now (arcs .exit)) (now (labels .entry)) (now (labels .exit)) ⌝ }
+{
+    if relax::is_small(table) {
+        let mut costs = [0i32; relax::FEW_STATES];
+        let mut lens = [0u32; relax::FEW_STATES];
+        return shortest_by(table, seen, &mut costs, &mut lens, arcs, labels);
+    }
+    let mut costs = [0i32; transducer::MAX_STATES];
+    let mut lens = [0u32; transducer::MAX_STATES];
+    shortest_by(table, seen, &mut costs, &mut lens, arcs, labels)
+}
+
+// The shortest path: its arc numbers and the labels that it writes go into two lent buffers.
 pub fn shortest_path(table: &[u8], arcs: &mut [u16], labels: &mut [u16]) -> Told
     ensures { λ r. ⌜ Shortest-says (now (table .entry))
         (shortest-refusal (now (table .entry)) (length (now (arcs .entry))) (length (now (labels .entry))))
@@ -69,12 +85,5 @@ pub fn shortest_path(table: &[u8], arcs: &mut [u16], labels: &mut [u16]) -> Told
     if labels.len() < transducer::MAX_PATH {
         return tell::refused(10);
     }
-    if relax::is_small(table) {
-        let mut costs = [0i32; relax::FEW_STATES];
-        let mut lens = [0u32; relax::FEW_STATES];
-        return shortest_by(table, seen, &mut costs, &mut lens, arcs, labels);
-    }
-    let mut costs = [0i32; transducer::MAX_STATES];
-    let mut lens = [0u32; transducer::MAX_STATES];
-    shortest_by(table, seen, &mut costs, &mut lens, arcs, labels)
+    shortest_accepted(table, seen, arcs, labels)
 }

@@ -2,4 +2,5 @@
 mod entry;
 mod walk;
 
+pub use entry::shortest_accepted;
 pub use entry::shortest_path;

@@ -55,7 +55,7 @@ returns : tie.Need-returns
 returns c =
     let at = settled (c .before) in
     let from = start-of at in
-    costs-fall (from .args .table .now) (from .args .cells .now) (from .pre .0 .refusal-is) (from .pre .1) (from .pre .4) (size (entry (shape at)))
+    costs-fall (from .args .table .now) (from .args .cells .now) (size (entry (shape at)))
     (at .distances .ensures) (not-true (at .distances .result) (c .if1 .taken))
 
 put-requires : tie.Need-put-requires
@@ -80,7 +80,7 @@ returns-2 c =
     let on = put .before .before .before in
     let at = settled (on .before) in
     let from = start-of at in
-    costs-told (from .args .table .now) (from .args .cells .now) (from .pre .0 .refusal-is) (from .pre .1) (from .pre .4) (size (entry (shape at)))
+    costs-told (from .args .table .now) (from .args .cells .now) (size (entry (shape at)))
     (at .distances .ensures) (not-false (at .distances .result) (on .if1 .left)) (shape at .begin .ensures .shaped .states-are) (put .put .ensures)
 
 pub costs-by-spec : {M : Type 1} → statement M

@@ -153,8 +153,7 @@ returns : tie.Need-returns
 returns c =
     let at = settled (c .before .before) in
     let from = start-of at in
-    shortest-falls (from .args .table .now) (from .pre .0 .refusal-is) (from .pre .1) (from .pre .4) (from .pre .5) (size (entry-of at))
-    (at .distances .ensures)
+    shortest-falls (from .args .table .now) (size (entry-of at)) (at .distances .ensures)
     (not-true (at .distances .result) (c .before .if1 .taken)) (c .refused .ensures)
 
 mul-cost : tie.Need-mul-cost
@@ -179,7 +178,7 @@ returns-2 c =
     let from = start-of at in
     let f = cost-fits at in
     let none : At-most unreached (cost-at (costs at) (begin at)) = omega (arith, bits, c .before .if2 .taken) in
-    shortest-none (from .args .table .now) (from .pre .0 .refusal-is) (from .pre .1) (from .pre .4) (from .pre .5) (size (entry-of at)) (at .distances .ensures)
+    shortest-none (from .args .table .now) (size (entry-of at)) (at .distances .ensures)
     (settled-at on) (shape at .begin .ensures .shaped .start-is) none (c .refused2 .ensures)
 
 mul-arcs-of : tie.Need-mul-arcs-of
@@ -244,8 +243,7 @@ returns-3 c =
     let t = decode (from .args .table .now) in
     let cost = cost-at (costs at) (begin at) in
     let costs' = ap (λ (z : Weight). toZ w64 (ofZ w64 z)) (toZ-ofZ (cost-fits at)) ∙ toZ-ofZ (wider cost (cost-fits at)) in
-    shortest-told (from .args .table .now) (from .pre .0 .refusal-is) (from .pre .1) (from .pre .4) (from .pre .5) (path (walking walked))
-    (walked .walk .ensures)
+    shortest-told (from .args .table .now) (from .pre .4) (path (walking walked)) (walked .walk .ensures)
     (rw (c .answer .ensures)
     (tells-by t _ _ (len (walking walked)) (costs' ∙ stored-costs t (put walked) (path (walking walked)) (costs-of (walking walked))) (sym (put walked .long))
     (wrote .put-labels .ensures)))
