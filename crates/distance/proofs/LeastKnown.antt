@@ -1,4 +1,4 @@
--- What `unlooked` says holds of all accepted bytes. Assumes nothing.
+-- What `unvalidated` says holds of all accepted bytes. Assumes nothing.
 use mathlib.Core.Path.{_≡_, sym}
 use mathlib.Core.List.{List}
 use Prim.Native.Nat.{ℕ, _<_}
@@ -11,14 +11,14 @@ use Rattle.transducer.specs.Leaf.{Looked-says}
 use Rattle.transducer.proofs.Good.{arc-light}
 use Rattle.transducer.proofs.Weights.{good-range}
 use Rattle.reach.proofs.Sized.{Sized}
-use Rattle.distance.specs.Ended.{unlooked}
+use Rattle.distance.specs.Ended.{unvalidated}
 
 lightest : (bs : List ℕ) → Sized (decode bs) → (i : ℕ) → i < length (decode bs .arcs) → At-most min-weight (arc (decode bs) i .weight)
 unfolding arc
 lightest bs size i l = good-range (arc (decode bs) i .weight) (arc-light (decode bs) (size .content) i no-arc l) .low
 
-pub unlooked-says : (bs : List ℕ) → Sized (decode bs) → refusal bs ≡ 0 → Looked-says bs unlooked
-unlooked-says bs size ok =
+pub unvalidated-says : (bs : List ℕ) → Sized (decode bs) → refusal bs ≡ 0 → Looked-says bs unvalidated
+unvalidated-says bs size ok =
     record {
       refusal-is = sym ok;
       light = λ _. lightest bs size;

@@ -12,8 +12,8 @@ use Rattle.relax.specs.Nearest.{Sizes, unreached, cost-at, by-state, Cells, Set
 use Rattle.distance.specs.Distance.{no-path, least-to-come}
 
 -- The facts of a look that hold of all accepted bytes.
-abbrev pub unlooked : Looked
-unlooked = record { refusal = 0; least = min-weight; up = false; writes = false; named = false }
+abbrev pub unvalidated : Looked
+unvalidated = record { refusal = 0; least = min-weight; up = false; writes = false; named = false }
 
 -- The states that count: all, or those that the start reaches.
 abbrev pub counted : (everywhere : Bool) → Transducer → (s : ℕ) → Bool

@@ -33,7 +33,7 @@ fn costs_by(
 }
 
 // Puts the least cost still to come from each state of accepted bytes, over all paths to a final state, into 1,024 lent cells or more;
-// 1,000,000,000,001 where there is no such path. Refuses only with 19. `seen` has the facts that validation found; `unlooked` stands for them if the bytes
+// 1,000,000,000,001 where there is no such path. Refuses only with 19. `seen` has the facts that validation found; `unvalidated` stands for them if the bytes
 // were not validated but made by a call. Linear in states and arcs where one sweep settles all, at worst states times arcs.
 pub fn costs_accepted(table: &[u8], seen: Looked, cells: &mut [i64]) -> u32
     requires { ⌜ Looked-says (now table) seen × (seen .refusal ≡ 0) × (max-states ≤ length (now cells)) ⌝ }

@@ -6,4 +6,4 @@ mod near;
 pub use entry::costs_accepted;
 pub use entry::costs_to_come;
 pub use near::distances;
-pub use near::unlooked;
+pub use near::unvalidated;

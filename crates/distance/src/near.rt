@@ -4,7 +4,7 @@ ghost use Prim.Native.Nat.{ℕ};
 ghost use Rattle.transducer.specs.Format.{decode};
 ghost use Rattle.transducer.specs.Leaf.{Looked-says};
 ghost use Rattle.relax.specs.Begun.{Cleared, Begun};
-ghost use Rattle.distance.specs.Ended.{counted, Distances-say, unlooked};
+ghost use Rattle.distance.specs.Ended.{counted, Distances-say, unvalidated};
 use transducer::Looked;
 use transducer::MAX_STATES;
 use transducer::Shape;
@@ -57,8 +57,8 @@ pub fn distances(
 
 // The facts that hold of all accepted bytes, for bytes that a call made and nobody validated. The sweep is right with them for every table; it spares
 // nothing where states have many arcs.
-pub fn unlooked() -> Looked
-    ensures { λ r. ⌜ r ≡ unlooked ⌝ }
+pub fn unvalidated() -> Looked
+    ensures { λ r. ⌜ r ≡ unvalidated ⌝ }
 {
     Looked {
         refusal: 0,

@@ -32,7 +32,7 @@ use transducer::Written;
 const ARCS_PLACE: usize = MAX_BYTES - ARC_BYTES * MAX_ARCS;
 
 // Whether a string has at most 64 symbols, none of them empty or barred.
-fn string_ok(string: &[u16]) -> bool
+pub fn string_ok(string: &[u16]) -> bool
     ensures { λ r. ⌜ r ≡ string-good (now (string .entry)) ⌝ }
 {
     let n = string.len();
@@ -341,7 +341,7 @@ fn trace(origins: &mut [u16], count: usize, arcs: &[u16; MAX_ARCS])
 }
 
 // Applies a good string to an accepted transducer, into buffers that are long enough; `exact` only where no arc is for any symbol.
-fn apply_into(
+pub fn apply_into(
     string: &[u16],
     bytes: &[u8],
     exact: bool,

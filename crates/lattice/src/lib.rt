@@ -3,6 +3,8 @@ mod applying;
 mod packing;
 
 pub use applying::apply;
+pub use applying::apply_into;
+pub use applying::string_ok;
 
 // A lattice state: a position in the string (paper 01: a place) and a state of the transducer.
 pub struct State {

@@ -4,8 +4,8 @@ use mathlib.Core.Path.{_≡_, refl, sym, ap, _∙_}
 use mathlib.Core.Bool.{Bool, true, false}
 use mathlib.Core.Logic.{_⊎_, inl, inr, _↔_}
 use mathlib.Core.List.{List, [], _∷_, _++_}
-use mathlib.Core.List.{List·Memᴰ as Mem, List·Memᴰ·not-nil as none-in, List·Memᴰ·cases-cons as first-or-later}
-use Prim.Native.Nat.{ℕ, suc, _≤_, _<_, max}
+use mathlib.Core.List.{List·Memᴰ as Mem, List·Memᴰ·head as first, List·Memᴰ·not-nil as none-in, List·Memᴰ·cases-cons as first-or-later}
+use Prim.Native.Nat.{ℕ, suc, _≤_, _<_, max, min}
 use native.Mathlib.Omega.{arith}
 use lib.Dec.{ltb}
 use lib.ListN.{length}
@@ -15,7 +15,7 @@ use Rattle.transducer.specs.Path.{arc, accepts}
 use Rattle.transducer.proofs.Members.{Distinct}
 use Rattle.transducer.proofs.Runs.{Accepting, accepts-accepting, accepting-accepts, cons-accepting, Within}
 use Rattle.transducer.proofs.Cycles.{ever-longer}
-use Rattle.paths.specs.Count.{paths-from, paths, goes-on, endless}
+use Rattle.paths.specs.Count.{paths-from, paths, goes-on, endless, most-counted, path-count}
 use Rattle.paths.proofs.Order.{Sorted, sorted-same}
 use Rattle.paths.proofs.Listed.{empty-path, by-arcs, in-paths-from, paths-from-has, paths-from-sorted, paths-from-distinct}
 use Rattle.paths.proofs.GoesOn.{goes-on-path, path-goes-on}
@@ -133,3 +133,20 @@ endless-iff t w = (λ h. endless-escapes t w h, λ out. on (endless t) refl (out
     on : (b : Bool) → endless t ≡ b → (p : List ℕ) × (accepts t p ≡ true) × (Mem p (paths t) → ⊥) → endless t ≡ true
     on true e out = e
     on false e (p, a, no-member) = absurd (no-member (not-endless-listed t w e p a))
+
+-- The count is 0 exactly if nothing accepts.
+pub count-some : (t : Transducer) → (path-count t ≡ 0 → ⊥) → (p : List ℕ) × (accepts t p ≡ true)
+unfolding path-count
+count-some t n = on (paths t) refl
+  where
+    on : (l : List (List ℕ)) → paths t ≡ l → (p : List ℕ) × (accepts t p ≡ true)
+    on [] e = absurd (n (rw e))
+    on (p ∷ l) e = (p, mem-paths t p (rw e (first refl)))
+
+pub count-none : (t : Transducer) → Within t → endless t ≡ false → path-count t ≡ 0 → (p : List ℕ) → accepts t p ≡ true → ⊥
+unfolding path-count
+count-none t within finite n p a = on (paths t) (not-endless-listed t within finite p a) n
+  where
+    on : (l : List (List ℕ)) → Mem p l → min most-counted (length l) ≡ 0 → ⊥
+    on [] m e = none-in m
+    on (q ∷ l) m e = omega (arith, e)

@@ -2,6 +2,7 @@
 -- Paths: which is better, and the shortest one.
 pub mod Best
 pub mod Cheapest
+pub mod FewPaths
 -- An arc that gives its source's cost and size, and the path along such arcs.
 pub mod Tight
 pub mod Followed

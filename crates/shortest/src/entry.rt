@@ -51,7 +51,7 @@ fn shortest_by(
 }
 
 // Puts the shortest path of accepted bytes into two lent buffers that are long enough: its arc numbers, and the labels that it writes. Refuses only with
-// 16 and 19. `seen` has the facts that validation found; `distance::unlooked` stands for them if the bytes were not validated but made by a call.
+// 16 and 19. `seen` has the facts that validation found; `distance::unvalidated` stands for them if the bytes were not validated but made by a call.
 // Linear in states and arcs where one sweep settles all, at worst states times arcs.
 pub fn shortest_accepted(table: &[u8], seen: Looked, arcs: &mut [u16], labels: &mut [u16]) -> Told
     requires { ⌜ Looked-says (now table) seen × (seen .refusal ≡ 0) × (max-path ≤ length (now arcs)) × (max-path ≤ length (now labels)) ⌝ }
