@@ -10,7 +10,9 @@
 // count, and the text of `cascade_list` must be the one that the count and the
 // k-th paths give. For tables with cycles those pairs are compared that have few
 // arcs. Where the first chain (compose, then apply) is not refused, it must tell
-// the same count and the same least cost.
+// the same count and the same least cost; and its text must be the cascade's, since
+// both chains take the same steps in the same order from states that stand for one
+// another, though these are numbered otherwise.
 //
 //   --seed N     seed of the cases; the default is printed
 //   --cases N    how many cases (4,000)
@@ -33,7 +35,7 @@ mod model;
 #[path = "../second/rng.rs"]
 mod rng;
 
-use brute::{Found, Triple};
+use brute::Found;
 use model::{bytes_of, Table, ANY, STILL};
 use rng::Rng;
 use std::time::Instant;
@@ -142,8 +144,8 @@ struct Seen {
     chains: u64,
     /// The first chain is refused by 18, or for room, and the cascade is not.
     cascade_alone: u64,
-    /// The first chain's paths come in another order.
-    order_differs: u64,
+    /// Both chains answer, by tables that differ.
+    bytes_differ: u64,
     falling: u64,
 }
 
@@ -170,7 +172,10 @@ fn against_pairs(told: Told, found: &Found, made: &Made, seen: &mut Seen) -> Res
         }
         seen.bounded += 1;
     }
-    let paths: Vec<Triple> = brute::in_bytes(&made.bytes, &made.from, *budget);
+    let Some(paths) = brute::in_bytes(&made.bytes, &made.from, *budget) else {
+        seen.unlisted += 1;
+        return Ok(());
+    };
     if let Some(e) = brute::difference(&paths, pairs) {
         return Err(format!("paths of the cascade: {e}"));
     }
@@ -213,9 +218,9 @@ fn one(rng: &mut Rng, tables: &[Table; 2], string: &[u16], seen: &mut Seen) -> R
         return Ok(());
     };
     seen.chains += 1;
-    let before = told(rng, &first.bytes);
-    seen.order_differs += u64::from(now.count.0 == 0 && text(rng, &first.bytes, now.count) != text(rng, &made.bytes, now.count));
-    same("beside the first chain", now, before)
+    seen.bytes_differ += u64::from(first.bytes != made.bytes);
+    same("beside the first chain", now, told(rng, &first.bytes))?;
+    same("the texts of both chains", text(rng, &made.bytes, now.count), text(rng, &first.bytes, now.count))
 }
 
 fn same<T: PartialEq + std::fmt::Debug>(what: &str, got: T, wanted: T) -> Result<(), String> {
@@ -224,6 +229,11 @@ fn same<T: PartialEq + std::fmt::Debug>(what: &str, got: T, wanted: T) -> Result
 
 /// Two tables and some strings. The left one has arcs for any symbol in every second case, the right one now and then.
 fn case(rng: &mut Rng) -> ([Table; 2], Vec<Vec<u16>>) {
+    // A line that writes nothing beside one that reads nothing: as many states as both have, multiplied.
+    if rng.chance(1, 150) {
+        let n = rng.range(30, 35);
+        return ([tables::silent(n, 1, 0), tables::silent(n, 0, 2)], vec![vec![1; n - 1]]);
+    }
     let ([mut left, second, third], mut strings) = tables::case(rng);
     if rng.chance(1, 2) {
         let often = rng.pick(&[1, 2, 4]);
@@ -261,15 +271,15 @@ fn run(seed: u64, range: std::ops::Range<usize>) -> bool {
             }
         }
     }
-    let Seen { refused, counts, whole, bounded, unlisted, pairs, left_any, chains, cascade_alone, order_differs, falling } = seen;
+    let Seen { refused, counts, whole, bounded, unlisted, pairs, left_any, chains, cascade_alone, bytes_differ, falling } = seen;
     println!("seed {seed}, {} cases, {:.1} seconds", range.len(), began.elapsed().as_secs_f64());
     println!("refused: {} by 11, {} by 12, {} by 13", refused[11], refused[12], refused[13]);
     let [none, one, some, many, endless] = counts;
     println!("counts: {none} of 0, {one} of 1, {some} of 2 to 98, {many} of 99 and more, {endless} infinitely many; {falling} without a least cost");
     println!("listed: {whole} whole, {bounded} up to {} arcs, {unlisted} not; {pairs} pairs in all", brute::FEW);
     println!("left tables with arcs for any symbol: {left_any}; the first chain is refused and the cascade is not: {cascade_alone}");
-    println!("beside the first chain: {chains}, of which {order_differs} list their paths in another order");
-    let met = [&counts[..], &refused[11..=13], &[whole, bounded, left_any, chains, cascade_alone, order_differs, falling]].concat();
+    println!("beside the first chain: {chains}, by tables that differ in {bytes_differ}");
+    let met = [&counts[..], &refused[11..=13], &[whole, bounded, left_any, chains, cascade_alone, bytes_differ, falling]].concat();
     if !single && met.contains(&0) {
         println!("FAILED: something that should be met never was");
         return false;

@@ -156,16 +156,20 @@ pub fn pairs(left: &Table, right: &Table, string: &[u16]) -> Found {
 
 /// The accepting paths in some bytes, as triples by the arcs of the three
 /// tables that each arc comes from; where there is a budget, those of at most
-/// so many such arcs. The search ends where there are too many.
-pub fn in_bytes(bytes: &[u8], from: &[[Option<usize>; 3]], budget: Option<usize>) -> Vec<Triple> {
+/// so many such arcs. More than are listed end the search, and None stands for
+/// a search that takes too long.
+pub fn in_bytes(bytes: &[u8], from: &[[Option<usize>; 3]], budget: Option<usize>) -> Option<Vec<Triple>> {
     let t = model::parse(bytes).expect("bytes that were handed on");
     let leaving = t.leaving();
     let nothing = Triple { paths: Default::default(), input: vec![], output: vec![], cost: 0 };
     let (mut open, mut found, mut steps) = (vec![(t.start, nothing)], Vec::new(), 0);
     while let Some((state, so_far)) = open.pop() {
-        steps += 1;
-        if steps > 100 * MOST || found.len() > MOST {
+        if found.len() > MOST {
             break;
+        }
+        steps += leaving[state].len();
+        if steps > 100 * MOST {
+            return None;
         }
         for &i in &leaving[state] {
             let (a, mut next) = (&t.arcs[i], so_far.clone());
@@ -183,7 +187,7 @@ pub fn in_bytes(bytes: &[u8], from: &[[Option<usize>; 3]], budget: Option<usize>
             found.push(Triple { cost: so_far.cost + weight, ..so_far });
         }
     }
-    found
+    Some(found)
 }
 
 /// What is in one list and not in the other, each as often as it is there.

@@ -31,7 +31,7 @@ mod model;
 #[path = "../second/rng.rs"]
 mod rng;
 
-use brute::{Found, Triple};
+use brute::Found;
 use model::{bytes_of, Table, STILL};
 use rng::Rng;
 use std::time::Instant;
@@ -218,7 +218,10 @@ fn compare(rng: &mut Rng, sides: &[Bracket; 2], found: &Found, seen: &mut Seen) 
         seen.bounded += 1;
     }
     for (side, name) in sides.iter().zip(["first", "second"]) {
-        let paths: Vec<Triple> = brute::in_bytes(&side.bytes, &side.from, *budget);
+        let Some(paths) = brute::in_bytes(&side.bytes, &side.from, *budget) else {
+            seen.unlisted += 1;
+            return Ok(left);
+        };
         if let Some(e) = brute::difference(&paths, triples) {
             return Err(format!("paths of the {name} bracket: {e}"));
         }

@@ -67,7 +67,7 @@ fn loops(rng: &mut Rng, arcs: usize) -> Table {
 }
 
 /// A line of states that writes nothing, or reads nothing.
-fn silent(states: usize, input: u16, output: u16) -> Table {
+pub fn silent(states: usize, input: u16, output: u16) -> Table {
     let arc = |source| Arc { source, input, output, target: source + 1, weight: 1 };
     Table { states, start: 0, finals: vec![(states - 1, 0)], arcs: (0..states - 1).map(arc).collect() }
 }
