@@ -17,9 +17,12 @@
 //   --seed N     seed of the cases; the default is printed
 //   --cases N    how many cases (4,000)
 //   --case K     case K of the seed alone, with its tables
+//   --catalogue FOLDER     instead: the catalogue that bench/catalogue.py makes (catalogue.rs)
 //
 // Exit code 0 when all agree, 1 when not, 2 for a wrong option.
 #![allow(unexpected_cfgs)]
+
+mod catalogue;
 
 // Pairs by following arcs, and random tables, as tests/triples has them.
 #[path = "../triples/brute.rs"]
@@ -292,8 +295,11 @@ fn main() {
     let (mut seed, mut cases, mut only) = (SEED, CASES, None);
     let mut words = std::env::args().skip(1);
     while let Some(word) = words.next() {
-        let number = words.next().and_then(|x| x.parse().ok());
-        match (word.as_str(), number) {
+        let value = words.next().unwrap_or_default();
+        if word == "--catalogue" {
+            std::process::exit(i32::from(!catalogue::run(&value)));
+        }
+        match (word.as_str(), value.parse().ok()) {
             ("--seed", Some(n)) => seed = n,
             ("--cases", Some(n)) => cases = n as usize,
             ("--case", Some(n)) => only = Some(n as usize),
