@@ -1,5 +1,5 @@
 -- The claim is not empty: the string 7 is applied to a transducer of one arc for any symbol, which passes it on, and the lattice is composed with one of
--- an arc 7:4; and for 1:2, 2:3 and the string 1 both orders are not refused. Any bytes may be handed to the count and to the k-th path, in any buffers
+-- an arc 7:4; and for 1:2, 2:3 and the string 1 neither order is refused. Any bytes may be passed to the count and to the k-th path, in any buffers
 -- that are long enough. Assumes nothing.
 use mathlib.Core.Path.{_≡_, refl, sym, subst, _∙_}
 use mathlib.Core.List.{List, [], _∷_}
@@ -32,7 +32,9 @@ use Rattle.claim.proofs.Answers.{applied-well}
 use Rattle.associate.specs.Associate.{Composition, Application, lattice-bytes}
 use Rattle.associate.proofs.Instance.{one-arc, all-bytes, handed-on, composing, applying}
 use Rattle.claim.specs.Listed.{Telling}
-use Rattle.cascade.specs.Cascade.{Cascaded, Chained}
+use Rattle.explore.specs.Explore.{left-behind}
+use Rattle.cascade.specs.Entry.{cascade, cascade-origins, tables-refusal, cascade-refusal}
+use Rattle.cascade.specs.Cascade.{Cascaded, Two-calls, Chained}
 
 -- One arc for any symbol, which passes it on, from state 0 to state 1, which is final.
 unfoldable pub any-arc : (weight : ℕ) → List ℕ
@@ -60,6 +62,7 @@ record Computed : Type 0 where
   ab-fine : compose-refusal a b max-bytes max-origins max-states ≡ 0
   ab-is : encode (composed (decode a) (decode b) .result) ≡ one-arc 1 3 11
   applied-fine : apply-refusal (1 ∷ []) (one-arc 1 3 11) max-bytes max-arcs max-states ≡ 0
+  cascade-fine : cascade-refusal (any-arc 5) c (7 ∷ []) max-bytes max-origins max-states ≡ 0
 
 computed : Computed
 unfolding any-arc one-arc two four low signed-four signed-low places every framed-from framed records-from records kind-good in-order kinds-good weight-at
@@ -70,6 +73,7 @@ unfolding any-arc one-arc two four low signed-four signed-low places every frame
     finals-from steps-from built built-refusal same-state left-alone right-alone both-step left-steps right-steps steps first-state final-state
     state-weight composed compose-room compose-refusal string-good step arc-steps applied same-position applied-steps final-position apply-room apply-refusal
     entered some-arc accessible coaccessible useful arc-useful renumbered kept-arcs kept-finals trimmed lattice
+    tables-refusal cascade-refusal
 computed =
     record {
       any-fine = refl;
@@ -80,6 +84,7 @@ computed =
       ab-fine = refl;
       ab-is = refl;
       applied-fine = refl;
+      cascade-fine = refl;
     }
 
 bytes-all : Bytes (any-arc 5) × Bytes a × Bytes b × Bytes c
@@ -99,9 +104,9 @@ module _ (t o l s : List ℕ) (long-t : max-bytes ≤ length t) (long-o : max-or
   abbrev applies : (cs zs : List ℕ) → apply-refusal cs zs max-bytes max-arcs max-states ≡ 0 → Application cs zs
   applies = applying t o s long-t long-o long-s l long-l
 
-  cascading : (xs ys cs ws : List ℕ) → Bytes xs → Bytes ys → apply-refusal cs xs max-bytes max-arcs max-states ≡ 0
-      → encode (lattice cs (decode xs)) ≡ ws → compose-refusal ws ys max-bytes max-origins max-states ≡ 0 → Cascaded xs ys cs
-  cascading xs ys cs ws bytes-xs bytes-ys fine is well =
+  calling : (xs ys cs ws : List ℕ) → Bytes xs → Bytes ys → apply-refusal cs xs max-bytes max-arcs max-states ≡ 0
+      → encode (lattice cs (decode xs)) ≡ ws → compose-refusal ws ys max-bytes max-origins max-states ≡ 0 → Two-calls xs ys cs
+  calling xs ys cs ws bytes-xs bytes-ys fine is well =
       let put : Application cs xs = applies cs xs fine in
       record {
         left-bytes = bytes-xs;
@@ -111,20 +116,38 @@ module _ (t o l s : List ℕ) (long-t : max-bytes ≤ length t) (long-o : max-or
       }
 
   -- The left transducer has an arc for any symbol.
-  pub some-cascaded : Cascaded (any-arc 5) c (7 ∷ [])
-  some-cascaded = cascading (any-arc 5) c (7 ∷ []) (one-arc 7 7 5) (bytes-all .0) (bytes-all .3) (computed .any-fine) (computed .any-is) (computed .any-c-fine)
+  pub some-two-calls : Two-calls (any-arc 5) c (7 ∷ [])
+  some-two-calls = calling (any-arc 5) c (7 ∷ []) (one-arc 7 7 5) (bytes-all .0) (bytes-all .3) (computed .any-fine) (computed .any-is) (computed .any-c-fine)
 
   -- Both orders.
-  pub some-both : Cascaded a b (1 ∷ []) × Chained a b (1 ∷ [])
+  pub some-both : Two-calls a b (1 ∷ []) × Chained a b (1 ∷ [])
   some-both =
       let made : Composition a b = composes a b (computed .ab-fine) in (
-        cascading a b (1 ∷ []) a (bytes-all .1) (bytes-all .2) (computed .a-fine) (computed .a-is) (computed .ab-fine),
+        calling a b (1 ∷ []) a (bytes-all .1) (bytes-all .2) (computed .a-fine) (computed .a-is) (computed .ab-fine),
         record {
           composing = made;
           applying =
               subst (Application (1 ∷ [])) (sym (handed-on made ∙ computed .ab-is)) (applies (1 ∷ []) (one-arc 1 3 11) (computed .applied-fine));
         },
       )
+
+-- The call with the table, for buffers of exactly the lengths that it asks for: the left transducer has an arc for any symbol.
+pub some-cascaded : (t o s : List ℕ) → max-bytes ≡ length t → max-origins ≡ length o → max-states ≡ length s → Cascaded (any-arc 5) c (7 ∷ [])
+some-cascaded t o s long-t long-o long-s =
+    let number : ℕ = cascade-refusal (any-arc 5) c (7 ∷ []) (length t) (length o) (length s) in
+    record {
+      left-bytes = bytes-all .0;
+      right-bytes = bytes-all .3;
+      answer = record { refusal = number; len = unless number (length (encode (cascade (any-arc 5) c (7 ∷ [])))) };
+      table = t;
+      table-left = left-behind number t (encode (cascade (any-arc 5) c (7 ∷ [])));
+      origins = o;
+      origins-left = left-behind number o (cascade-origins (any-arc 5) c (7 ∷ []));
+      states = s;
+      states-left = left-behind number s [];
+      says = record { refusal-is = refl; len-is = refl; table = refl; origins = refl; work = refl };
+      well = rw (← long-t, ← long-o, ← long-s) (computed .cascade-fine);
+    }
 
 pub some-telling : (bs : List ℕ) (count : ℕ) (x y : List ℕ) → max-path ≤ length x → max-path ≤ length y → Telling bs count
 some-telling bs count x y long-x long-y =

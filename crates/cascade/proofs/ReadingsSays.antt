@@ -1,4 +1,4 @@
--- The answers of the one call: one law for each, in the order of its calls. Assumes nothing.
+-- The answers of the count: one law for each, in the order of the calls. Assumes nothing.
 use mathlib.Core.Path.{_≡_, sym, ap, _∙_}
 use mathlib.Core.Bool.{true, cond}
 use mathlib.Core.List.{List}
@@ -25,20 +25,20 @@ use Rattle.claim.specs.Entry.{application-refusal}
 use Rattle.claim.proofs.Answers.{composed-well, composed-fits, Applied-well, applied-well, applied-fits}
 use Rattle.claim.proofs.HandedOn.{composition-read, composition-accepted, applied-read, applied-good, applied-accepted}
 use Rattle.claim.proofs.ReadingsSays.{Composed-call, Applied-call}
-use Rattle.cascade.specs.Cascade.{Cascaded}
-use Rattle.cascade.specs.Entry.{cascade, tables-refusal, cascade-refusal, readings-refusal, Readings-says}
-use Rattle.cascade.proofs.Cascaded.{claim}
+use Rattle.cascade.specs.Cascade.{Two-calls}
+use Rattle.cascade.specs.Entry.{cascade, tables-refusal, result-refusal, cascade-count-refusal, Cascade-count-says}
+use Rattle.cascade.proofs.Cascaded.{two-calls-claim}
 
 -- A refusal of the cascade is the answer.
-says-refused : (xs ys cs : List ℕ) (n : ℕ) → cascade-refusal xs ys cs ≡ n → (n ≡ 0 → ⊥)
-    → Readings-says xs ys cs (record { refusal = n; count = 0 })
-unfolding readings-refusal
+says-refused : (xs ys cs : List ℕ) (n : ℕ) → result-refusal xs ys cs ≡ n → (n ≡ 0 → ⊥)
+    → Cascade-count-says xs ys cs (record { refusal = n; count = 0 })
+unfolding cascade-count-refusal
 says-refused xs ys cs n is bad =
-    let some : cascade-refusal xs ys cs ≡ 0 → ⊥ = λ none. bad (sym is ∙ none) in
-    let number : readings-refusal xs ys cs ≡ n = some-or-else (cascade-refusal xs ys cs) (cond (endless (cascade xs ys cs)) 14 0) some ∙ is in
+    let some : result-refusal xs ys cs ≡ 0 → ⊥ = λ none. bad (sym is ∙ none) in
+    let number : cascade-count-refusal xs ys cs ≡ n = some-or-else (result-refusal xs ys cs) (cond (endless (cascade xs ys cs)) 14 0) some ∙ is in
     record {
       refusal-is = sym number;
-      count-is = sym (unless-some (readings-refusal xs ys cs) (path-count (cascade xs ys cs)) (λ none. bad (sym number ∙ none)));
+      count-is = sym (unless-some (cascade-count-refusal xs ys cs) (path-count (cascade xs ys cs)) (λ none. bad (sym number ∙ none)));
       counts = λ none. absurd (some none);
     }
 
@@ -48,8 +48,8 @@ module _ (xs ys cs : List ℕ) where
 
   -- The tables' answer
 
-  pub says-unaccepted : (n : ℕ) → n ≡ tables-refusal xs ys → (n ≡ 0 → ⊥) → Readings-says xs ys cs (record { refusal = n; count = 0 })
-  unfolding cascade-refusal
+  pub says-unaccepted : (n : ℕ) → n ≡ tables-refusal xs ys → (n ≡ 0 → ⊥) → Cascade-count-says xs ys cs (record { refusal = n; count = 0 })
+  unfolding result-refusal
   says-unaccepted n is bad =
       says-refused xs ys cs n (some-or-else (tables-refusal xs ys) behind (λ none. bad (is ∙ none)) ∙ sym is) bad
 
@@ -64,8 +64,8 @@ module _ (xs ys cs : List ℕ) where
     good-ys : Good (decode ys)
     good-ys = accepted-good ys bytes-ys (both .1)
 
-    number-behind : cascade-refusal xs ys cs ≡ behind
-    unfolding cascade-refusal
+    number-behind : result-refusal xs ys cs ≡ behind
+    unfolding result-refusal
     number-behind = none-or-else (tables-refusal xs ys) behind none
 
     -- The application's answer
@@ -78,7 +78,7 @@ module _ (xs ys cs : List ℕ) where
       unfolding apply-refusal apply-room application-refusal or-else
       put-number = applying .says .refusal-is ∙ (rw (applying .lattice-room, applying .origins-room, applying .pairs-room, both .0))
 
-      pub says-unapplied : (put .refusal ≡ 0 → ⊥) → Readings-says xs ys cs (record { refusal = put .refusal; count = 0 })
+      pub says-unapplied : (put .refusal ≡ 0 → ⊥) → Cascade-count-says xs ys cs (record { refusal = put .refusal; count = 0 })
       says-unapplied bad =
           says-refused xs ys cs (put .refusal)
           (number-behind
@@ -111,11 +111,11 @@ module _ (xs ys cs : List ℕ) where
               composing .says .refusal-is
               ∙ (rw (composing .table-room, composing .origins-room, composing .states-room, applied-accepted good-xs put-well, both .1, read, all-named))
 
-          number-last : cascade-refusal xs ys cs ≡ built-refusal (cascade xs ys cs)
+          number-last : result-refusal xs ys cs ≡ built-refusal (cascade xs ys cs)
           number-last =
               number-behind ∙ none-or-else (application-refusal cs (decode xs)) (built-refusal (cascade xs ys cs)) (sym put-number ∙ fine)
 
-          pub says-uncomposed : (made .refusal ≡ 0 → ⊥) → Readings-says xs ys cs (record { refusal = made .refusal; count = 0 })
+          pub says-uncomposed : (made .refusal ≡ 0 → ⊥) → Cascade-count-says xs ys cs (record { refusal = made .refusal; count = 0 })
           says-uncomposed bad = says-refused xs ys cs (made .refusal) (number-last ∙ sym made-number) bad
 
           module _ (well : made .refusal ≡ 0) where
@@ -124,8 +124,8 @@ module _ (xs ys cs : List ℕ) where
 
             -- The count's answer
 
-            cascaded : Cascaded xs ys cs
-            cascaded =
+            called : Two-calls xs ys cs
+            called =
                 record {
                   left-bytes = bytes-xs;
                   right-bytes = bytes-ys;
@@ -155,20 +155,20 @@ module _ (xs ys cs : List ℕ) where
                       };
                 }
 
-            pub says-counted : (r : Counted) → Count-says (take (made .len) a') (count-refusal (take (made .len) a')) r → Readings-says xs ys cs r
-            unfolding count-refusal readings-refusal cascaded
+            pub says-counted : (r : Counted) → Count-says (take (made .len) a') (count-refusal (take (made .len) a')) r → Cascade-count-says xs ys cs r
+            unfolding count-refusal cascade-count-refusal called
             says-counted r counting =
                 let zs : List ℕ = take (made .len) a' in
                 let made-well = composed-well ws ys made a a' b b' c c' (composing .says) well in
                 let in-bytes : decode zs ≡ cascade xs ys cs =
                 composition-read good-ws good-ys made-well ∙ ap (λ (t : Transducer). composed t (decode ys) .result) read in
-                let number : count-refusal zs ≡ readings-refusal xs ys cs =
+                let number : count-refusal zs ≡ cascade-count-refusal xs ys cs =
                 none-or-else (refusal zs) (cond (endless (decode zs)) 14 0) (composition-accepted good-ws good-ys made-well)
                 ∙ ap (λ (t : Transducer). cond (endless t) 14 0) in-bytes
                 ∙ sym
-                (none-or-else (cascade-refusal xs ys cs) (cond (endless (cascade xs ys cs)) 14 0) (number-last ∙ sym made-number ∙ well)) in
+                (none-or-else (result-refusal xs ys cs) (cond (endless (cascade xs ys cs)) 14 0) (number-last ∙ sym made-number ∙ well)) in
                 record {
                   refusal-is = counting .refusal-is ∙ number;
                   count-is = counting .count-is ∙ (rw (number, in-bytes));
-                  counts = λ _. claim cascaded .holds .counts (record { answer = r; says = counting });
+                  counts = λ _. two-calls-claim called .holds .counts (record { answer = r; says = counting });
                 }

@@ -11,7 +11,9 @@ ghost use Rattle.paths.specs.Entry.{Count-says, count-refusal, Nth-says, nth-re
 ghost use Rattle.distance.specs.Entry.{Costs-say, costs-refusal};
 ghost use Rattle.shortest.specs.Entry.{Shortest-says, shortest-refusal};
 ghost use Rattle.claim.specs.Entry.{Readings-says};
+ghost use Rattle.cascade.specs.Entry.{Cascade-count-says, Cascade-says, cascade-refusal};
 ghost use Rattle.listing.specs.Entry.{Listing-says, text-room};
+ghost use Rattle.cascade_listing.specs.Entry.{Cascade-listing-says};
 ghost use Rattle.forthwn.specs.Answer.{header, written, counted, told, listed};
 
 // Refusals 1 to 8 of a transducer's bytes, or 0 where they are accepted. Linear in the bytes.
@@ -211,6 +213,45 @@ pub extern "C" fn forthwn_readings(
     answer.refusal
 }
 
+// The cascade in one call: applies a string to the left transducer first, composes the lattice with the right one and puts the number of accepting paths
+// into `count`. The left transducer may have arcs for any symbol. Nothing is lent. Time is that of the three calls.
+#[no_mangle]
+pub extern "C" fn forthwn_cascade_readings(
+    left: &[u8],
+    right: &[u8],
+    string: &[u16],
+    count: &mut u32,
+) -> u32
+    ensures { λ r. ⌜ Cascade-count-says (now (left .entry)) (now (right .entry)) (now (string .entry)) (counted r (now (count .exit))) ⌝ }
+{
+    let answer = cascade::readings(left, right, string);
+    *count = answer.count;
+    answer.refusal
+}
+
+// The result of the cascade into a lent buffer, with an arc of the left transducer and one of the right for each of its arcs, and the number of bytes into
+// `len`; the states are lent to work in. Time is that of applying to the left transducer and of composing the lattice.
+#[no_mangle]
+pub extern "C" fn forthwn_cascade(
+    left: &[u8],
+    right: &[u8],
+    string: &[u16],
+    table: &mut [u8],
+    origins: &mut [u16],
+    states: &mut [u32],
+    len: &mut u32,
+) -> u32
+    ensures { λ r. ⌜ Cascade-says (now (left .entry)) (now (right .entry)) (now (string .entry))
+        (cascade-refusal (now (left .entry)) (now (right .entry)) (now (string .entry))
+        (length (now (table .entry))) (length (now (origins .entry))) (length (now (states .entry))))
+        (written r (now (len .exit))) (now (table .entry)) (now (table .exit)) (now (origins .entry)) (now (origins .exit))
+        (now (states .entry)) (now (states .exit)) ⌝ }
+{
+    let answer = cascade::cascade(left, right, string, table, origins, states);
+    *len = answer.len;
+    answer.refusal
+}
+
 // The listing of two transducers and a code's bytes: the text into a lent buffer, its length into `len`, and into `said` the number of the refusal
 // that the text says. The call itself is refused only by 10. Time is that of `forthwn_readings` and of a walk along each path listed.
 #[no_mangle]
@@ -226,6 +267,26 @@ pub extern "C" fn forthwn_list(
         (listed r (now (len .exit)) (now (said .exit))) (now (out .entry)) (now (out .exit)) ⌝ }
 {
     let answer = listing::list(left, right, code, out);
+    *len = answer.len;
+    *said = answer.said;
+    answer.refusal
+}
+
+// The listing of the cascade of two transducers and a code's bytes, told as by `forthwn_list`: 1 to 8 of both transducers come before 9 of the code. The
+// call itself is refused only by 10. Time is that of `forthwn_cascade_readings` and of a walk along each path listed.
+#[no_mangle]
+pub extern "C" fn forthwn_cascade_list(
+    left: &[u8],
+    right: &[u8],
+    code: &[u8],
+    out: &mut [u8],
+    len: &mut u32,
+    said: &mut u32,
+) -> u32
+    ensures { λ r. ⌜ Cascade-listing-says (now (left .entry)) (now (right .entry)) (now (code .entry)) (text-room (length (now (out .entry))))
+        (listed r (now (len .exit)) (now (said .exit))) (now (out .entry)) (now (out .exit)) ⌝ }
+{
+    let answer = cascade_listing::list(left, right, code, out);
     *len = answer.len;
     *said = answer.said;
     answer.refusal

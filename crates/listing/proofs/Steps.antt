@@ -31,19 +31,19 @@ use Rattle.listing.specs.Text.{listing-text, refused-text, least-room, W
 use Rattle.listing.specs.Entry.{code-refusal, applied-refusal, listing-refusal, text-unless, applied-text, text-of, text-room, Listing-says}
 
 -- What a call wrote at the front of its buffer, by the length that it told.
-front : (n : ℕ) (a a' xs : List ℕ) → a' ≡ filled (length a) xs → n ≡ length xs → (take n a' ≡ xs) × (n ≤ length a')
+pub front : (n : ℕ) (a a' xs : List ℕ) → a' ≡ filled (length a) xs → n ≡ length xs → (take n a' ≡ xs) × (n ≤ length a')
 unfolding filled
 front n a a' xs put many =
     let rest : List ℕ = replicate (length a - length xs) 0 in
     (ap (λ (x : List ℕ). take n x) put ∙ take-at xs rest n (sym many), omega (arith, ap length put ∙ length-append xs rest, many))
 
 -- An answer with the line of a refusal, and one with the text that no refusal keeps back.
-text-refused : {out out' : List ℕ} {w : Listed} (number n : ℕ) (text : List ℕ) → number ≡ n → (n ≡ 0 → ⊥) → Whole out out' w n (refused-text n)
+pub text-refused : {out out' : List ℕ} {w : Listed} (number n : ℕ) (text : List ℕ) → number ≡ n → (n ≡ 0 → ⊥) → Whole out out' w n (refused-text n)
     → Whole out out' w number (text-unless number text)
 unfolding text-unless
 text-refused number n text e h p = rw (e, ne-eqb n 0 h) p
 
-text-kept : {out out' : List ℕ} {w : Listed} (number : ℕ) (text : List ℕ) → number ≡ 0 → Whole out out' w 0 text
+pub text-kept : {out out' : List ℕ} {w : Listed} (number : ℕ) (text : List ℕ) → number ≡ 0 → Whole out out' w 0 text
     → Whole out out' w number (text-unless number text)
 unfolding text-unless
 text-kept number text e p = rw e p
@@ -51,14 +51,14 @@ text-kept number text e p = rw e p
 -- The string
 
 -- A good string is whole among its first labels, one more than a string may have.
-good-whole : (s : List ℕ) → string-good s ≡ true → take most-loaded s ≡ s
+pub good-whole : (s : List ℕ) → string-good s ≡ true → take most-loaded s ≡ s
 unfolding string-good
 good-whole s g =
     let few : length s ≤ max-symbols = leb-true (length s) max-symbols (and-true (leb (length s) max-symbols) (every (λ c. leb 1 c && ltb c barred) s) g .0) in
     take-all most-loaded s (omega arith)
 
 -- Those first labels are good where the string is.
-taken-good : (s : List ℕ) → string-good (take most-loaded s) ≡ string-good s
+pub taken-good : (s : List ℕ) → string-good (take most-loaded s) ≡ string-good s
 unfolding string-good
 taken-good s =
     by-test (leb (length s) max-symbols)

@@ -1,0 +1,3 @@
+-- What the call answers, and what is claimed of the text
+pub mod Entry
+pub mod PrintedCascade
