@@ -93,6 +93,39 @@ mod reader {
             told: *mut [i64; 3],
         ) -> u32;
         fn forthwn_distance(table: *const u8, table_len: usize, cells: *mut i64, cells_len: usize) -> u32;
+        fn forthwn_readings(
+            left: *const u8,
+            left_len: usize,
+            right: *const u8,
+            right_len: usize,
+            string: *const u16,
+            string_len: usize,
+            count: *mut u32,
+        ) -> u32;
+        fn forthwn_cascade(
+            left: *const u8,
+            left_len: usize,
+            right: *const u8,
+            right_len: usize,
+            string: *const u16,
+            string_len: usize,
+            table: *mut u8,
+            table_len: usize,
+            origins: *mut u16,
+            origins_len: usize,
+            states: *mut u32,
+            states_len: usize,
+            len: *mut u32,
+        ) -> u32;
+        fn forthwn_cascade_readings(
+            left: *const u8,
+            left_len: usize,
+            right: *const u8,
+            right_len: usize,
+            string: *const u16,
+            string_len: usize,
+            count: *mut u32,
+        ) -> u32;
     }
 
     // What reading fills: the four buffers at their least lengths, and states, arcs, finals and start.
@@ -235,6 +268,36 @@ mod reader {
             forthwn_shortest(table.as_ptr(), table.len(), a.as_mut_ptr(), a.len(), b.as_mut_ptr(), b.len(), &mut told)
         };
         (refusal, told[0])
+    }
+
+    // The refusal and the count, by both chains.
+    pub fn readings(left: &[u8], right: &[u8], string: &[u16]) -> (u32, u32) {
+        let mut count = 0;
+        let refusal = unsafe {
+            forthwn_readings(left.as_ptr(), left.len(), right.as_ptr(), right.len(), string.as_ptr(), string.len(), &mut count)
+        };
+        (refusal, count)
+    }
+
+    pub fn cascade_readings(left: &[u8], right: &[u8], string: &[u16]) -> (u32, u32) {
+        let mut count = 0;
+        let refusal = unsafe {
+            forthwn_cascade_readings(left.as_ptr(), left.len(), right.as_ptr(), right.len(), string.as_ptr(), string.len(), &mut count)
+        };
+        (refusal, count)
+    }
+
+    // The refusal and the number of bytes.
+    pub fn cascade(left: &[u8], right: &[u8], string: &[u16], c: &mut Composed) -> (u32, u32) {
+        let (a, b, d) = (&mut c.table, &mut c.origins, &mut c.states);
+        let mut len = 0;
+        let refusal = unsafe {
+            forthwn_cascade(
+                left.as_ptr(), left.len(), right.as_ptr(), right.len(), string.as_ptr(), string.len(),
+                a.as_mut_ptr(), a.len(), b.as_mut_ptr(), b.len(), d.as_mut_ptr(), d.len(), &mut len,
+            )
+        };
+        (refusal, len)
     }
 
     pub fn distance(table: &[u8], cells: &mut [i64]) -> u32 {
@@ -444,13 +507,46 @@ fn round_of_catalogues() {
     }
 }
 
+// Runs of labels, each with a 0 behind it.
+fn runs(folder: &str, name: &str) -> Vec<Vec<u16>> {
+    let labels: Vec<u16> = file(folder, name).chunks(2).map(|x| u16::from_le_bytes([x[0], x[1]])).collect();
+    let mut runs: Vec<Vec<u16>> = labels.split(|&x| x == 0).map(<[u16]>::to_vec).collect();
+    runs.pop();
+    runs
+}
+
+// A catalogue of 280 codes behind a correction table for one slip (catalogue.py): for each code one that was typed with a slip, the time for one of them.
+fn round_of_slips(folder: &str) {
+    let (left, right, typed) = (file(folder, "left.tab"), file(folder, "right.tab"), runs(folder, "typed.lab"));
+    let mut made = reader::Composed::new();
+    assert_eq!(reader::compose(&left, &right, &mut made).0, 11, "composed first");
+    for string in &typed {
+        let (refusal, count) = reader::cascade_readings(&left, &right, string);
+        assert!(refusal == 0 && count > 0, "{string:?}: refused {refusal}, {count} readings");
+    }
+    let each = typed.len() as f64;
+    let ns = median_ns(&mut || {
+        for string in &typed {
+            black_box(reader::cascade(black_box(&left), black_box(&right), black_box(string), &mut made));
+        }
+    });
+    println!("slips cascade {:.1}", ns / each);
+    let ns = median_ns(&mut || {
+        for string in &typed {
+            black_box(reader::cascade_readings(black_box(&left), black_box(&right), black_box(string)));
+        }
+    });
+    println!("slips cascade-readings {:.1}", ns / each);
+}
+
 fn round(folder: &str, name: &str) {
     let (left, right) = (file(folder, "left.tab"), file(folder, "right.tab"));
     let (joined, lattice) = (file(folder, "joined.tab"), file(folder, "lattice.tab"));
     let string: Vec<u16> = file(folder, "code.lab").chunks(2).map(|x| u16::from_le_bytes([x[0], x[1]])).collect();
     let mut composed = composed_of(&left, &right, &joined);
     let mut applied = lattice_of(&string, &joined, &lattice);
-    let mut trimmed = reader::Composed::new();
+    let (mut trimmed, mut cascaded) = (reader::Composed::new(), reader::Composed::new());
+    assert_eq!(reader::cascade_readings(&left, &right, &string), reader::readings(&left, &right, &string), "both chains");
     let (mut nth, mut shortest) = (reader::Path::new(), reader::Path::new());
     let last = reader::count(&lattice).1.max(1) - 1;
     let (mut cells, mut joined_cells) = (vec![1; 1024], vec![1; 1024]);
@@ -499,6 +595,15 @@ fn round(folder: &str, name: &str) {
         ("distance", Box::new(|| {
             black_box(reader::distance(black_box(&left), &mut cells) + reader::distance(black_box(&right), &mut cells));
         })),
+        ("readings", Box::new(|| {
+            black_box(reader::readings(black_box(&left), black_box(&right), black_box(&string)));
+        })),
+        ("cascade-readings", Box::new(|| {
+            black_box(reader::cascade_readings(black_box(&left), black_box(&right), black_box(&string)));
+        })),
+        ("cascade", Box::new(|| {
+            black_box(reader::cascade(black_box(&left), black_box(&right), black_box(&string), &mut cascaded));
+        })),
         ("distance-joined", Box::new(|| {
             black_box(reader::distance(black_box(&joined), &mut joined_cells));
         })),
@@ -513,6 +618,7 @@ fn main() {
     for name in std::env::args().skip(2) {
         round(&format!("{folder}/{name}"), &name);
     }
+    round_of_slips(&format!("{folder}/slips"));
     round_of_loops();
     round_of_catalogues();
     round_of_backwards();

@@ -227,6 +227,32 @@ uint32_t forthwn_readings(const uint8_t *left, size_t left_len, const uint8_t *r
 uint32_t forthwn_list(const uint8_t *left, size_t left_len, const uint8_t *right, size_t right_len,
                       const uint8_t *code, size_t code_len, uint8_t *out, size_t out_len, uint32_t *len, uint32_t *said);
 
+/* The cascade: applies a string of 0 to 64 symbols to the left table first, and composes the lattice, trimmed, with the right table. It takes
+ * pairs of tables whose composition is too large, as a correction table beside a catalogue; and the left table may have arcs for any
+ * symbol, since a lattice has none. The bytes of that composition, untrimmed, go into `table`, their number into *len, and for each of its
+ * arcs two origins, the arc of the left table and the arc of the right one, FORTHWN_STOOD_STILL where that side stood still. Its
+ * accepting paths stand one to one with those of forthwn_apply on forthwn_compose where those are not refused; states and arcs are numbered
+ * otherwise. `states` is lent to work in.
+ * Lent: FORTHWN_TABLE_LEN bytes, FORTHWN_ORIGINS_LEN origins, FORTHWN_STATES_LEN states.
+ * Refusals: 1 to 8 of the left table, 1 to 8 of the right one, 9, 10, 11 and 12 of the lattice before it is trimmed, then 11 to 13 of the
+ * composition; never 18. Time is that of forthwn_apply on the left table and of forthwn_compose on the lattice. */
+uint32_t forthwn_cascade(const uint8_t *left, size_t left_len, const uint8_t *right, size_t right_len,
+                         const uint16_t *string, size_t string_len, uint8_t *table, size_t table_len,
+                         uint16_t *origins, size_t origins_len, uint32_t *states, size_t states_len, uint32_t *len);
+
+/* The number of accepting paths (readings) of the cascade into *count, FORTHWN_MANY (99) standing for 99 or more; the count of
+ * forthwn_readings where neither is refused before it. Nothing is lent; the call works on its stack.
+ * Refusals: those of forthwn_cascade without 10, then 14. Time is that of forthwn_cascade and forthwn_count. */
+uint32_t forthwn_cascade_readings(const uint8_t *left, size_t left_len, const uint8_t *right, size_t right_len,
+                                  const uint16_t *string, size_t string_len, uint32_t *count);
+
+/* The listing of the cascade as text, in the form of forthwn_list and lent as there.
+ * Lent: FORTHWN_TEXT_LEN bytes. Returns 0, or 10 where fewer are lent; then *len and *said are 0.
+ * Said: 1 to 8 of the left table, 1 to 8 of the right one, 9 (an odd last byte too), 11 and 12 of the lattice, 11 to 13 of the composition.
+ * Time is that of forthwn_cascade_readings and of walking along each path that is listed. */
+uint32_t forthwn_cascade_list(const uint8_t *left, size_t left_len, const uint8_t *right, size_t right_len,
+                              const uint8_t *code, size_t code_len, uint8_t *out, size_t out_len, uint32_t *len, uint32_t *said);
+
 #ifdef __cplusplus
 }
 #endif

@@ -28,6 +28,14 @@ readings 2
 0 0 21
 1 4 20 30
 
+`cascade`, `cascade_readings` and `cascade_listing` apply the code to the left table before anything is composed, for tables whose composition
+would be too large; the left table may have arcs for any symbol:
+
+>>> cascade_readings(left, right, [2])
+2
+>>> [path.labels for path in paths(cascade(left, right, [2]).table)]
+[[21], [20, 30]]
+
 A refusal is an exception with a number, a name and words:
 
 >>> count(b"no table")
@@ -126,13 +134,13 @@ class Path(NamedTuple):
 
 
 class Origin(NamedTuple):
-    """The left arc and the right arc that an arc of a composition came from; None for a side that stood still."""
+    """The left arc and the right arc that an arc of a composition or of a cascade came from; None for a side that stood still."""
     left: Optional[int]
     right: Optional[int]
 
 
 class Composed(NamedTuple):
-    """A composition's bytes, untrimmed, and for each of its arcs where it came from."""
+    """The bytes of a composition or of a cascade, untrimmed, and for each of its arcs where it came from."""
     table: bytes
     origins: List[Origin]
 
@@ -177,6 +185,9 @@ def _load():
         "forthwn_distance": [*table * 2],
         "forthwn_readings": [*table * 3, told],
         "forthwn_list": [*table * 4, told, told],
+        "forthwn_cascade": [*table * 6, told],
+        "forthwn_cascade_readings": [*table * 3, told],
+        "forthwn_cascade_list": [*table * 4, told, told],
     }.items():
         function = getattr(library, name)
         function.argtypes, function.restype = arguments, _u32
@@ -271,6 +282,23 @@ def compose(left, right) -> Composed:
     """Composes two tables. Refusals 1 to 8 of the left one, 18 where it has an arc of input 65535, 1 to 8 of the right one, 11 to 13."""
     table, origins, length = (_u8 * _TABLE)(), (_u16 * _ORIGINS)(), _u32()
     _call("forthwn_compose", _bytes(left), _bytes(right), table, origins, (_u32 * _STATES)(), length)
+    return _composed(table, origins, length)
+
+
+def cascade(left, right, string: Sequence[int]) -> Composed:
+    """Applies a string of 0 to 64 symbols to the left table and composes its lattice with the right one; origins are arcs of the two tables.
+    The left table may have arcs of input 65535. Refusals 1 to 8 of the left one, 1 to 8 of the right one, 9, 11 and 12 of the lattice, 11 to 13.
+
+    >>> one = Table(1, 0, [Final(0, 0)], [Arc(0, ANY, ANY, 0, 1)])
+    >>> cascade(write(one), write(one), [7]).origins
+    [Origin(left=0, right=0)]
+    """
+    table, origins, length = (_u8 * _TABLE)(), (_u16 * _ORIGINS)(), _u32()
+    _call("forthwn_cascade", _bytes(left), _bytes(right), _labels(string), table, origins, (_u32 * _STATES)(), length)
+    return _composed(table, origins, length)
+
+
+def _composed(table, origins, length) -> Composed:
     made = bytes(table[: length.value])
     moved = [None if x == _STOOD_STILL else x for x in origins[: 2 * _arcs(made)]]
     return Composed(made, [Origin(*x) for x in zip(moved[::2], moved[1::2])])
@@ -365,12 +393,32 @@ def readings(left, right, string: Sequence[int]) -> int:
     return number.value
 
 
+def cascade_readings(left, right, string: Sequence[int]) -> int:
+    """The number of readings by the cascade, in one call; MANY (99) stands for 99 or more. Refusals: those of cascade, then 14."""
+    number = _u32()
+    _call("forthwn_cascade_readings", _bytes(left), _bytes(right), _labels(string), number)
+    return number.value
+
+
 def listing(left, right, code) -> Listing:
     """The readings as text, for a code of two bytes for each label, the lower one first; a refusal of the tables or the code is a text too.
 
     >>> listing(b"", b"", b"")
     Listing(text='refused 2\\n', said=Refusal(2))
     """
+    return _listed("forthwn_list", left, right, code)
+
+
+def cascade_listing(left, right, code) -> Listing:
+    """The readings by the cascade as text, in the form of listing.
+
+    >>> cascade_listing(b"", b"", b"").text
+    'refused 2\\n'
+    """
+    return _listed("forthwn_cascade_list", left, right, code)
+
+
+def _listed(name, left, right, code) -> Listing:
     out, length, said = (_u8 * _TEXT)(), _u32(), _u32()
-    _call("forthwn_list", _bytes(left), _bytes(right), _bytes(code), out, length, said)
+    _call(name, _bytes(left), _bytes(right), _bytes(code), out, length, said)
     return Listing(bytes(out[: length.value]).decode("ascii"), Refusal(said.value) if said.value else None)

@@ -83,6 +83,35 @@ static void chain(void) {
     CHECK(said == FORTHWN_CUT_SHORT && strcmp((const char *)text, "refused 1\n") == 0 && len == 10);
 }
 
+/* The cascade: count and text are those of the chain, the origins are arcs of both tables, and the left one may read any symbol. */
+static void cascade(void) {
+    static const uint16_t ends[] = {0}, any[] = {0, FORTHWN_ANY, FORTHWN_ANY, 0};
+    static const forthwn_weight end_weights[] = {0}, weights[] = {1};
+    static uint8_t copies[FORTHWN_TABLE_LEN];
+    uint32_t len, copies_len, count, said;
+    forthwn_path path;
+    CHECK(forthwn_cascade(left, left_len, right, right_len, string, 2, table, FORTHWN_TABLE_LEN, origins, FORTHWN_ORIGINS_LEN,
+                          states, FORTHWN_STATES_LEN, &len) == FORTHWN_OK);
+    CHECK(forthwn_count(table, len, &count) == FORTHWN_OK && count == 2);
+    CHECK(forthwn_shortest(table, len, arcs, FORTHWN_PATH_LEN, labels, FORTHWN_PATH_LEN, &path) == FORTHWN_OK);
+    CHECK(path.cost == 3 && path.labels == 3 && labels[0] == 20 && labels[1] == 22 && labels[2] == 30);
+    size_t left_arcs = (size_t)left[6] + 256 * (size_t)left[7], right_arcs = (size_t)right[6] + 256 * (size_t)right[7];
+    for (size_t i = 0; i < path.arcs; i++) {
+        CHECK(origins[2 * arcs[i]] < left_arcs || origins[2 * arcs[i]] == FORTHWN_STOOD_STILL);
+        CHECK(origins[2 * arcs[i] + 1] < right_arcs || origins[2 * arcs[i] + 1] == FORTHWN_STOOD_STILL);
+    }
+    for (size_t i = len; i < FORTHWN_TABLE_LEN; i++) CHECK(table[i] == 0);
+    for (size_t i = 0; i < FORTHWN_STATES_LEN; i++) CHECK(states[i] == 0);
+    CHECK(forthwn_cascade_readings(left, left_len, right, right_len, string, 2, &count) == FORTHWN_OK && count == 2);
+    CHECK(forthwn_cascade_list(left, left_len, right, right_len, code, code_len, text, FORTHWN_TEXT_LEN, &len, &said) == FORTHWN_OK && said == 0);
+    CHECK(strcmp((const char *)text, "readings 2\n0 3 20 22 30\n1 8 20 21\n") == 0 && strlen((const char *)text) == len);
+    CHECK(forthwn_write(1, 1, 1, 0, ends, 1, end_weights, 1, any, 4, weights, 1, copies, FORTHWN_TABLE_LEN, &copies_len) == FORTHWN_OK);
+    CHECK(forthwn_cascade_readings(copies, copies_len, copies, copies_len, string, 2, &count) == FORTHWN_OK && count == 1);
+    CHECK(forthwn_cascade_readings(copies, copies_len, right, 3, NULL, 0, &count) == FORTHWN_CUT_SHORT && count == 0);
+    CHECK(forthwn_cascade_list(copies, copies_len, right, right_len, code, 1, text, FORTHWN_TEXT_LEN, &len, &said) == FORTHWN_OK);
+    CHECK(said == FORTHWN_BAD_CODE && strcmp((const char *)text, "refused 9\n") == 0 && len == 10);
+}
+
 /* Weights and costs below 0, and a cycle below 0, which refuses a shortest path and leaves the buffers. */
 static void signs(void) {
     static const uint16_t ends[] = {1};
@@ -148,6 +177,13 @@ static void null_of_length_0(void) {
     CHECK(forthwn_readings(left, left_len, right, right_len, NULL, 0, &count) == FORTHWN_OK && count == 0);
     CHECK(forthwn_list(NULL, 0, NULL, 0, NULL, 0, text, FORTHWN_TEXT_LEN, &len, &said) == FORTHWN_OK && said == FORTHWN_BAD_RECORDS);
     CHECK(forthwn_list(NULL, 0, NULL, 0, NULL, 0, NULL, 0, &len, &said) == FORTHWN_SHORT_BUFFER && len == 0 && said == 0);
+    len = count = said = 1;
+    CHECK(forthwn_cascade(NULL, 0, NULL, 0, NULL, 0, NULL, 0, NULL, 0, NULL, 0, &len) == FORTHWN_BAD_RECORDS && len == 0);
+    CHECK(forthwn_cascade(left, left_len, right, right_len, NULL, 0, NULL, 0, NULL, 0, NULL, 0, &len) == FORTHWN_SHORT_BUFFER && len == 0);
+    CHECK(forthwn_cascade_readings(NULL, 0, NULL, 0, NULL, 0, &count) == FORTHWN_BAD_RECORDS && count == 0);
+    CHECK(forthwn_cascade_readings(left, left_len, right, right_len, NULL, 0, &count) == FORTHWN_OK && count == 0);
+    CHECK(forthwn_cascade_list(NULL, 0, NULL, 0, NULL, 0, text, FORTHWN_TEXT_LEN, &len, &said) == FORTHWN_OK && said == FORTHWN_BAD_RECORDS);
+    CHECK(forthwn_cascade_list(NULL, 0, NULL, 0, NULL, 0, NULL, 0, &len, &said) == FORTHWN_SHORT_BUFFER && len == 0 && said == 0);
 }
 
 /* Refused by 10, and every buffer still holds what it held. */
@@ -170,6 +206,10 @@ static void one_cell_short(void) {
     CHECK(forthwn_trim(left, left_len, table, FORTHWN_TABLE_LEN, origins, FORTHWN_LATTICE_ORIGINS_LEN - 1, &len) == FORTHWN_SHORT_BUFFER);
     CHECK(forthwn_nth(left, left_len, 0, arcs, FORTHWN_PATH_LEN, labels, FORTHWN_PATH_LEN - 1, &path) == FORTHWN_SHORT_BUFFER);
     CHECK(forthwn_list(left, left_len, right, right_len, code, code_len, text, FORTHWN_TEXT_LEN - 1, &len, &said) == FORTHWN_SHORT_BUFFER);
+    CHECK(len == 0 && said == 0);
+    CHECK(forthwn_cascade(left, left_len, right, right_len, string, 2, table, FORTHWN_TABLE_LEN, origins, FORTHWN_ORIGINS_LEN,
+                          states, FORTHWN_STATES_LEN - 1, &len) == FORTHWN_SHORT_BUFFER);
+    CHECK(forthwn_cascade_list(left, left_len, right, right_len, code, code_len, text, FORTHWN_TEXT_LEN - 1, &len, &said) == FORTHWN_SHORT_BUFFER);
     CHECK(len == 0 && said == 0);
     for (size_t i = 0; i < sizeof table; i++) CHECK(table[i] == 7);
     for (size_t i = 0; i < FORTHWN_ORIGINS_LEN; i++) CHECK(origins[i] == 0x0707);
@@ -204,6 +244,10 @@ static void *one_call(void *number) {
     case 10: forthwn_readings(left, left_len, right, right_len, string, 2, ignored); break;
     case 11: forthwn_list(left, left_len, right, right_len, code, code_len, text, FORTHWN_TEXT_LEN, ignored, ignored + 1); break;
     case 12: forthwn_distance(left, left_len, cells, FORTHWN_CELLS_LEN); break;
+    case 13: forthwn_cascade(left, left_len, right, right_len, string, 2, table, FORTHWN_TABLE_LEN, origins, FORTHWN_ORIGINS_LEN,
+                             states, FORTHWN_STATES_LEN, ignored); break;
+    case 14: forthwn_cascade_readings(left, left_len, right, right_len, string, 2, ignored); break;
+    case 15: forthwn_cascade_list(left, left_len, right, right_len, code, code_len, text, FORTHWN_TEXT_LEN, ignored, ignored + 1); break;
     default: break;
     }
     return NULL;
@@ -228,9 +272,9 @@ static size_t stack_taken(int number) {
 
 static void stacks(void) {
     static const char *const names[] = {"", "refusal", "read", "write", "compose", "apply", "trim", "count", "nth", "shortest", "readings", "list",
-                                        "distance"};
+                                        "distance", "cascade", "cascade_readings", "cascade_list"};
     size_t nothing = stack_taken(0);
-    for (int i = 1; i <= 12; i++) {
+    for (int i = 1; i <= 15; i++) {
         size_t taken = stack_taken(i) - nothing;
         printf("%s %lu\n", names[i], (unsigned long)taken);
         CHECK(taken <= FORTHWN_STACK);
@@ -250,6 +294,7 @@ int main(int argc, char **argv) {
     read_and_written(left, left_len);
     read_and_written(right, right_len);
     chain();
+    cascade();
     signs();
     costs_to_come();
     null_of_length_0();

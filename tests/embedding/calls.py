@@ -72,6 +72,29 @@ class Calls(unittest.TestCase):
         self.assertEqual(forthwn.readings(LEFT, RIGHT, [7, 3]), 2)
         self.assertEqual(forthwn.listing(LEFT, RIGHT, CODE).text, "readings 2\n0 3 20 22 30\n1 8 20 21\n")
 
+    def test_a_path_of_a_cascade_leads_to_its_pair(self):
+        composed = forthwn.compose(LEFT, RIGHT)
+        lattice = forthwn.apply([7, 3], composed.table)
+        cascade = forthwn.cascade(LEFT, RIGHT, [7, 3])
+
+        def pair(steps):
+            return [x.left for x in steps if x.left is not None], [x.right for x in steps if x.right is not None]
+
+        chained = [(pair([composed.origins[lattice.origins[i]] for i in x.arcs]), x.cost, x.labels) for x in forthwn.paths(lattice.table)]
+        cascaded = [(pair([cascade.origins[i] for i in x.arcs]), x.cost, x.labels) for x in forthwn.paths(cascade.table)]
+        self.assertEqual(sorted(cascaded), sorted(chained))
+        self.assertEqual(forthwn.cascade_readings(LEFT, RIGHT, [7, 3]), 2)
+        self.assertEqual(forthwn.cascade_listing(LEFT, RIGHT, CODE), forthwn.listing(LEFT, RIGHT, CODE))
+        copies = forthwn.write(Table(1, 0, [Final(0, 0)], [Arc(0, forthwn.ANY, forthwn.ANY, 0, 1)]))
+        self.assertEqual(forthwn.shortest(forthwn.cascade(copies, copies, [7, 3]).table).labels, [7, 3])
+        self.refused(2, forthwn.cascade, b"", LEFT[:3], [0])
+        self.refused(1, forthwn.cascade, copies, LEFT[:3], [0])
+        self.refused(9, forthwn.cascade, copies, LEFT, [0])
+        self.refused(14, forthwn.cascade_readings, forthwn.write(Table(1, 0, [Final(0, 0)], [Arc(0, 0, 7, 0, 2)])), copies, [])
+        self.refused(12, forthwn.cascade, *[forthwn.write(Table(1, 0, [Final(0, 0)], [Arc(0, 7, 7, 0, 0)] * 56))] * 2, [7])
+        self.assertEqual(forthwn.cascade_listing(copies, LEFT[:3], b"\7").text, "refused 1\n")
+        self.assertRaises(TypeError, forthwn.cascade_readings, LEFT, RIGHT, CODE)
+
     def test_refusals(self):
         one = forthwn.write(Table(1, 0, [Final(0, 0)], []))
         ring = forthwn.write(Table(1, 0, [Final(0, 0)], [Arc(0, 0, 7, 0, 2)]))

@@ -11,12 +11,14 @@
 //   - from 1 to 98 paths: the cost and the output of every path, as two sorted lists;
 //   - the states, arcs and finals of the lattice, and of the composition trimmed, each made by OpenFst from our composition;
 //   - the same numbers of OpenFst's own composition, where they must agree. OpenFst gives a left state without empty outputs no second
-//     mark, so that must be where the right side has no empty input or every left state has an empty output.
+//     mark, so that must be where the right side has no empty input or every left state has an empty output;
+//   - count, least cost, paths and trimmed sizes of the cascade, OpenFst composing the string, the left transducer and the right one in this order; then
+//     again with arcs for any symbol on the left, written out for the symbols of the string.
 // Left out: pairs that end in 11, 12 or 13, since OpenFst has no such limits. Bytes that are no table (1 to 8), strings that are
 // refused (9), short buffers (10), path order, origins and ties are not compared here: OpenFst has none of them.
 // OpenFst's composition has no label for any symbol: it gets such arcs of the right table written out, one for each symbol that the left one
 // writes and no arc of their state names. What is compared stays the same, since each of these is read in one way.
-// PLANT is none, or a fault of OpenFst's side to show that differences are found: filter, weight, arcs, sign, any or named.
+// PLANT is none, or a fault of OpenFst's side to show that differences are found: filter, weight, arcs, sign, any, named or left.
 #include <fst/arcsort.h>
 #include <fst/compose.h>
 #include <fst/connect.h>
@@ -69,8 +71,15 @@ static Fst build(const Bytes &b) {
   return t;
 }
 
-// The right transducer with arcs for any symbol written out, for the symbols that the left one writes and no arc of their state names.
-static Fst written_out(const Fst &left, const Fst &right) {
+static bool has_any(const Bytes &b) {
+  for (size_t at = 12 + 10 * (size_t)u16_at(b, 8); at < b.size(); at += 16)
+    if (u16_at(b, at + 6) == ANY) return true;
+  return false;
+}
+
+// The right transducer with arcs for any symbol written out, for the symbols that the left one writes and no arc of their state names; all of them where a
+// fault is planted.
+static Fst written_out(const Fst &left, const Fst &right, bool faulty = plant == "named") {
   std::set<int> symbols;
   for (int s = 0; s < left.NumStates(); ++s)
     for (fst::ArcIterator<Fst> it(left, s); !it.Done(); it.Next())
@@ -80,7 +89,7 @@ static Fst written_out(const Fst &left, const Fst &right) {
   for (int s = 0; s < right.NumStates(); ++s) {
     t.DeleteArcs(s);
     std::set<int> named;
-    for (fst::ArcIterator<Fst> it(right, s); !it.Done() && plant != "named"; it.Next()) named.insert(it.Value().ilabel);
+    for (fst::ArcIterator<Fst> it(right, s); !it.Done() && !faulty; it.Next()) named.insert(it.Value().ilabel);
     for (fst::ArcIterator<Fst> it(right, s); !it.Done(); it.Next()) {
       const Arc &a = it.Value();
       if (a.ilabel != ANY) {
@@ -295,8 +304,60 @@ static std::string left_out(uint32_t refused) {
   return "";
 }
 
-// What differs first; empty where nothing does.
-static std::string compared(const Case &c) {
+// Count, least cost and, where there are few, all paths, beside those of OpenFst's connected result.
+static std::string told(const std::string &where, const Bytes &b, const Fst &result) {
+  const int n = our_count(b);
+  ++tally[where + kind_of(n)];
+  if (n != count(result)) return differ((where + "count").c_str(), n, count(result));
+  const double least = our_least(b);
+  const bool endless_saving = cycle_below_zero(result);
+  if ((least == NO_LEAST) != endless_saving) return differ((where + "a cycle below zero").c_str(), least == NO_LEAST, endless_saving);
+  ++tally[where + (endless_saving ? "a cycle below zero" : least == NONE ? "no cost" : least < 0 ? "least cost below 0" : "least cost from 0")];
+  if (!endless_saving && least != least_cost(result)) return differ((where + "least cost").c_str(), least, least_cost(result));
+  if (!endless_saving && least != cost_of_path(result)) return differ((where + "cost of the shortest path").c_str(), least, cost_of_path(result));
+  if (n >= 1 && n <= 98) {
+    std::vector<Reading> ours, theirs;
+    Reading none;
+    for (int k = 0; k < n; ++k) ours.push_back(our_path(b, k));
+    paths(result, result.Start(), none, theirs);
+    std::sort(ours.begin(), ours.end());
+    std::sort(theirs.begin(), theirs.end());
+    for (int k = 0; k < n; ++k)
+      if (ours[k] != theirs[k]) return differ((where + "costs and outputs of the paths, sorted: first difference at").c_str(), k, k);
+    ++tally[where + "every path compared"];
+  }
+  return "";
+}
+
+// The cascade beside OpenFst's composition of the string, the left transducer and the right one, in this order.
+static std::string cascaded(const Bytes &left_bytes, const Case &c) {
+  const std::string where = "string first, ";
+  uint32_t len = 0;
+  uint32_t refused = forthwn_cascade(left_bytes.data(), left_bytes.size(), c.right.data(), c.right.size(), c.string.data(), c.string.size(),
+                                     table.data(), table.size(), origins.data(), origins.size(), states.data(), states.size(), &len);
+  uint32_t n = 0;
+  const uint32_t one_call = forthwn_cascade_readings(left_bytes.data(), left_bytes.size(), c.right.data(), c.right.size(), c.string.data(),
+                                                     c.string.size(), &n);
+  if (refused >= 11 && refused <= 13) {
+    ++tally[where + "left out, " + std::to_string(refused)];
+    return one_call == refused ? "" : differ("string first, the refusal of the one call", one_call, refused);
+  }
+  if (refused) return differ("cascade refuses", refused, 0);
+  const Bytes made = front(table, len);
+  if ((one_call == FORTHWN_ENDLESS ? ENDLESS : (int)n) != our_count(made)) return differ("string first, the one call", n, our_count(made));
+  const Fst string = acceptor(c.string), left = written_out(string, build(left_bytes), plant == "left");
+  const Fst lattice_of = connected(compose(string, left)), right = written_out(lattice_of, build(c.right));
+  const Fst composed = connected(compose(lattice_of, right));
+  std::string said = told(where, made, composed);
+  if (!said.empty() || !same_states(lattice_of, right)) return said;
+  refused = forthwn_trim(made.data(), made.size(), trimmed.data(), trimmed.size(), lattice_origins.data(), lattice_origins.size(), &len);
+  if (refused) return differ("string first, trim refuses", refused, 0);
+  ++tally[where + "states compared"];
+  return sizes("string first, OpenFst's composition", front(trimmed, len), composed);
+}
+
+// The first chain: composed, then applied.
+static std::string chained(const Case &c) {
   uint32_t len = 0;
   uint32_t refused = forthwn_compose(c.left.data(), c.left.size(), c.right.data(), c.right.size(), table.data(), table.size(),
                                      origins.data(), origins.size(), states.data(), states.size(), &len);
@@ -314,26 +375,8 @@ static std::string compared(const Case &c) {
 
   const Fst left = build(c.left), right = written_out(left, build(c.right)), string = acceptor(c.string);
   const Fst composed = compose(left, right), result = connected(compose(string, composed));
-  const int n = our_count(applied);
-  ++tally[kind_of(n)];
-  if (n != count(result)) return differ("count", n, count(result));
-  const double least = our_least(applied);
-  const bool endless_saving = cycle_below_zero(result);
-  if ((least == NO_LEAST) != endless_saving) return differ("a cycle below zero", least == NO_LEAST, endless_saving);
-  ++tally[endless_saving ? "a cycle below zero" : least == NONE ? "no cost" : least < 0 ? "least cost below 0" : "least cost from 0"];
-  if (!endless_saving && least != least_cost(result)) return differ("least cost", least, least_cost(result));
-  if (!endless_saving && least != cost_of_path(result)) return differ("cost of the shortest path", least, cost_of_path(result));
-  if (n >= 1 && n <= 98) {
-    std::vector<Reading> ours, theirs;
-    Reading none;
-    for (int k = 0; k < n; ++k) ours.push_back(our_path(applied, k));
-    paths(result, result.Start(), none, theirs);
-    std::sort(ours.begin(), ours.end());
-    std::sort(theirs.begin(), theirs.end());
-    for (int k = 0; k < n; ++k)
-      if (ours[k] != theirs[k]) return differ("costs and outputs of the paths, sorted: first difference at", k, k);
-    ++tally["every path compared"];
-  }
+  const std::string first = told("", applied, result);
+  if (!first.empty()) return first;
   for (const Bytes &b : {c.left, c.right, joined, applied}) {
     const std::string far = distances(b);
     if (!far.empty()) return far;
@@ -348,12 +391,21 @@ static std::string compared(const Case &c) {
   return said;
 }
 
+// What differs first; empty where nothing does. The cascade is compared with the left transducer as it is, and with one that has arcs for any symbol.
+static std::string compared(const Case &c) {
+  std::string said = has_any(c.left) ? "" : chained(c);
+  if (said.empty()) said = cascaded(c.left, c);
+  if (said.empty() && !c.any_left.empty()) said = cascaded(c.any_left, c);
+  return said;
+}
+
 static void save(const std::string &folder, const Case &c) {
   mkdir(folder.c_str(), 0777);
   auto put = [&](const char *name, const void *p, size_t n) {
     std::ofstream(folder + "/" + name, std::ios::binary).write((const char *)p, n);
   };
   put("left.tab", c.left.data(), c.left.size());
+  put("left-any.tab", c.any_left.data(), c.any_left.size());
   put("right.tab", c.right.data(), c.right.size());
   put("code.lab", c.string.data(), 2 * c.string.size());
 }
@@ -364,7 +416,7 @@ static Bytes slurp(const std::string &path) {
 }
 
 static int one_folder(const std::string &folder) {
-  Case c{slurp(folder + "/left.tab"), slurp(folder + "/right.tab"), {}};
+  Case c{slurp(folder + "/left.tab"), slurp(folder + "/right.tab"), {}, {}};
   const Bytes code = slurp(folder + "/code.lab");
   for (size_t i = 0; i + 1 < code.size(); i += 2) c.string.push_back(u16_at(code, i));
   const std::string said = compared(c);

@@ -14,9 +14,11 @@ using Labels = std::vector<uint16_t>;
 // As an input it reads any symbol that its state does not name, as an output it passes on the symbol read.
 constexpr int ANY = 65535;
 
+// The left transducer once more with arcs for any symbol, which composing refuses and the cascade takes; empty where there is none.
 struct Case {
   Bytes left, right;
   Labels string;
+  Bytes any_left;
 };
 
 // splitmix64
@@ -180,7 +182,12 @@ static Case make_case(uint64_t seed, uint64_t number) {
   if (r.chance(1, 3))
     for (auto &a : right.arcs)
       if (a.input && r.chance(1, 3)) a.input = ANY, a.output = r.chance(1, 2) ? ANY : a.output;
-  return {left.bytes(), right.bytes(), string};
+  // Likewise on the left, for the cascade.
+  Table any = left;
+  bool some = false;
+  for (auto &a : any.arcs)
+    if (a.input && r.chance(1, 3)) a.input = ANY, a.output = r.chance(1, 2) ? ANY : a.output, some = true;
+  return {left.bytes(), right.bytes(), string, some ? any.bytes() : Bytes()};
 }
 
 #endif

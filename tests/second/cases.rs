@@ -254,6 +254,17 @@ fn corrections(rng: &mut Rng) -> (Draft, Draft, Vec<u16>) {
     (left, right, code)
 }
 
+/// A left table with arcs for any symbol, which composing refuses and the
+/// cascade takes, and a string along one of its paths.
+fn any_first(rng: &mut Rng) -> (Draft, Draft, Vec<u16>) {
+    let mut left = if rng.chance(1, 4) { ring(rng) } else { small(rng, 5, 9) };
+    with_any(rng, &mut left, 1);
+    let code = string(rng, &left);
+    let mut right = small(rng, 4, 9);
+    with_any(rng, &mut right, 3);
+    (left, right, code)
+}
+
 /// A pair with at least one reading: a random path of the left table is
 /// made accepting, and the right table gets a path that reads its output.
 fn matched(rng: &mut Rng) -> (Draft, Draft, Vec<u16>) {
@@ -839,9 +850,68 @@ pub fn fixed() -> Vec<Case> {
         out.push(given("string length", loops(1, 1, 2, 1), loops(1, 2, 2, 1), &vec![1; n], ok));
     }
     out.extend(any_symbol());
+    out.extend(cascades());
     for bad in [0, 65_535] {
         out.push(given("string with a barred label", loops(1, 1, 2, 1), copy(), &[1, bad, 1], ok));
     }
+    out
+}
+
+/// Pairs that differ between the two chains: what one takes and the other
+/// refuses, and what is refused in the lattice or only in its composition.
+fn cascades() -> Vec<Case> {
+    let any = 65_535;
+    let one = Draft::new(1, 0, &[(0, 0)], &[]);
+    // Composed first, more than 1,024 states; the trimmed lattice of the string has two.
+    let wide = |n: usize, input: u16| {
+        let arcs: Vec<Given> = (1..n).flat_map(|s| [(0, input, 2, s, 1), (s, 0, 3, s, 1)]).collect();
+        Draft::new(n, 0, &[(n - 1, 0)], &arcs)
+    };
+    let mut out = vec![given("too wide to compose", wide(40, 1), wide(40, 2), &[1], Some(11))];
+    // 11 in the lattice: 17 states that each of 64 places reaches.
+    let grid: Vec<Given> = (0..17).flat_map(|s| [(s, 1, 3, s, 0), (s, 0, 0, (s + 1) % 17, 1)]).collect();
+    out.push(given("11 in the lattice", Draft::new(17, 0, &[(16, 0)], &grid), one.clone(), &[1; 64], None));
+    // The same with a right table of 12: the lattice's 11 comes first.
+    out.push(given("11 in the lattice, 12 behind", Draft::new(17, 0, &[(16, 0)], &grid), loops(3_072, 3, 3, 0), &[1; 64], None));
+    // 12 in the lattice, whose untrimmed arcs count.
+    let dead: Vec<Given> = (0..3_072).map(|i| (i % 2, 1, 2, 1, 0)).collect();
+    out.push(given("12 in the lattice, nothing accepts", Draft::new(3, 0, &[(2, 0)], &dead), one.clone(), &[1; 4], None));
+    // Only what is trimmed away would make the composition too large.
+    let mut arcs: Vec<Given> = vec![(0, 1, 9, 1, 0)];
+    arcs.extend((2..600).map(|s| (0, 1, 2, s, 0)));
+    let side = Draft::new(600, 0, &[(1, 0)], &arcs);
+    out.push(given("small only where trimmed", side, wide(4, 2), &[1], None));
+    // 11, 12 and 13 in the composition alone.
+    out.push(given("11 behind the lattice", line(65, 1, 0, 0), line(17, 0, 7, 0), &[1; 64], None));
+    out.push(given("12 behind the lattice", like_arcs(56, 1, 2, 0), like_arcs(55, 2, 3, 0), &[1], None));
+    out.push(given("13 behind the lattice", one_arc(1, 2, 600_000, 0), one_arc(2, 3, 400_001, 0), &[1], None));
+    out.push(given("13 off the string", one_arc(1, 2, 600_000, 0), one_arc(2, 3, 400_001, 0), &[2], None));
+    // Arcs for any symbol on both sides, with named arcs beside those of the left.
+    for output in [any, 7, 0] {
+        let left = Draft::new(2, 0, &[(1, 3)], &[(0, any, output, 1, 1), (0, 6, 6, 1, 4), (1, any, any, 1, 2)]);
+        for code in [&[6, 7][..], &[9][..], &[9, 6, 65_534][..]] {
+            out.push(given("any on both sides", left.clone(), loops(2, any, any, 1), code, Some(18)));
+        }
+    }
+    // Both tables refused, and 9 beside them.
+    for (left, right, refusal) in [(8, 1, 8), (1, 8, 1), (0, 7, 7)] {
+        let bytes = |r: u32| match r {
+            1 => vec![8, 0, 1],
+            7 => one_arc(1, any, 0, 0).bytes(),
+            8 => one_arc(1, 2, 1_000_001, 0).bytes(),
+            _ => one_arc(any, any, 0, 0).bytes(),
+        };
+        let join = if left == 0 { 18 } else { refusal };
+        out.push(Case {
+            name: "refusals of both tables".to_string(),
+            left: bytes(left),
+            right: bytes(right),
+            code: vec![0],
+            left_refusal: Some(left),
+            join_refusal: Some(join),
+        });
+    }
+    out.push(given("9, any on the left", one_arc(any, any, 0, 0), one.clone(), &[0], Some(18)));
     out
 }
 
@@ -948,7 +1018,11 @@ pub fn make(rng: &mut Rng, k: usize, fixed: &mut Vec<Option<Case>>) -> Case {
     if rng.chance(1, 60) {
         return near_limit(rng);
     }
-    match rng.below(20) {
+    match rng.below(22) {
+        20..=21 => {
+            let (l, r, code) = any_first(rng);
+            given("any first", l, r, &code, None)
+        }
         0..=4 => {
             let (left, known) = damaged(rng);
             let base = small(rng, 4, 6);

@@ -1,5 +1,6 @@
 // Checks within the model: the cases of the paper, and brute-force
-// enumeration against count, path k, shortest path, trimming and the chain.
+// enumeration against count, path k, shortest path, trimming, the chain and
+// the cascade.
 
 use crate::cases::{self, Case};
 use crate::model::*;
@@ -16,6 +17,8 @@ pub struct Done {
     pub trims: usize,
     pub pairs_finite: usize,
     pub pairs_endless: usize,
+    pub cascades_finite: usize,
+    pub cascades_endless: usize,
     pub skipped: usize,
 }
 
@@ -239,6 +242,59 @@ fn chain(case: &Case, left: &Table, right: &Table, done: &mut Done) -> Check {
     Ok(())
 }
 
+/// The pair of paths that a path of a cascade leads to.
+fn pair_of(path: &[u16], origins: &[u16]) -> (Vec<u16>, Vec<u16>) {
+    let side = |x: usize| path.iter().map(|&i| origins[2 * i as usize + x]).filter(|&o| o != STILL).collect();
+    (side(0), side(1))
+}
+
+/// The cascade against pairs of paths, where the left table may have arcs for any symbol, and against the first chain where that is not refused.
+fn cascade_pairs(case: &Case, left: &Table, right: &Table, done: &mut Done) -> Check {
+    let (mut bytes, mut origins) = (vec![0; TABLE_BYTES], vec![0; JOIN_ORIGINS]);
+    let (r, n) = cascade(&case.left, &case.right, &case.code, &mut bytes, &mut origins, &mut vec![0; WORK_STATES]);
+    if r != 0 {
+        return Ok(());
+    }
+    let bytes = &bytes[..n as usize];
+    let t = parse(bytes).map_err(|r| format!("cascade: {r}"))?;
+    let (refused, counted) = count(bytes);
+    expect("the one call", cascade_readings(&case.left, &case.right, &case.code), (refused, counted))?;
+    let first = readings(&case.left, &case.right, &case.code);
+    if first.0 == 0 || first.0 == 14 {
+        expect("the first chain's count", first, (refused, counted))?;
+    }
+    // As for the chain: finitely many pairs have at most as many arcs on a side as there are states.
+    let mut budget = 60_000;
+    let most = t.states;
+    let Some(all) = all_pairs(left, right, &case.code, 4 * most, &mut budget) else {
+        done.skipped += 1;
+        return Ok(());
+    };
+    let long = all.iter().any(|p| p.0.len() > most || p.1.len() > most);
+    expect("endless cascade", refused, if long { 14 } else { 0 })?;
+    if long {
+        done.cascades_endless += 1;
+        return Ok(());
+    }
+    expect("number of pairs of a cascade", all.len().min(99) as u32, counted)?;
+    let costs = all.iter().map(|p| path_cost(left, &p.0) + path_cost(right, &p.1));
+    expect("least cost of a cascade", cheapest(&t).ok().map(|p| path_cost(&t, &p)), costs.min())?;
+    let all: HashSet<_> = all.into_iter().collect();
+    let mut met = HashSet::new();
+    for k in 0..counted {
+        let (mut arcs, mut labels) = (vec![0; PATH_ARCS], vec![0; PATH_ARCS]);
+        let (_, told) = nth(bytes, k, &mut arcs, &mut labels);
+        let p = pair_of(&arcs[..told.1 as usize], &origins);
+        expect("path of a cascade leads to a pair", all.contains(&p), true)?;
+        expect("cost of its pair", told.0, path_cost(left, &p.0) + path_cost(right, &p.1))?;
+        let output = path_passes(right, &p.1, &path_passes(left, &p.0, &case.code));
+        expect("output of its pair", &labels[..told.2 as usize], &output[..])?;
+        expect("pair of a cascade met once", met.insert(p), true)?;
+    }
+    done.cascades_finite += 1;
+    Ok(())
+}
+
 pub fn case(case: &Case, done: &mut Done) -> Check {
     if let Some(r) = case.left_refusal {
         expect("refusal of the left table", refusal(&case.left), r)?;
@@ -253,7 +309,8 @@ pub fn case(case: &Case, done: &mut Done) -> Check {
     expect("writing what was parsed", bytes_of(&left), case.left.clone())?;
     table(&left, done)?;
     table(&right, done)?;
-    chain(case, &left, &right, done)
+    chain(case, &left, &right, done)?;
+    cascade_pairs(case, &left, &right, done)
 }
 
 /// The cases the paper gives with their answers.
@@ -310,5 +367,10 @@ pub fn paper() -> Check {
     expect("worked pair, joined", size(&t), (5, 4, 1, 86))?;
     expect("worked pair, lattice", size(&small), (4, 3, 1, 70))?;
     let text = listing(&l.bytes(), &r.bytes(), &[1, 0, 3, 0]);
-    expect("listing", text.as_str(), "readings 1\n0 11 4 5\n")
+    expect("listing", text.as_str(), "readings 1\n0 11 4 5\n")?;
+    // String first, the lattice of the left table has 3 states and 2 arcs.
+    let (l, r) = (parse(&l.bytes()).unwrap(), parse(&r.bytes()).unwrap());
+    let made = cascaded(&l, &r, &[1, 3]).map_err(|r| format!("cascade: {r}"))?;
+    expect("worked pair, cascade", size(&made.table), (5, 4, 1, 86))?;
+    expect("worked pair, its origins", made.origins, vec![(0, 0), (1, STILL), (STILL, 1), (STILL, 1)])
 }

@@ -165,6 +165,11 @@ fn short() -> Stated {
         let (refused, length) = other::apply(&[1, 3], &l, &mut lattice, &mut origins, &mut pairs);
         (refused, length == 0 && kept(&lattice) && kept(&origins) && kept(&pairs))
     })?;
+    one_short("cascade", [TABLE_BYTES, JOIN_ORIGINS, WORK_STATES], |n| {
+        let (mut table, mut origins, mut states) = (dirty(n[0]), dirty(n[1]), dirty(n[2]));
+        let (refused, length) = other::cascade(&l, &r, &[1, 3], &mut table, &mut origins, &mut states);
+        (refused, length == 0 && kept(&table) && kept(&origins) && kept(&states))
+    })?;
     one_short("nth", [PATH_ARCS, PATH_ARCS], |n| {
         let (mut arcs, mut labels) = (dirty(n[0]), dirty(n[1]));
         let (refused, told) = other::nth(&l, 0, &mut arcs, &mut labels);

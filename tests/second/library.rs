@@ -3,14 +3,14 @@
 // `--cfg have_first` links refusal, read, write and compose; `--cfg have_all`
 // links every call; single calls are added with `--cfg have_trim`,
 // `have_apply`, `have_count`, `have_nth`, `have_shortest`, `have_readings`,
-// `have_list`, `have_distance`.
+// `have_list`, `have_distance`, `have_cascade` (all three of its calls).
 // Without any of them nothing is linked and only `--self` can run.
 #![allow(dead_code, clippy::too_many_arguments)]
 
 use crate::model::Told;
 
 /// Which calls are linked, in the order of `main::CALLS`.
-pub const HAVE: [bool; 12] = [
+pub const HAVE: [bool; 15] = [
     cfg!(any(have_all, have_first)),
     cfg!(any(have_all, have_first)),
     cfg!(any(have_all, have_first)),
@@ -23,6 +23,9 @@ pub const HAVE: [bool; 12] = [
     cfg!(any(have_all, have_readings)),
     cfg!(any(have_all, have_list)),
     cfg!(any(have_all, have_distance)),
+    cfg!(any(have_all, have_cascade)),
+    cfg!(any(have_all, have_cascade)),
+    cfg!(any(have_all, have_cascade)),
 ];
 
 /// A path's three numbers cross the interface as an array: cost, arcs, labels.
@@ -65,6 +68,14 @@ extern "C" {
         code: *const u8, code_len: usize, out: *mut u8, out_cap: usize, out_len: *mut u32,
         said: *mut u32) -> u32;
     fn forthwn_distance(table: *const u8, table_len: usize, cells: *mut i64, cells_len: usize) -> u32;
+    fn forthwn_cascade(left: *const u8, left_len: usize, right: *const u8, right_len: usize,
+        string: *const u16, string_len: usize, table: *mut u8, table_len: usize,
+        origins: *mut u16, origins_len: usize, states: *mut u32, states_len: usize, out_len: *mut u32) -> u32;
+    fn forthwn_cascade_readings(left: *const u8, left_len: usize, right: *const u8, right_len: usize,
+        string: *const u16, string_len: usize, count: *mut u32) -> u32;
+    fn forthwn_cascade_list(left: *const u8, left_len: usize, right: *const u8, right_len: usize,
+        code: *const u8, code_len: usize, out: *mut u8, out_cap: usize, out_len: *mut u32,
+        said: *mut u32) -> u32;
 }
 
 #[cfg(any(have_all, have_first))]
@@ -206,3 +217,44 @@ pub fn distance(table: &[u8], cells: &mut [i64]) -> u32 {
 }
 #[cfg(not(any(have_all, have_distance)))]
 pub use crate::model::distance;
+
+#[cfg(any(have_all, have_cascade))]
+#[rustfmt::skip]
+mod cascades {
+    use super::*;
+
+    pub fn cascade(left: &[u8], right: &[u8], string: &[u16], table: &mut [u8], origins: &mut [u16],
+        states: &mut [u32]) -> (u32, u32) {
+        let mut length = DIRTY;
+        let refused = unsafe {
+            forthwn_cascade(left.as_ptr(), left.len(), right.as_ptr(), right.len(), string.as_ptr(), string.len(),
+                table.as_mut_ptr(), table.len(), origins.as_mut_ptr(), origins.len(),
+                states.as_mut_ptr(), states.len(), &mut length)
+        };
+        (refused, length)
+    }
+
+    pub fn cascade_readings(left: &[u8], right: &[u8], string: &[u16]) -> (u32, u32) {
+        let mut number = DIRTY;
+        let refused = unsafe {
+            forthwn_cascade_readings(left.as_ptr(), left.len(), right.as_ptr(), right.len(),
+                string.as_ptr(), string.len(), &mut number)
+        };
+        (refused, number)
+    }
+
+    pub fn cascade_list(left: &[u8], right: &[u8], code: &[u8], out: &mut [u8]) -> (u32, u32, u32) {
+        let mut length = DIRTY;
+        let mut said = DIRTY;
+        let refused = unsafe {
+            forthwn_cascade_list(left.as_ptr(), left.len(), right.as_ptr(), right.len(),
+                code.as_ptr(), code.len(), out.as_mut_ptr(), out.len(), &mut length, &mut said)
+        };
+        (refused, length, said)
+    }
+}
+
+#[cfg(any(have_all, have_cascade))]
+pub use cascades::*;
+#[cfg(not(any(have_all, have_cascade)))]
+pub use crate::model::{cascade, cascade_list, cascade_readings};

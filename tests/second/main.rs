@@ -52,20 +52,21 @@ use std::time::Instant;
 const SEED: u64 = 20_240_229;
 const CASES: usize = 20_000;
 
-pub const CALLS: [&str; 12] = [
+pub const CALLS: [&str; 15] = [
     "refusal", "read", "write", "compose", "trim", "apply", "count", "nth", "shortest", "readings", "list", "distance",
+    "cascade", "cascade_readings", "cascade_list",
 ];
 
 #[cfg(mock)]
-const HAVE: [bool; 12] = [true; 12];
+const HAVE: [bool; 15] = [true; 15];
 #[cfg(not(mock))]
-const HAVE: [bool; 12] = other::HAVE;
+const HAVE: [bool; 15] = other::HAVE;
 
 /// Refusals are below this.
 const REFUSALS: usize = 20;
 
 /// The refusals each call can give.
-const CAN: [&[u32]; 12] = [
+const CAN: [&[u32]; 15] = [
     &[0, 1, 2, 3, 4, 5, 6, 7, 8],
     &[0, 1, 2, 3, 4, 5, 6, 7, 8, 10],
     &[0, 3, 4, 5, 6, 7, 8, 10],
@@ -78,6 +79,9 @@ const CAN: [&[u32]; 12] = [
     &[0, 1, 2, 3, 4, 5, 6, 7, 8, 18, 9, 11, 12, 13, 14],
     &[0, 1, 2, 3, 4, 5, 6, 7, 8, 18, 9, 10, 11, 12, 13],
     &[0, 1, 2, 3, 4, 5, 6, 7, 8, 10, 19],
+    &[0, 1, 2, 3, 4, 5, 6, 7, 8, 9, 10, 11, 12, 13],
+    &[0, 1, 2, 3, 4, 5, 6, 7, 8, 9, 11, 12, 13, 14],
+    &[0, 1, 2, 3, 4, 5, 6, 7, 8, 9, 10, 11, 12, 13],
 ];
 
 // ---------------------------------------------------------- lent buffers
@@ -212,7 +216,7 @@ struct Failure {
 
 struct Run {
     rng: Rng,
-    seen: [[u64; REFUSALS]; 12],
+    seen: [[u64; REFUSALS]; 15],
     trace: bool,
 }
 
@@ -423,20 +427,62 @@ impl Run {
     }
 
     /// The bytes of the code as a file has them, now and then with one more.
-    fn list(&mut self, left: &[u8], right: &[u8], code: &[u16]) -> Outcome {
-        if !HAVE[10] {
-            return Ok(());
-        }
+    fn code_bytes(&mut self, code: &[u16]) -> Vec<u8> {
         let mut code = words(code);
         if self.rng.chance(1, 12) {
             code.push(self.rng.next() as u8);
         }
+        code
+    }
+
+    fn list(&mut self, left: &[u8], right: &[u8], code: &[u16]) -> Outcome {
+        if !HAVE[10] {
+            return Ok(());
+        }
+        let code = self.code_bytes(code);
         let n = self.lengths([model::TEXT_BYTES]);
         let mut out = self.lend::<u8>("text", n[0]);
         let m = tried::list(left, right, &code, out.m());
         let o = other::list(left, right, &code, out.o());
         let inputs: [(&str, &[u8]); 3] = [("left", left), ("right", right), ("code", &code)];
         self.compare(10, m.0.max(m.2), (m, o), &inputs, &[&out])
+    }
+
+    fn cascade(&mut self, left: &[u8], right: &[u8], code: &[u16]) -> Outcome {
+        if !HAVE[12] {
+            return Ok(());
+        }
+        let n = self.lengths([model::TABLE_BYTES, model::JOIN_ORIGINS, model::WORK_STATES]);
+        let mut table = self.lend::<u8>("table", n[0]);
+        let mut origins = self.lend::<u16>("origins", n[1]);
+        let mut states = self.lend::<u32>("states", n[2]);
+        let m = tried::cascade(left, right, code, table.m(), origins.m(), states.m());
+        let o = other::cascade(left, right, code, table.o(), origins.o(), states.o());
+        let inputs: [(&str, &[u8]); 3] = [("left", left), ("right", right), ("string", &words(code))];
+        self.compare(12, m.0, (m, o), &inputs, &[&table, &origins, &states])
+    }
+
+    fn cascade_readings(&mut self, left: &[u8], right: &[u8], code: &[u16]) -> Outcome {
+        if !HAVE[13] {
+            return Ok(());
+        }
+        let x = tried::cascade_readings(left, right, code);
+        let y = other::cascade_readings(left, right, code);
+        let inputs: [(&str, &[u8]); 3] = [("left", left), ("right", right), ("string", &words(code))];
+        self.compare(13, x.0, (x, y), &inputs, &[])
+    }
+
+    fn cascade_list(&mut self, left: &[u8], right: &[u8], code: &[u16]) -> Outcome {
+        if !HAVE[14] {
+            return Ok(());
+        }
+        let code = self.code_bytes(code);
+        let n = self.lengths([model::TEXT_BYTES]);
+        let mut out = self.lend::<u8>("text", n[0]);
+        let m = tried::cascade_list(left, right, &code, out.m());
+        let o = other::cascade_list(left, right, &code, out.o());
+        let inputs: [(&str, &[u8]); 3] = [("left", left), ("right", right), ("code", &code)];
+        self.compare(14, m.0.max(m.2), (m, o), &inputs, &[&out])
     }
 
     /// What a table's writing is given: its numbers, with something behind
@@ -563,7 +609,10 @@ impl Run {
             }
         }
         self.readings(left, right, code)?;
-        self.list(left, right, code)
+        self.list(left, right, code)?;
+        self.cascade(left, right, code)?;
+        self.cascade_readings(left, right, code)?;
+        self.cascade_list(left, right, code)
     }
 }
 
@@ -675,15 +724,15 @@ fn usage(message: &str) -> ! {
 
 /// The longest text of all takes a buffer of the least length to its last
 /// byte; with one byte less the call is refused and the buffer kept.
-fn longest_text() -> Result<(), String> {
+fn longest_text(list: fn(&[u8], &[u8], &[u8], &mut [u8]) -> (u32, u32, u32)) -> Result<(), String> {
     let (left, right) = (cases::Draft::new(1, 0, &[(0, 0)], &[]).bytes(), cases::longest().bytes());
     let mut text = vec![1; 602_996];
-    let told = other::list(&left, &right, &[], &mut text);
+    let told = list(&left, &right, &[], &mut text);
     if told != (0, 602_996, 0) || text != model::listing(&left, &right, &[]).as_bytes() {
         return Err(format!("in the least room {told:?}"));
     }
     let mut short = vec![1; 602_995];
-    let told = other::list(&left, &right, &[], &mut short);
+    let told = list(&left, &right, &[], &mut short);
     if told != (10, 0, 0) || short.iter().any(|&x| x != 1) {
         return Err(format!("in a byte less {told:?}"));
     }
@@ -702,15 +751,18 @@ fn check_library(seed: u64, range: std::ops::Range<usize>, trace: bool, out: &Pa
         return false;
     }
     println!("lent buffers: read, written and read again; each a cell short");
-    if HAVE[10] {
-        if let Err(e) = longest_text() {
-            println!("the longest text FAILED: {e}");
+    for (call, list) in [(10, other::list as fn(&[u8], &[u8], &[u8], &mut [u8]) -> _), (14, other::cascade_list)] {
+        if !HAVE[call] {
+            continue;
+        }
+        if let Err(e) = longest_text(list) {
+            println!("the longest text of {} FAILED: {e}", CALLS[call]);
             return false;
         }
     }
     let mut fixed: Vec<_> = cases::fixed().into_iter().map(Some).collect();
     let single = range.len() == 1;
-    let mut run = Run { rng: Rng::new(seed, 0), seen: [[0; REFUSALS]; 12], trace };
+    let mut run = Run { rng: Rng::new(seed, 0), seen: [[0; REFUSALS]; 15], trace };
     let program = std::env::args().next().unwrap_or_default();
     // Names the case being run; it is left behind if a call ends the program.
     let running = out.join("running.txt");
@@ -740,7 +792,7 @@ fn check_library(seed: u64, range: std::ops::Range<usize>, trace: bool, out: &Pa
     let _ = std::fs::remove_file(&running);
     for (i, call) in CALLS.iter().enumerate().filter(|x| HAVE[x.0]) {
         let told: Vec<_> = CAN[i].iter().map(|&r| format!("{r}:{}", run.seen[i][r as usize])).collect();
-        println!("{call:9} {}", told.join(" "));
+        println!("{call:16} {}", told.join(" "));
     }
     let missed: Vec<_> = (0..CALLS.len())
         .filter(|&i| HAVE[i])

@@ -921,6 +921,72 @@ pub fn readings(left: &[u8], right: &[u8], code: &[u16]) -> (u32, u32) {
     count(&lattice[..length as usize])
 }
 
+// ----------------------------------------------------------- the cascade
+
+/// A string applied to the left table, and the trimmed lattice joined with the
+/// right one. Left origins are arcs of the left table and not of the lattice.
+/// A lattice has no arc for any symbol, whatever the left table has.
+pub fn cascaded(left: &Table, right: &Table, code: &[u16]) -> Result<Joined, u32> {
+    let (whole, from) = lattice(code, left)?;
+    let (small, kept) = trimmed(&whole);
+    let joined = join(&small, right)?;
+    let of_table = |l: u16| if l == STILL { STILL } else { from[kept[l as usize]] as u16 };
+    let origins = joined.origins.iter().map(|&(l, r)| (of_table(l), r)).collect();
+    Ok(Joined { table: joined.table, origins })
+}
+
+/// What comes before the string and the lent buffers, then 9.
+fn cascade_inputs(left: &[u8], right: &[u8], code: &[u16]) -> Result<(Table, Table), u32> {
+    let a = parse(left)?;
+    let b = parse(right)?;
+    if code.len() > MAX_CODE || code.iter().any(|&x| x == 0 || x == BARRED) {
+        return Err(9);
+    }
+    Ok((a, b))
+}
+
+pub fn cascade(
+    left: &[u8],
+    right: &[u8],
+    code: &[u16],
+    table: &mut [u8],
+    origins: &mut [u16],
+    states: &mut [u32],
+) -> (u32, u32) {
+    let (a, b) = match cascade_inputs(left, right, code) {
+        Ok(both) => both,
+        Err(r) => return (r, 0),
+    };
+    if table.len() < TABLE_BYTES || origins.len() < JOIN_ORIGINS || states.len() < WORK_STATES {
+        return (10, 0);
+    }
+    match cascaded(&a, &b, code) {
+        Ok(joined) => {
+            let bytes = bytes_of(&joined.table);
+            let two_each: Vec<u16> = joined.origins.iter().flat_map(|o| [o.0, o.1]).collect();
+            fill(table, &bytes);
+            fill(origins, &two_each);
+            clear(states);
+            (0, bytes.len() as u32)
+        }
+        Err(r) => {
+            clear(table);
+            clear(origins);
+            clear(states);
+            (r, 0)
+        }
+    }
+}
+
+/// The cascade's count; nothing is lent, so that 10 does not arise.
+pub fn cascade_readings(left: &[u8], right: &[u8], code: &[u16]) -> (u32, u32) {
+    let made = cascade_inputs(left, right, code).and_then(|(a, b)| cascaded(&a, &b, code));
+    match made {
+        Ok(joined) => count(&bytes_of(&joined.table)),
+        Err(r) => (r, 0),
+    }
+}
+
 // -------------------------------------------------------------- listing
 
 /// The longest text: its first line, and 98 lines of a number of one digit in
@@ -929,7 +995,6 @@ pub const TEXT_BYTES: usize = "readings 98\n".len() + 98 * ("97 -1024000000\n".l
 
 /// The refusal of a listing and its text, a code being the bytes of its file.
 fn listed(left: &[u8], right: &[u8], code: &[u8]) -> (u32, String) {
-    let refused = |r: u32| (r, format!("refused {r}\n"));
     let mut table = vec![0; TABLE_BYTES];
     let mut origins = vec![0; JOIN_ORIGINS];
     let mut work = vec![0; WORK_STATES];
@@ -947,25 +1012,49 @@ fn listed(left: &[u8], right: &[u8], code: &[u8]) -> (u32, String) {
     if r != 0 {
         return refused(r);
     }
-    let lattice = &lattice[..length as usize];
-    let (r, n) = count(lattice);
+    (0, text_of(&lattice[..length as usize]))
+}
+
+/// The cascade's: both tables are tested before the code.
+fn cascade_listed(left: &[u8], right: &[u8], code: &[u8]) -> (u32, String) {
+    let (a, b) = match parse(left).and_then(|a| Ok((a, parse(right)?))) {
+        Ok(both) => both,
+        Err(r) => return refused(r),
+    };
+    let labels: Vec<u16> = (0..code.len() / 2).map(|i| two(code, 2 * i)).collect();
+    if code.len() % 2 != 0 || labels.len() > MAX_CODE || labels.iter().any(|&x| x == 0 || x == BARRED) {
+        return refused(9);
+    }
+    match cascaded(&a, &b, &labels) {
+        Ok(joined) => (0, text_of(&bytes_of(&joined.table))),
+        Err(r) => refused(r),
+    }
+}
+
+fn refused(r: u32) -> (u32, String) {
+    (r, format!("refused {r}\n"))
+}
+
+/// The count of a table and its paths below it, as text.
+fn text_of(bytes: &[u8]) -> String {
+    let (r, n) = count(bytes);
     if r == 14 {
-        return (0, "readings endless\n".to_string());
+        return "readings endless\n".to_string();
     }
     if n as usize == MANY {
-        return (0, "readings 99+\n".to_string());
+        return "readings 99+\n".to_string();
     }
     let mut text = format!("readings {n}\n");
     for k in 0..n {
         let (mut arcs, mut labels) = (vec![0; PATH_ARCS], vec![0; PATH_ARCS]);
-        let (_, told) = nth(lattice, k, &mut arcs, &mut labels);
+        let (_, told) = nth(bytes, k, &mut arcs, &mut labels);
         text += &format!("{k} {}", told.0);
         for x in &labels[..told.2 as usize] {
             text += &format!(" {x}");
         }
         text += "\n";
     }
-    (0, text)
+    text
 }
 
 /// What the listing program prints for the contents of its three files.
@@ -982,6 +1071,16 @@ pub fn list(left: &[u8], right: &[u8], code: &[u8], out: &mut [u8]) -> (u32, u32
         return (10, 0, 0);
     }
     let (said, text) = listed(left, right, code);
+    fill(out, text.as_bytes());
+    (0, text.len() as u32, said)
+}
+
+/// The cascade's listing as a call, lent and answered in the same way.
+pub fn cascade_list(left: &[u8], right: &[u8], code: &[u8], out: &mut [u8]) -> (u32, u32, u32) {
+    if out.len() < TEXT_BYTES {
+        return (10, 0, 0);
+    }
+    let (said, text) = cascade_listed(left, right, code);
     fill(out, text.as_bytes());
     (0, text.len() as u32, said)
 }
@@ -1039,7 +1138,7 @@ pub fn all_paths(
 }
 
 /// All pairs of accepting paths of at most `most` arcs each: the left one
-/// reads the code, the right one fits what the left one writes. Neither
+/// fits the code, the right one fits what the left one then writes. Neither
 /// composition nor a lattice is used.
 pub fn all_pairs(
     left: &Table,
@@ -1050,7 +1149,7 @@ pub fn all_pairs(
 ) -> Option<Vec<(Vec<u16>, Vec<u16>)>> {
     let mut found = Vec::new();
     for l in all_paths(left, Some(code), most, budget)? {
-        let middle = path_writes(left, &l);
+        let middle = path_passes(left, &l, code);
         for r in all_paths(right, Some(&middle), most, budget)? {
             found.push((l.clone(), r));
         }

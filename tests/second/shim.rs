@@ -117,3 +117,33 @@ pub unsafe extern "C" fn forthwn_list(left: *const u8, left_n: usize, right: *co
     *said = y;
     r
 }
+
+#[no_mangle]
+#[rustfmt::skip]
+pub unsafe extern "C" fn forthwn_cascade(left: *const u8, left_n: usize, right: *const u8, right_n: usize,
+    code: *const u16, code_n: usize, t: *mut u8, t_n: usize, o: *mut u16, o_n: usize, s: *mut u32, s_n: usize,
+    length: *mut u32) -> u32 {
+    let (left, right, code) = (view(left, left_n), view(right, right_n), view(code, code_n));
+    let (r, x) = model::cascade(left, right, code, lent(t, t_n), lent(o, o_n), lent(s, s_n));
+    *length = x;
+    r
+}
+
+#[no_mangle]
+#[rustfmt::skip]
+pub unsafe extern "C" fn forthwn_cascade_readings(left: *const u8, left_n: usize, right: *const u8, right_n: usize,
+    code: *const u16, code_n: usize, count: *mut u32) -> u32 {
+    let (r, x) = model::cascade_readings(view(left, left_n), view(right, right_n), view(code, code_n));
+    *count = x;
+    r
+}
+
+#[no_mangle]
+#[rustfmt::skip]
+pub unsafe extern "C" fn forthwn_cascade_list(left: *const u8, left_n: usize, right: *const u8, right_n: usize,
+    code: *const u8, code_n: usize, out: *mut u8, out_n: usize, length: *mut u32, said: *mut u32) -> u32 {
+    let (r, x, y) = model::cascade_list(view(left, left_n), view(right, right_n), view(code, code_n), lent(out, out_n));
+    *length = x;
+    *said = y;
+    r
+}

@@ -1,5 +1,7 @@
-// The triples of accepting paths of three tables, found by following arcs; and
-// the accepting paths in the bytes of a result, led back to such triples.
+// The triples of accepting paths of three tables, and the pairs of two, found by
+// following arcs; and the accepting paths in the bytes of a result, led back to
+// such triples. tests/cascade takes the pairs.
+#![allow(dead_code)]
 
 use crate::model::{self, Table};
 use std::collections::HashMap;
@@ -124,18 +126,50 @@ fn listed(tables: &[Table; 3], string: Option<&[u16]>, budget: usize) -> Option<
     Some(found)
 }
 
+/// The pairs of two tables and a string: each left path that fits the string,
+/// with each right path that fits what that one then writes. A pair is a triple
+/// whose third path is empty.
+pub fn pairs(left: &Table, right: &Table, string: &[u16]) -> Found {
+    let budget = (cyclic(left) || cyclic(right)).then_some(FEW);
+    let most = budget.unwrap_or(usize::MAX);
+    let listed = || {
+        let (mut known, mut found) = (HashMap::new(), Vec::new());
+        for x in ways(left, Some(string), most)? {
+            if !known.contains_key(&x.output) {
+                known.insert(x.output.clone(), ways(right, Some(&x.output), most)?);
+            }
+            for y in &known[&x.output] {
+                if x.arcs.len() + y.arcs.len() > most {
+                    continue;
+                }
+                let paths = [x.arcs.clone(), y.arcs.clone(), vec![]];
+                found.push(Triple { paths, input: x.input.clone(), output: y.output.clone(), cost: x.cost + y.cost });
+                if found.len() > MOST {
+                    return None;
+                }
+            }
+        }
+        Some(found)
+    };
+    Found { triples: listed(), budget }
+}
+
 /// The accepting paths in some bytes, as triples by the arcs of the three
 /// tables that each arc comes from; where there is a budget, those of at most
-/// so many such arcs. The search ends where there are too many.
-pub fn in_bytes(bytes: &[u8], from: &[[Option<usize>; 3]], budget: Option<usize>) -> Vec<Triple> {
+/// so many such arcs. More than are listed end the search, and None stands for
+/// a search that takes too long.
+pub fn in_bytes(bytes: &[u8], from: &[[Option<usize>; 3]], budget: Option<usize>) -> Option<Vec<Triple>> {
     let t = model::parse(bytes).expect("bytes that were handed on");
     let leaving = t.leaving();
     let nothing = Triple { paths: Default::default(), input: vec![], output: vec![], cost: 0 };
     let (mut open, mut found, mut steps) = (vec![(t.start, nothing)], Vec::new(), 0);
     while let Some((state, so_far)) = open.pop() {
-        steps += 1;
-        if steps > 100 * MOST || found.len() > MOST {
+        if found.len() > MOST {
             break;
+        }
+        steps += leaving[state].len();
+        if steps > 100 * MOST {
+            return None;
         }
         for &i in &leaving[state] {
             let (a, mut next) = (&t.arcs[i], so_far.clone());
@@ -153,7 +187,7 @@ pub fn in_bytes(bytes: &[u8], from: &[[Option<usize>; 3]], budget: Option<usize>
             found.push(Triple { cost: so_far.cost + weight, ..so_far });
         }
     }
-    found
+    Some(found)
 }
 
 /// What is in one list and not in the other, each as often as it is there.

@@ -9,6 +9,9 @@
 // accepting paths of the three tables that brute.rs finds: the same three
 // paths, input, output and cost. For tables with cycles those triples are
 // compared that have few arcs, and count and cost mostly with each other.
+// Beside the two lattices stand two cascades, in which the string is applied to
+// the first table before anything is composed: with the second table and then
+// the third, and with the composition of these two.
 //
 //   --seed N     seed of the cases; the default is printed
 //   --cases N    how many cases (3,000)
@@ -28,7 +31,7 @@ mod model;
 #[path = "../second/rng.rs"]
 mod rng;
 
-use brute::{Found, Triple};
+use brute::Found;
 use model::{bytes_of, Table, STILL};
 use rng::Rng;
 use std::time::Instant;
@@ -68,6 +71,13 @@ fn apply(rng: &mut Rng, string: &[u16], bytes: &[u8]) -> Result<Written, u32> {
     written(library::apply(string, bytes, &mut table, &mut origins, &mut pairs), table, origins)
 }
 
+fn cascade(rng: &mut Rng, left: &[u8], right: &[u8], string: &[u16]) -> Result<Written, u32> {
+    let mut table = lent(rng, model::TABLE_BYTES, |x| x as u8);
+    let mut origins = lent(rng, model::JOIN_ORIGINS, |x| x as u16);
+    let mut states = lent(rng, model::WORK_STATES, |x| x as u32);
+    written(library::cascade(left, right, string, &mut table, &mut origins, &mut states), table, origins)
+}
+
 /// The left (0) or right (1) arc that an arc comes from, if any.
 fn origin(origins: &[u16], arc: usize, side: usize) -> Option<usize> {
     Some(origins[2 * arc + side] as usize).filter(|&x| x != STILL as usize)
@@ -79,26 +89,53 @@ struct Bracket {
     from: Vec<[Option<usize>; 3]>,
 }
 
-/// The four compositions, or the refusal of the first one that is refused.
-fn brackets(rng: &mut Rng, tables: &[Vec<u8>; 3]) -> Result<[Bracket; 2], u32> {
+/// How many arcs a result has.
+fn arcs_of(made: &Written) -> usize {
+    model::parse(&made.bytes).map_or(0, |t| t.arcs.len())
+}
+
+/// The two arcs that an arc of an inner composition comes from, where there is one.
+fn inner(made: &Written, arc: Option<usize>) -> [Option<usize>; 2] {
+    [0, 1].map(|side| arc.and_then(|i| origin(&made.origins, i, side)))
+}
+
+/// A result whose left side is a result of the first two tables.
+fn two_and_one(ab: &Written, ab_c: Written) -> Bracket {
+    let from = |i| {
+        let [x, y] = inner(ab, origin(&ab_c.origins, i, 0));
+        [x, y, origin(&ab_c.origins, i, 1)]
+    };
+    let from = (0..arcs_of(&ab_c)).map(from).collect();
+    Bracket { bytes: ab_c.bytes, from }
+}
+
+/// A result whose right side is the composition of the last two tables.
+fn one_and_two(bc: &Written, a_bc: Written) -> Bracket {
+    let from = |i| {
+        let [y, z] = inner(bc, origin(&a_bc.origins, i, 1));
+        [origin(&a_bc.origins, i, 0), y, z]
+    };
+    let from = (0..arcs_of(&a_bc)).map(from).collect();
+    Bracket { bytes: a_bc.bytes, from }
+}
+
+/// The four compositions, or the refusal of the first one that is refused; then the composition of the last two tables.
+fn brackets(rng: &mut Rng, tables: &[Vec<u8>; 3]) -> Result<([Bracket; 2], Written), u32> {
     let [a, b, c] = tables;
     let ab = compose(rng, a, b)?;
     let ab_c = compose(rng, &ab.bytes, c)?;
     let bc = compose(rng, b, c)?;
     let a_bc = compose(rng, a, &bc.bytes)?;
-    let pair =
-        |inner: &Written, arc: Option<usize>| [0, 1].map(|side| arc.and_then(|i| origin(&inner.origins, i, side)));
-    let arcs = |x: &Written| 0..model::parse(&x.bytes).map_or(0, |t| t.arcs.len());
-    let left = arcs(&ab_c).map(|i| {
-        let [x, y] = pair(&ab, origin(&ab_c.origins, i, 0));
-        [x, y, origin(&ab_c.origins, i, 1)]
-    });
-    let right = arcs(&a_bc).map(|i| {
-        let [y, z] = pair(&bc, origin(&a_bc.origins, i, 1));
-        [origin(&a_bc.origins, i, 0), y, z]
-    });
-    let (left, right) = (left.collect(), right.collect());
-    Ok([Bracket { bytes: ab_c.bytes, from: left }, Bracket { bytes: a_bc.bytes, from: right }])
+    Ok(([two_and_one(&ab, ab_c), one_and_two(&bc, a_bc)], bc))
+}
+
+/// The string applied to the first table, its lattice composed with the second and then with the third, or with the composition of these two.
+fn cascades(rng: &mut Rng, string: &[u16], tables: &[Vec<u8>; 3], bc: &Written) -> Result<[Bracket; 2], u32> {
+    let [a, b, c] = tables;
+    let ab = cascade(rng, a, b, string)?;
+    let ab_c = compose(rng, &ab.bytes, c)?;
+    let a_bc = cascade(rng, a, &bc.bytes, string)?;
+    Ok([two_and_one(&ab, ab_c), one_and_two(bc, a_bc)])
 }
 
 /// A lattice of a result: the origin of each of its arcs is an arc of it.
@@ -138,10 +175,12 @@ struct Seen {
     results_differ: u64,
     arcs_differ: u64,
     falling: u64,
+    cascades: u64,
+    cascades_refused: u64,
 }
 
-/// Compares the two sides with each other and with the triples.
-fn compare(rng: &mut Rng, sides: &[Bracket; 2], found: &Found, seen: &mut Seen) -> Result<(), String> {
+/// Compares the two sides with each other and with the triples; what both tell.
+fn compare(rng: &mut Rng, sides: &[Bracket; 2], found: &Found, seen: &mut Seen) -> Result<Told, String> {
     let (left, left_arcs) = told(rng, &sides[0].bytes);
     let (right, right_arcs) = told(rng, &sides[1].bytes);
     if left != right {
@@ -159,7 +198,7 @@ fn compare(rng: &mut Rng, sides: &[Bracket; 2], found: &Found, seen: &mut Seen) 
     seen.falling += u64::from(left.cost.0 == 19);
     let Found { triples: Some(triples), budget } = found else {
         seen.unlisted += 1;
-        return Ok(());
+        return Ok(left);
     };
     let least = triples.iter().map(|x| x.cost).min();
     let listed = triples.len().min(model::MANY) as u32;
@@ -179,17 +218,21 @@ fn compare(rng: &mut Rng, sides: &[Bracket; 2], found: &Found, seen: &mut Seen) 
         seen.bounded += 1;
     }
     for (side, name) in sides.iter().zip(["first", "second"]) {
-        let paths: Vec<Triple> = brute::in_bytes(&side.bytes, &side.from, *budget);
+        let Some(paths) = brute::in_bytes(&side.bytes, &side.from, *budget) else {
+            seen.unlisted += 1;
+            return Ok(left);
+        };
         if let Some(e) = brute::difference(&paths, triples) {
             return Err(format!("paths of the {name} bracket: {e}"));
         }
     }
     seen.triples += triples.len() as u64;
-    Ok(())
+    Ok(left)
 }
 
 fn case(rng: &mut Rng, tables: &[Table; 3], strings: &[Vec<u16>], seen: &mut Seen) -> Result<(), String> {
-    let results = match brackets(rng, &[0, 1, 2].map(|i| bytes_of(&tables[i]))) {
+    let bytes = [0, 1, 2].map(|i| bytes_of(&tables[i]));
+    let (results, last_two) = match brackets(rng, &bytes) {
         Ok(x) => x,
         Err(refusal) => {
             seen.refused[refusal as usize % 17] += 1;
@@ -213,7 +256,20 @@ fn case(rng: &mut Rng, tables: &[Table; 3], strings: &[Vec<u16>], seen: &mut See
             continue;
         };
         let found = brute::triples(tables, Some(string));
-        compare(rng, &[left, right], &found, seen).map_err(|e| format!("string {string:?}: {e}"))?;
+        let told = compare(rng, &[left, right], &found, seen).map_err(|e| format!("string {string:?}: {e}"))?;
+        let sides = match cascades(rng, string, &bytes, &last_two) {
+            Ok(sides) => sides,
+            Err(11..=13) => {
+                seen.cascades_refused += 1;
+                continue;
+            }
+            Err(refusal) => return Err(format!("string {string:?} first: a call is refused by {refusal}")),
+        };
+        let first = compare(rng, &sides, &found, seen).map_err(|e| format!("string {string:?} first: {e}"))?;
+        if first != told {
+            return Err(format!("string {string:?}: applied first {first:?}, applied to the brackets {told:?}"));
+        }
+        seen.cascades += 1;
     }
     Ok(())
 }
@@ -232,7 +288,8 @@ fn run(seed: u64, range: std::ops::Range<usize>) -> bool {
             return false;
         }
     }
-    let Seen { refused, unapplied, counts, whole, bounded, unlisted, triples, results_differ, arcs_differ, falling } = seen;
+    let Seen { refused, unapplied, counts, whole, bounded, unlisted, triples, results_differ, arcs_differ, falling, .. } = seen;
+    let Seen { cascades, cascades_refused, .. } = seen;
     println!("seed {seed}, {} cases, {:.1} seconds", range.len(), began.elapsed().as_secs_f64());
     println!("refused: {} by 11, {} by 12, {} by 13, {unapplied} strings", refused[11], refused[12], refused[13]);
     let [none, one, some, many, endless] = counts;
@@ -241,7 +298,8 @@ fn run(seed: u64, range: std::ops::Range<usize>) -> bool {
     println!(
         "of the two brackets {results_differ} results differ as bytes, and {arcs_differ} shortest paths in their arcs"
     );
-    let met = [&counts[..], &refused[11..=13], &[whole, bounded, results_differ, arcs_differ, falling]].concat();
+    println!("strings applied first: {cascades} compared, {cascades_refused} refused");
+    let met = [&counts[..], &refused[11..=13], &[whole, bounded, results_differ, arcs_differ, falling, cascades]].concat();
     if !single && met.contains(&0) {
         println!("FAILED: something that should be met never was");
         return false;

@@ -67,7 +67,7 @@ fn loops(rng: &mut Rng, arcs: usize) -> Table {
 }
 
 /// A line of states that writes nothing, or reads nothing.
-fn silent(states: usize, input: u16, output: u16) -> Table {
+pub fn silent(states: usize, input: u16, output: u16) -> Table {
     let arc = |source| Arc { source, input, output, target: source + 1, weight: 1 };
     Table { states, start: 0, finals: vec![(states - 1, 0)], arcs: (0..states - 1).map(arc).collect() }
 }
@@ -121,8 +121,8 @@ pub fn case(rng: &mut Rng) -> ([Table; 3], Vec<Vec<u16>>) {
     (tables, strings)
 }
 
-/// What a random path reads.
-fn along(rng: &mut Rng, t: &Table) -> Vec<u16> {
+/// What a random path reads, 65,535 where an arc is for any symbol.
+pub fn along(rng: &mut Rng, t: &Table) -> Vec<u16> {
     let (leaving, mut state, mut read) = (t.leaving(), t.start, Vec::new());
     while !leaving[state].is_empty() && !rng.chance(1, 7) {
         let a = &t.arcs[rng.pick(&leaving[state])];

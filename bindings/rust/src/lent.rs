@@ -267,3 +267,68 @@ pub fn list(left: &[u8], right: &[u8], code: &[u8], out: &mut [u8]) -> Result<Li
     };
     answer(refusal, Listed { len: len as usize, said: Refusal::from_call(said) })
 }
+
+/// Applies a string of 0 to 64 symbols to the left table, composes the lattice with the right one and tells the length of that composition in
+/// bytes; its origins are the arc of the left table and the arc of the right one, of each arc in turn, 65,535 for a side that stood still.
+/// The left table may have arcs for any symbol. Lent: [`TABLE`], [`ORIGINS`], [`STATES`] to work in. Refusals 1 to 8 of the left, 1 to 8 of
+/// the right, 9, 10, 11 and 12 of the lattice, 11 to 13 of the composition.
+pub fn cascade(
+    left: &[u8],
+    right: &[u8],
+    string: &[u16],
+    table: &mut [u8],
+    origins: &mut [u16],
+    states: &mut [u32],
+) -> Result<usize, Refusal> {
+    let mut len = 0;
+    // SAFETY: each pointer and length are those of one slice, and mutable ones overlap nothing.
+    let refusal = unsafe {
+        sys::forthwn_cascade(
+            left.as_ptr(),
+            left.len(),
+            right.as_ptr(),
+            right.len(),
+            string.as_ptr(),
+            string.len(),
+            table.as_mut_ptr(),
+            table.len(),
+            origins.as_mut_ptr(),
+            origins.len(),
+            states.as_mut_ptr(),
+            states.len(),
+            &mut len,
+        )
+    };
+    answer(refusal, len as usize)
+}
+
+/// The count of a cascade in one call; 99 stands for 99 or more. Refusals: those of [`cascade`] without 10, then 14.
+pub fn cascade_readings(left: &[u8], right: &[u8], string: &[u16]) -> Result<u32, Refusal> {
+    let mut count = 0;
+    // SAFETY: each pointer and length are those of one slice that is only read.
+    let refusal = unsafe {
+        sys::forthwn_cascade_readings(left.as_ptr(), left.len(), right.as_ptr(), right.len(), string.as_ptr(), string.len(), &mut count)
+    };
+    answer(refusal, count)
+}
+
+/// The listing of a cascade as text, in the form of [`list`]. Lent: [`TEXT`]. Refusal 10 alone.
+pub fn cascade_list(left: &[u8], right: &[u8], code: &[u8], out: &mut [u8]) -> Result<Listed, Refusal> {
+    let (mut len, mut said) = (0, 0);
+    // SAFETY: each pointer and length are those of one slice, and the mutable one overlaps nothing.
+    let refusal = unsafe {
+        sys::forthwn_cascade_list(
+            left.as_ptr(),
+            left.len(),
+            right.as_ptr(),
+            right.len(),
+            code.as_ptr(),
+            code.len(),
+            out.as_mut_ptr(),
+            out.len(),
+            &mut len,
+            &mut said,
+        )
+    };
+    answer(refusal, Listed { len: len as usize, said: Refusal::from_call(said) })
+}

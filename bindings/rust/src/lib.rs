@@ -32,7 +32,8 @@
 //! # }
 //! ```
 //!
-//! [`readings`] does all of this from bytes to the count in one call, and [`list`] gives the readings as text. The module [`lent`] has
+//! [`readings`] does all of this from bytes to the count in one call, and [`list`] gives the readings as text. [`Table::cascade`],
+//! [`cascade_readings`] and [`cascade_list`] apply the string first, for tables whose composition would be too large. The module [`lent`] has
 //! every call of the library over slices that the caller lends, without allocation; the owned types here are made of them.
 //!
 //! Every call ends, has no state of its own and may run in several threads at once. It needs at most [`lent::STACK`] bytes of stack.
@@ -47,7 +48,7 @@ mod table;
 
 pub use lent::Head;
 pub use refusal::Refusal;
-pub use table::{Arc, Composed, Final, Lattice, Origin, Path, Paths, Table, Trimmed};
+pub use table::{Arc, Cascade, Composed, Final, Lattice, Origin, Path, Paths, Table, Trimmed};
 
 /// The weight of an arc or a final state: -1,000,000 to 1,000,000.
 pub type Weight = i32;
@@ -98,8 +99,38 @@ pub struct Listing {
 /// # Ok::<(), forthwn::Refusal>(())
 /// ```
 pub fn list(left: impl AsRef<[u8]>, right: impl AsRef<[u8]>, code: &[u8]) -> Listing {
+    listing(|text| lent::list(left.as_ref(), right.as_ref(), code, text))
+}
+
+/// The number of readings by the cascade, which applies the string to the left table before anything is composed; [`MANY`] stands for 99 or
+/// more. Where neither is refused before its count, it is that of [`readings`].
+///
+/// ```
+/// use forthwn::{cascade_readings, Refusal, Table};
+///
+/// let one = Table::new(1, 0, &[forthwn::Final { state: 0, weight: 0 }], &[])?;
+/// assert_eq!(cascade_readings(&one, &one, &[])?, 1);
+/// assert_eq!(cascade_readings(b"", &one, &[0]), Err(Refusal::BAD_RECORDS));
+/// # Ok::<(), Refusal>(())
+/// ```
+pub fn cascade_readings(left: impl AsRef<[u8]>, right: impl AsRef<[u8]>, string: &[u16]) -> Result<u32, Refusal> {
+    lent::cascade_readings(left.as_ref(), right.as_ref(), string)
+}
+
+/// Lists the readings of a code by the cascade, in the form of [`list`].
+///
+/// ```
+/// let one = forthwn::Table::new(1, 0, &[forthwn::Final { state: 0, weight: 5 }], &[])?;
+/// assert_eq!(forthwn::cascade_list(&one, &one, b"").text, "readings 1\n0 10\n");
+/// # Ok::<(), forthwn::Refusal>(())
+/// ```
+pub fn cascade_list(left: impl AsRef<[u8]>, right: impl AsRef<[u8]>, code: &[u8]) -> Listing {
+    listing(|text| lent::cascade_list(left.as_ref(), right.as_ref(), code, text))
+}
+
+fn listing(call: impl FnOnce(&mut [u8]) -> Result<lent::Listed, Refusal>) -> Listing {
     let mut text = vec![0; lent::TEXT];
-    let listed = lent::list(left.as_ref(), right.as_ref(), code, &mut text).expect("the buffer has its least length");
+    let listed = call(&mut text).expect("the buffer has its least length");
     text.truncate(listed.len);
     Listing { text: String::from_utf8(text).expect("a listing is ASCII"), said: listed.said }
 }

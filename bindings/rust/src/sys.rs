@@ -46,4 +46,15 @@ unsafe extern "C" {
         left: *const u8, left_len: usize, right: *const u8, right_len: usize, code: *const u8, code_len: usize,
         out: *mut u8, out_len: usize, len: *mut u32, said: *mut u32,
     ) -> u32;
+    pub fn forthwn_cascade(
+        left: *const u8, left_len: usize, right: *const u8, right_len: usize, string: *const u16, string_len: usize,
+        table: *mut u8, table_len: usize, origins: *mut u16, origins_len: usize, states: *mut u32, states_len: usize, len: *mut u32,
+    ) -> u32;
+    pub fn forthwn_cascade_readings(
+        left: *const u8, left_len: usize, right: *const u8, right_len: usize, string: *const u16, string_len: usize, count: *mut u32,
+    ) -> u32;
+    pub fn forthwn_cascade_list(
+        left: *const u8, left_len: usize, right: *const u8, right_len: usize, code: *const u8, code_len: usize,
+        out: *mut u8, out_len: usize, len: *mut u32, said: *mut u32,
+    ) -> u32;
 }

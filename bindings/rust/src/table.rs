@@ -51,7 +51,7 @@ pub struct Path {
     pub labels: Vec<u16>,
 }
 
-/// Where an arc of a composition came from; none for a side that stood still.
+/// Where an arc of a composition or of a cascade came from; none for a side that stood still.
 #[derive(Clone, Copy, Debug, PartialEq, Eq, Hash)]
 pub struct Origin {
     /// The arc of the left table.
@@ -76,6 +76,16 @@ pub struct Lattice {
     pub table: Table,
     /// For each of its arcs, the arc of the table that it came from.
     pub origins: Vec<u16>,
+}
+
+/// A cascade: what a string makes of the left table, composed with the right one.
+#[derive(Clone, Debug, PartialEq, Eq, Hash)]
+pub struct Cascade {
+    /// The composition of the left table's lattice with the right table, untrimmed, its states numbered as first reached. Its accepting paths
+    /// are the readings.
+    pub table: Table,
+    /// For each of its arcs, the arcs of the two tables that it came from.
+    pub origins: Vec<Origin>,
 }
 
 /// A table without what lies on no accepting path.
@@ -169,9 +179,32 @@ impl Table {
         let (mut table, mut origins, mut states) = (vec![0; lent::TABLE], vec![0; lent::ORIGINS], vec![0; lent::STATES]);
         let len = lent::compose(&self.bytes, &right.bytes, &mut table, &mut origins, &mut states)?;
         let table = Table::written(&table, len);
-        let moved = |arc: u16| (arc != u16::MAX).then_some(arc);
-        let origins = origins.chunks_exact(2).take(table.arcs.len()).map(|x| Origin { left: moved(x[0]), right: moved(x[1]) }).collect();
+        let origins = origins_of(&origins, &table);
         Ok(Composed { table, origins })
+    }
+
+    /// Applies a string of 0 to 64 symbols to this table, as the left one, and composes what comes of it with a right one. That takes pairs
+    /// of tables whose composition is too large, and this table may have arcs of input 65,535. Refusals 9, 11 to 13.
+    ///
+    /// ```
+    /// use forthwn::{Arc, Final, Table, ANY};
+    ///
+    /// // Any symbol is passed on at cost 1; the right table knows 7.
+    /// let end = [Final { state: 0, weight: 0 }];
+    /// let left = Table::new(1, 0, &end, &[Arc { source: 0, input: ANY, output: ANY, target: 0, weight: 1 }])?;
+    /// let right = Table::new(1, 0, &end, &[Arc { source: 0, input: 7, output: 20, target: 0, weight: 0 }])?;
+    /// let cascade = left.cascade(&right, &[7, 7])?;
+    /// let path = cascade.table.shortest()?;
+    /// assert_eq!((path.cost, &path.labels[..]), (2, &[20, 20][..]));
+    /// assert_eq!(cascade.pair(&path), (vec![0, 0], vec![0, 0]));
+    /// # Ok::<(), forthwn::Refusal>(())
+    /// ```
+    pub fn cascade(&self, right: &Table, string: &[u16]) -> Result<Cascade, Refusal> {
+        let (mut table, mut origins, mut states) = (vec![0; lent::TABLE], vec![0; lent::ORIGINS], vec![0; lent::STATES]);
+        let len = lent::cascade(&self.bytes, &right.bytes, string, &mut table, &mut origins, &mut states)?;
+        let table = Table::written(&table, len);
+        let origins = origins_of(&origins, &table);
+        Ok(Cascade { table, origins })
     }
 
     /// Applies a string of 0 to 64 symbols. Refusals 9, 11 and 12.
@@ -256,6 +289,12 @@ impl Table {
     }
 }
 
+/// The origins of a table's arcs, left and right in turn, as a call wrote them.
+fn origins_of(cells: &[u16], table: &Table) -> Vec<Origin> {
+    let moved = |arc: u16| (arc != u16::MAX).then_some(arc);
+    cells.chunks_exact(2).take(table.arcs.len()).map(|x| Origin { left: moved(x[0]), right: moved(x[1]) }).collect()
+}
+
 fn path(call: impl FnOnce(&mut [u16], &mut [u16]) -> Result<Told, Refusal>) -> Result<Path, Refusal> {
     let (mut arcs, mut labels) = (vec![0; lent::PATH], vec![0; lent::PATH]);
     let told = call(&mut arcs, &mut labels)?;
@@ -285,6 +324,17 @@ impl Composed {
     /// Where the lattice is not one of this composition or the path is not one of the lattice, and an arc is not there.
     pub fn pair(&self, lattice: &Lattice, path: &Path) -> (Vec<u16>, Vec<u16>) {
         let steps = || path.arcs.iter().map(|&arc| self.origins[usize::from(lattice.origins[usize::from(arc)])]);
+        (steps().filter_map(|x| x.left).collect(), steps().filter_map(|x| x.right).collect())
+    }
+}
+
+impl Cascade {
+    /// The arcs of the left table and those of the right one along a path of this cascade.
+    ///
+    /// # Panics
+    /// Where the path is not one of this cascade's table, and an arc is not there.
+    pub fn pair(&self, path: &Path) -> (Vec<u16>, Vec<u16>) {
+        let steps = || path.arcs.iter().map(|&arc| self.origins[usize::from(arc)]);
         (steps().filter_map(|x| x.left).collect(), steps().filter_map(|x| x.right).collect())
     }
 }

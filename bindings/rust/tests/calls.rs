@@ -1,5 +1,5 @@
 //! Round trips, refusals, lent buffers one cell too short, and origins.
-use forthwn::{ANY, Arc, Cost, Final, Head, Path, Refusal, Table, Weight, lent, list, readings};
+use forthwn::{ANY, Arc, Cost, Final, Head, Path, Refusal, Table, Weight, cascade_list, cascade_readings, lent, list, readings};
 
 const LEFT: &[u8] = include_bytes!("../../../examples/keys/left.tab");
 const RIGHT: &[u8] = include_bytes!("../../../examples/keys/right.tab");
@@ -173,6 +173,54 @@ fn a_reading_leads_to_its_pair() {
     assert_eq!(said, [(3, vec![20, 22, 30]), (8, vec![20, 21])]);
     assert_eq!(readings(LEFT, RIGHT, &[7, 3]), Ok(2));
     assert_eq!(list(LEFT, RIGHT, CODE).text, "readings 2\n0 3 20 22 30\n1 8 20 21\n");
+}
+
+#[test]
+fn a_path_of_a_cascade_leads_to_its_pair() -> Result<(), Refusal> {
+    let (left, right) = (Table::read(LEFT)?, Table::read(RIGHT)?);
+    let cascade = left.cascade(&right, &[7, 3])?;
+    let composed = left.compose(&right)?;
+    let lattice = composed.table.apply(&[7, 3])?;
+    let mut chained: Vec<_> = lattice.table.paths()?.map(|path| (composed.pair(&lattice, &path), path.cost, path.labels)).collect();
+    let mut cascaded: Vec<_> = cascade.table.paths()?.map(|path| (cascade.pair(&path), path.cost, path.labels)).collect();
+    chained.sort();
+    cascaded.sort();
+    assert_eq!(cascaded, chained);
+    assert_eq!(cascade.table.shortest()?.cost, 3);
+    assert_eq!(cascade_readings(LEFT, RIGHT, &[7, 3]), Ok(2));
+    assert_eq!(cascade_list(LEFT, RIGHT, CODE).text, list(LEFT, RIGHT, CODE).text);
+    // The left table may have arcs for any symbol, which composing refuses.
+    let any = Table::new(1, 0, &[end(0, 0)], &[arc(0, ANY, ANY, 0, 1)])?;
+    assert_eq!(any.compose(&right).map(|x| x.table), Err(Refusal::ANY_INPUT));
+    assert_eq!(any.cascade(&any, &[7, 3])?.table.shortest()?.labels, [7, 3]);
+    Ok(())
+}
+
+#[test]
+fn refusals_of_the_cascade_come_in_their_order() {
+    let any = Table::new(1, 0, &[end(0, 0)], &[arc(0, ANY, ANY, 0, 1)]).expect("a table");
+    assert_eq!(cascade_readings(b"", &LEFT[..3], &[0]), Err(Refusal::BAD_RECORDS));
+    assert_eq!(cascade_readings(&any, &RIGHT[..3], &[0]), Err(Refusal::CUT_SHORT));
+    assert_eq!(cascade_readings(&any, RIGHT, &[0]), Err(Refusal::BAD_CODE));
+    let ring = Table::new(1, 0, &[end(0, 0)], &[arc(0, 0, 7, 0, 2)]).expect("a table");
+    assert_eq!(cascade_readings(&ring, &any, &[]), Err(Refusal::ENDLESS));
+    assert_eq!(cascade_list(&ring, &any, b"").text, "readings endless\n");
+    assert_eq!(cascade_list(&any, RIGHT, b"\x07").said, Some(Refusal::BAD_CODE));
+    let heavy = |weight| Table::new(1, 0, &[end(0, weight)], &[]).expect("a table");
+    assert_eq!(heavy(600_000).cascade(&heavy(400_001), &[]).map(|_| ()), Err(Refusal::TOO_HEAVY));
+    let mut b = sevens();
+    let wide = Table::new(1, 0, &[end(0, 0)], &vec![arc(0, 7, 7, 0, 0); 56]).expect("a table");
+    let short = lent::cascade(wide.as_bytes(), wide.as_bytes(), &[7], &mut b.table, &mut b.origins[1..], &mut b.states);
+    assert_eq!(short.map(|_| ()), Err(Refusal::SHORT_BUFFER));
+    let bad = lent::cascade(wide.as_bytes(), wide.as_bytes(), &[0], &mut b.table, &mut b.origins[1..], &mut b.states);
+    assert_eq!(bad.map(|_| ()), Err(Refusal::BAD_CODE));
+    assert!(b.table.iter().all(|&x| x == 7) && b.origins.iter().all(|&x| x == 7) && b.states.iter().all(|&x| x == 7));
+    let full = lent::cascade(wide.as_bytes(), wide.as_bytes(), &[7], &mut b.table, &mut b.origins, &mut b.states);
+    assert_eq!(full.map(|_| ()), Err(Refusal::TOO_MANY_ARCS));
+    assert!(b.table.iter().all(|&x| x == 0) && b.origins.iter().all(|&x| x == 0) && b.states.iter().all(|&x| x == 0));
+    let mut text = vec![7; lent::TEXT];
+    assert_eq!(lent::cascade_list(LEFT, RIGHT, CODE, &mut text[1..]).map(|_| ()), Err(Refusal::SHORT_BUFFER));
+    assert!(text.iter().all(|&x| x == 7));
 }
 
 #[test]
