@@ -25,11 +25,13 @@ CLAIMS = {
     "least": ["Cycles.Falls"],
     "distance": ["Claim"],
     "shortest": ["Claim", "Agree"],
-    "claim": ["Claim", "Kind", "Listed"],
+    "claim": ["Claim", "Kind", "Listed", "Agree"],
     "associate": ["Associate"],
-    "cascade": ["Cascade", "Entry"],
-    "printed": ["Printed"],
+    "cascade": ["Cascade", "Three"],
+    "printed": ["Printed", "PrintedText"],
+    "cascade_listing": ["PrintedCascade"],
     "starred": ["Cases", "Answer", "Promise"],
+    "worked": ["Rows"],
 }
 
 USE = re.compile(r"(?:ghost |unfoldable |pub )*use (\S+?)(?:\.\{(.*)\}| as (\S+?));?$")
