@@ -9,11 +9,11 @@ use Rattle.starred.specs.Answer.{Answer, Case, _gives_, refused, refused-with-z
 use Rattle.starred.specs.Answer.Call.{reading, composing, applying, counting, kth-path, shortest-path, distances}
 use Rattle.starred.specs.Cases.{weight-1000000, weight-1000001, weight-1, weight-4, one-arc, one-final, like-arcs}
 use Rattle.worked.specs.Tables.{label, any, units, rebate-1000000, rebate-1000001, rebate-600000, rebate-400000, rebate-400001, head, final, arc}
-use Rattle.worked.specs.Tables.{nothing, any-arc, named-elsewhere, named-in-vain, fewer-labels, lesser-cost, fewer-arcs, all-final}
+use Rattle.worked.specs.Tables.{nothing, any-arc, left-alone, named-elsewhere, named-in-vain, fewer-labels, lesser-cost, fewer-arcs, all-final}
 use Rattle.worked.specs.Tables.{falling-loop, falling-in-vain, falling-aside, falling-unreached, level-cycle}
 
--- Point 5: input 65,535 fits each symbol. Any output but 65,535 is written as it is, 0 as the empty label; 65,535 passes the symbol on. A string: it never fits
--- the empty one.
+-- Point 5: input 65,535 fits each symbol and never the empty label. An output other than 65,535 is written as it is, 0 as the empty label; 65,535 passes on
+-- the symbol read. Here that is a symbol of a string.
 abbrev pub any-applied-rows : List Case
 any-applied-rows =
     (reading (any-arc (label 5) weight-1) gives reads 2 1 1 0 (1 ∷ []) (0 ∷ []) (0 ∷ 65535 ∷ 5 ∷ 1 ∷ []) (1 ∷ []))
@@ -23,14 +23,13 @@ any-applied-rows =
     ∷ (applying [] (any-arc (label 5) weight-1) gives writes 12 nothing [])
     ∷ []
 
--- A left arc's output: if that is the empty label, the left arc goes alone.
+-- Here it is the output of a left arc; if that is the empty label, the left arc goes alone.
 abbrev pub any-composed-rows : List Case
 any-composed-rows =
     (composing (one-arc 1 7 weight-4) (any-arc (label 5) weight-1) gives writes 38 (one-arc 1 5 (units 5)) (0 ∷ 0 ∷ []))
     ∷ (composing (one-arc 1 7 weight-4) (any-arc (label 0) weight-1) gives writes 38 (one-arc 1 0 (units 5)) (0 ∷ 0 ∷ []))
     ∷ (composing (one-arc 1 7 weight-4) (any-arc any weight-1) gives writes 38 (one-arc 1 7 (units 5)) (0 ∷ 0 ∷ []))
-    ∷ (composing (one-arc 1 0 weight-4) (any-arc (label 5) weight-1)
-    gives writes 28 (head 2 1 0 0 ++ arc 0 (label 1) (label 0) 1 weight-4) (0 ∷ 65535 ∷ []))
+    ∷ (composing (one-arc 1 0 weight-4) (any-arc (label 5) weight-1) gives writes 28 left-alone (0 ∷ 65535 ∷ []))
     ∷ []
 
 -- Output 65,535 beside another input is refused by 7. To the count and the shortest path 65,535 is one arc and one label.

@@ -49,6 +49,10 @@ nothing = head 1 0 0 0
 abbrev pub any-arc : (output weight : List ℕ) → List ℕ
 any-arc output weight = head 2 1 1 0 ++ final 1 (units 0) ++ arc 0 any output 1 weight
 
+-- The arc 1:0 of weight 4 by itself: state 1 is not final.
+abbrev pub left-alone : List ℕ
+left-alone = head 2 1 0 0 ++ arc 0 (label 1) (label 0) 1 (units 4)
+
 -- 6 is named by an arc of state 1 only; the arc for any symbol leaves state 0.
 abbrev pub named-elsewhere : List ℕ
 named-elsewhere = head 2 2 1 0 ++ final 1 (units 0) ++ arc 0 any (label 5) 1 (units 1) ++ arc 1 (label 6) (label 6) 1 (units 4)
