@@ -12,11 +12,11 @@ use Rattle.transducer.specs.Format.{decode}
 use Rattle.transducer.specs.Path.{accepts}
 use Rattle.compose.specs.Claim.{Two-paths}
 use Rattle.compose.specs.Compose.{composed}
-use Rattle.compose.specs.Entry.{origin-pairs}
+use Rattle.compose.specs.Entry.{composition, origin-pairs}
 use Rattle.lattice.specs.Lattice.{lattice-origins}
 use Rattle.paths.specs.Count.{before}
 use Rattle.claim.specs.Kind.{Infinitely-many, Each-once}
-use Rattle.claim.specs.Entry.{composition, composition-lattice}
+use Rattle.claim.specs.Entry.{composition-lattice}
 use Rattle.claim.specs.Claim.{Pairs, pair-cost, pair-output, to-pair}
 use Rattle.listing.specs.declared.Listed.{Listed}
 use Rattle.listing.specs.Code.{labels-in}

@@ -24,13 +24,13 @@ use Rattle.explore.specs.Walk.{all-origins}
 use Rattle.steps.specs.Steps.{same-state, left-alone, right-alone, both-step, left-steps, right-steps, steps, first-state, left-origin, right-origin}
 use Rattle.steps.specs.Steps.{origin-pair}
 use Rattle.compose.specs.Compose.{final-state, state-weight, composed}
-use Rattle.compose.specs.Entry.{origin-pairs, compose-room, compose-refusal}
+use Rattle.compose.specs.Entry.{origin-pairs, compose-room, compose-refusal, composition-refusal}
 use Rattle.lattice.specs.Apply.{string-good, step, arc-steps, applied}
 use Rattle.lattice.specs.Apply.{same-state as same-position, steps as applied-steps, final-state as final-position}
 use Rattle.reach.specs.Reach.{entered, accessible, coaccessible, some-arc}
 use Rattle.trim.specs.Trim.{useful, arc-useful, renumbered, kept-arcs, kept-finals, kept-numbers, trimmed, origins-kept}
 use Rattle.lattice.specs.Lattice.{lattice, lattice-origins}
-use Rattle.lattice.specs.ApplyEntry.{apply-room, apply-refusal}
+use Rattle.lattice.specs.ApplyEntry.{apply-room, apply-refusal, application-refusal}
 use Rattle.paths.specs.Count.{before, paths-from, paths, goes-on, endless, path-count, nth-path}
 use Rattle.paths.specs.Entry.{count-refusal, nth-refusal}
 use Rattle.least.specs.Cycles.{some-leaving, falls-to, falls-round, some-below, falling-among, falling}
@@ -39,7 +39,7 @@ use Rattle.shortest.specs.Shortest.{nearer-path, better, best-of, best, shortes
 use Rattle.shortest.specs.Entry.{shortest-refusal}
 use Rattle.listing.specs.Code.{labels-in}
 use Rattle.listing.specs.Text.{digits, decimal, cost-text, readings-word, labels-text, line, line-of, lines, counted-text, listing-text}
-use Rattle.listing.specs.Entry.{code-refusal, applied-refusal, text-unless, listing-refusal, text-of}
+use Rattle.listing.specs.Entry.{applied-refusal, text-unless, listing-refusal, text-of}
 use Rattle.starred.specs.Answer.{Answer, Case, All-hold, counts, or-refused, read-answer, write-answer, path-answer, defined}
 use Rattle.starred.specs.Answer.Call.{counting}
 use Rattle.starred.specs.Cases.{repeated, like-arcs, cases}
@@ -90,7 +90,8 @@ unfolding two four low signed-four signed-low places every framed-from framed re
     paths
     goes-on endless path-count nth-path count-refusal nth-refusal size-of nearer nearer-path better best-of best shortest some-leaving falls-to
     falls-round some-below falling-among falling shortest-refusal labels-in digits
-    decimal cost-text readings-word labels-text line line-of lines counted-text listing-text code-refusal applied-refusal text-unless listing-refusal text-of
+    decimal cost-text readings-word labels-text line line-of lines counted-text listing-text composition-refusal application-refusal applied-refusal
+    text-unless listing-refusal text-of
     or-refused read-answer write-answer path-answer defined repeated
 all-hold x y z =
     together (take 13 (cases x y z)) (drop 13 (cases x y z)) refl
