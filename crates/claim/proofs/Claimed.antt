@@ -1,59 +1,22 @@
 -- The single claim holds of any calls that were answered as their contracts say: composing, applying and counting give the pairs and their
 -- number, and the k-th path is told of the same lattice. Assumes nothing.
-use Prim.Native.Nat.{ℕ, _<_}
-use Rattle.paths.specs.Calls.{Telling}
-use Rattle.claim.specs.Listed.{Lists}
-use Rattle.claim.specs.Listed.{Tells as Tells-thing}
-use Rattle.claim.specs.Claim.{Calls, composed-bytes, lattice-bytes, Answered, Pairs, leads-to, told-arcs, Tells, Claim}
-use Rattle.claim.proofs.Answers.{composed-well, applied-well}
-use Rattle.claim.proofs.ChainCounted.{Calls-chained, lattice-accepted, lattice-within, paths-are-pairs, counts-pairs}
+use mathlib.Core.List.{List}
+use Prim.Native.Nat.{ℕ}
+use Rattle.lattice.specs.Application.{lattice-bytes}
+use Rattle.claim.specs.Kind.{Paths-are}
+use Rattle.claim.specs.Claim.{Calls, Pairs, lattice-of, leads-to, Claim}
+use Rattle.claim.proofs.ChainCounted.{lattice-accepted, lattice-within, paths-are-pairs, counts-pairs}
 use Rattle.claim.proofs.Listing.{lists}
 
-module _ (c : Calls) (answered : Answered c) where
-  chained : Calls-chained (c .left) (c .right) (c .string) (composed-bytes c) (c .origins-left) (lattice-bytes c) (c .lattice-origins-left) (c .counting)
-  chained =
-      record {
-        left-bytes = answered .left-bytes;
-        right-bytes = answered .right-bytes;
-        composing =
-            composed-well (c .left) (c .right) (c .composing) (c .table) (c .table-left) (c .origins) (c .origins-left) (c .composed-states)
-            (c .composed-states-left) (answered .composed) (answered .composed-well);
-        applying =
-            applied-well (c .string) (composed-bytes c) (c .applying) (c .lattice) (c .lattice-left) (c .lattice-origins) (c .lattice-origins-left)
-            (c .lattice-states) (c .lattice-states-left) (answered .applied) (answered .applied-well);
-        counting = answered .counted;
-      }
-
-  abbrev telling : Telling (lattice-bytes c) (c .counting .count)
-  telling =
-      record {
-        answer = c .telling;
-        arcs = c .arcs;
-        arcs-left = c .arcs-left;
-        labels = c .labels;
-        labels-left = c .labels-left;
-        says = answered .told;
-        arcs-room = answered .arcs-room;
-        labels-room = answered .labels-room;
-      }
-
-  listed : Lists (Pairs (c .left) (c .right) (c .string)) (lattice-bytes c) (leads-to c) (c .counting) telling
-  listed =
-      lists (Pairs (c .left) (c .right) (c .string)) (lattice-bytes c) (leads-to c) (lattice-accepted chained) (lattice-within chained)
-      (paths-are-pairs chained) (c .counting) (answered .counted) telling
-
-  tells : (k : ℕ) → k < c .counting .count → Tells c k (leads-to c (told-arcs c k))
-  tells k l =
-      let t : Tells-thing (Pairs (c .left) (c .right) (c .string)) telling k (leads-to c (told-arcs c k)) = listed .tells k l in
-      record { well = t .well; accepting = t .accepting; pair = t .is; output = t .output; cost = t .cost }
-
-  pub claim : Claim c
-  claim =
-      record {
-        paths = paths-are-pairs chained;
-        counts = counts-pairs chained;
-        tells = tells;
-        in-order = listed .in-order;
-        told-once = listed .told-once;
-        all-told = listed .all-told;
-      }
+pub claim : {left right string : List ℕ} (c : Calls left right string) → Claim c
+claim {left} {right} {string} c =
+    let are : Paths-are (Pairs left right string) (lattice-of c) (leads-to c) =
+    paths-are-pairs (c .left-bytes) (c .right-bytes) (c .composing) (c .applying) in
+    record {
+      paths = are;
+      counts = counts-pairs (c .left-bytes) (c .right-bytes) (c .composing) (c .applying) (c .counting);
+      lists =
+          lists (Pairs left right string) (lattice-bytes (c .applying)) (leads-to c)
+          (lattice-accepted (c .left-bytes) (c .right-bytes) (c .composing) (c .applying))
+          (lattice-within (c .left-bytes) (c .right-bytes) (c .composing) (c .applying)) are (c .counting .answer) (c .counting .says) (c .telling);
+    }

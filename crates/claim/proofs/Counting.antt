@@ -15,9 +15,9 @@ use Rattle.transducer.proofs.Runs.{Within}
 use Rattle.paths.specs.declared.Counted.{Counted}
 use Rattle.paths.specs.Count.{paths, endless, path-count}
 use Rattle.paths.specs.Entry.{count-refusal, Count-says}
+use Rattle.paths.proofs.Called.{refused-14, counted-none, count-told}
 use Rattle.paths.proofs.Endless.{mem-paths, paths-distinct, not-endless-listed, endless-escapes}
 use Rattle.claim.specs.Kind.{Kind, Paths-are, Infinitely-many, Each-once, Counts}
-use Rattle.claim.proofs.Answers.{refused-14, counted-none, count-told}
 
 -- So many accepting paths, no two the same.
 record Paths (w : Transducer) (n : ℕ) : Type 0 where

@@ -13,10 +13,10 @@ use Rattle.paths.specs.declared.Counted.{Counted}
 use Rattle.paths.specs.Count.{before, paths, endless, path-count, nth-path}
 use Rattle.paths.specs.Entry.{count-refusal, Count-says}
 use Rattle.paths.specs.Calls.{Telling, told-arcs}
+use Rattle.paths.proofs.Called.{Told-well, told-well, none-counted, count-told, some-counted}
 use Rattle.paths.proofs.Endless.{paths-distinct}
 use Rattle.paths.proofs.NthPath.{nth-path-accepts, nth-path-before, nth-path-onto, path-count-listed}
 use Rattle.claim.specs.Kind.{Kind, Stands-for, Paths-are}
-use Rattle.claim.proofs.Answers.{Told-well, told-well, none-counted, count-told, some-counted}
 use Rattle.claim.specs.Listed.{Tells, Lists}
 
 module _ (K : Kind) (bs : List ℕ) (to : List ℕ → K .Thing) (ok : refusal bs ≡ 0) (within : Within (decode bs)) (are : Paths-are K (decode bs) to)

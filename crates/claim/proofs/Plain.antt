@@ -4,16 +4,18 @@ use mathlib.Core.Path.{_≡_, sym, _∙_}
 use mathlib.Core.Bool.{true}
 use mathlib.Core.Logic.{_↔_}
 use mathlib.Core.List.{List}
-use Prim.Native.Nat.{ℕ, _<_}
-use Rattle.transducer.specs.Format.{max-count, Transducer, decode}
+use Prim.Native.Nat.{ℕ}
+use Rattle.transducer.specs.Format.{Transducer, decode}
 use Rattle.transducer.specs.Path.{accepts, read-by, written-by}
 use Rattle.transducer.specs.Each.{plain}
 use Rattle.transducer.proofs.FitPaths.{read-path-fits, path-fits-plain, path-passed-plain}
 use Rattle.paths.specs.declared.Counted.{Counted}
-use Rattle.paths.specs.Count.{before}
+use Rattle.paths.specs.Calls.{Telling, told-arcs}
+use Rattle.lattice.specs.Application.{lattice-bytes}
 use Rattle.compose.specs.Claim.{Two-paths}
 use Rattle.claim.specs.Kind.{Kind, Paths-are, Infinitely-many, Each-once, Counts}
-use Rattle.claim.specs.Claim.{Calls, Pair, Pairs, pair-output, pair-cost, lattice-of, leads-to, told-arcs, told-labels, Claim}
+use Rattle.claim.specs.Listed.{Lists}
+use Rattle.claim.specs.Claim.{Calls, Pair, Pairs, pair-output, pair-cost, lattice-of, leads-to, Claim}
 
 -- A pair in words of labels alone.
 pub record Read-pair (left right string : List ℕ) (x : Two-paths) : Type 0 where
@@ -32,22 +34,11 @@ Read-pairs left right string =
       cost = pair-cost left right;
     }
 
--- The k-th call tells such a pair; and the claim, as it was made of them.
-pub record Read-tells (c : Calls) (k : ℕ) (x : Two-paths) : Type 0 where
-  pub well : c .telling k .refusal ≡ 0
-  pub accepting : accepts (lattice-of c) (told-arcs c k) ≡ true
-  pub pair : Read-pair (c .left) (c .right) (c .string) x
-  pub output : told-labels c k ≡ written-by (decode (c .right)) (x .right)
-  pub cost : c .telling k .cost ≡ pair-cost (c .left) (c .right) x
-
-pub record Read-claim (c : Calls) : Type 0 where
-  pub paths : Paths-are (Read-pairs (c .left) (c .right) (c .string)) (lattice-of c) (leads-to c)
-  pub counts : Counts (Read-pairs (c .left) (c .right) (c .string)) (c .counting)
-  pub tells : (k : ℕ) → k < c .counting .count → Read-tells c k (leads-to c (told-arcs c k))
-  pub told-once : (j k : ℕ) → j < c .counting .count → k < c .counting .count → leads-to c (told-arcs c j) ≡ leads-to c (told-arcs c k) → j ≡ k
-  pub in-order : (j k : ℕ) → j < k → k < c .counting .count → before (told-arcs c j) (told-arcs c k) ≡ true
-  pub all-told : c .counting .refusal ≡ 0 → c .counting .count < max-count → (x : Two-paths) → Read-pair (c .left) (c .right) (c .string) x
-      → (k : ℕ) × (k < c .counting .count) × (leads-to c (told-arcs c k) ≡ x)
+-- The claim, as it was made of them.
+pub record Read-claim {left right string : List ℕ} (c : Calls left right string) : Type 0 where
+  pub paths : Paths-are (Read-pairs left right string) (lattice-of c) (leads-to c)
+  pub counts : Counts (Read-pairs left right string) (c .counting .answer)
+  pub lists : Lists (Read-pairs left right string) (lattice-bytes (c .applying)) (leads-to c) (c .counting .answer) (c .telling)
 
 -- A kind that has the same things, with the same outputs.
 module _ (K : Kind) (Is : K .Thing → Type 0) (output : K .Thing → List ℕ) (there : (x : K .Thing) → K .Is x → Is x)
@@ -85,6 +76,18 @@ module _ (K : Kind) (Is : K .Thing → Type 0) (output : K .Thing → List ℕ) 
         number = λ l o. a .number l (like-once l o);
       }
 
+  lists-like : (bytes : List ℕ) (to : List ℕ → K .Thing) (r : Counted) (t : Telling bytes (r .count)) → Lists K bytes to r t → Lists Like bytes to r t
+  lists-like bytes to r t a =
+      record {
+        tells = λ k l.
+            let s = a .tells k l in
+            let x = to (told-arcs t k) in
+            record { well = s .well; accepting = s .accepting; is = there x (s .is); output = s .output ∙ same x; cost = s .cost };
+        told-once = a .told-once;
+        in-order = a .in-order;
+        all-told = λ fine few x p. a .all-told fine few x (back x p);
+      }
+
 module _ (left right string : List ℕ) (none : plain (decode right) ≡ true) where
   pair-read : (x : Two-paths) → Pair left right string x → Read-pair left right string x
   pair-read x p =
@@ -107,15 +110,15 @@ module _ (left right string : List ℕ) (none : plain (decode right) ≡ true) w
   pair-written : (x : Two-paths) → pair-output left right x ≡ written-by (decode right) (x .right)
   pair-written x = path-passed-plain (decode right) none (written-by (decode left) (x .left)) (x .right)
 
-module _ (c : Calls) (none : plain (decode (c .right)) ≡ true) where
-  there : (x : Two-paths) → Pair (c .left) (c .right) (c .string) x → Read-pair (c .left) (c .right) (c .string) x
-  there = pair-read (c .left) (c .right) (c .string) none
+module _ {left right string : List ℕ} (c : Calls left right string) (none : plain (decode right) ≡ true) where
+  there : (x : Two-paths) → Pair left right string x → Read-pair left right string x
+  there = pair-read left right string none
 
-  back : (x : Two-paths) → Read-pair (c .left) (c .right) (c .string) x → Pair (c .left) (c .right) (c .string) x
-  back = read-pair (c .left) (c .right) (c .string) none
+  back : (x : Two-paths) → Read-pair left right string x → Pair left right string x
+  back = read-pair left right string none
 
-  written : (x : Two-paths) → pair-output (c .left) (c .right) x ≡ written-by (decode (c .right)) (x .right)
-  written = pair-written (c .left) (c .right) (c .string) none
+  written : (x : Two-paths) → pair-output left right x ≡ written-by (decode right) (x .right)
+  written = pair-written left right string none
 
   -- The one is the other.
   pub claim-read : Claim c ↔ Read-claim c
@@ -123,35 +126,23 @@ module _ (c : Calls) (none : plain (decode (c .right)) ≡ true) where
     where
       forth : Claim c → Read-claim c
       forth h =
-          let K = Pairs (c .left) (c .right) (c .string) in
-          let Is = Read-pair (c .left) (c .right) (c .string) in
-          let output : Two-paths → List ℕ = λ x. written-by (decode (c .right)) (x .right) in
+          let K = Pairs left right string in
+          let Is = Read-pair left right string in
+          let output : Two-paths → List ℕ = λ x. written-by (decode right) (x .right) in
           record {
             paths = paths-like K Is output there back written (lattice-of c) (leads-to c) (h .paths);
-            counts = counts-like K Is output there back written (c .counting) (h .counts);
-            tells = λ k l.
-                let t = h .tells k l in
-                let x = leads-to c (told-arcs c k) in
-                record { well = t .well; accepting = t .accepting; pair = there x (t .pair); output = t .output ∙ written x; cost = t .cost };
-            told-once = h .told-once;
-            in-order = h .in-order;
-            all-told = λ fine few x p. h .all-told fine few x (back x p);
+            counts = counts-like K Is output there back written (c .counting .answer) (h .counts);
+            lists = lists-like K Is output there back written (lattice-bytes (c .applying)) (leads-to c) (c .counting .answer) (c .telling) (h .lists);
           }
 
       and-back : Read-claim c → Claim c
       and-back h =
-          let K = Read-pairs (c .left) (c .right) (c .string) in
-          let Is = Pair (c .left) (c .right) (c .string) in
-          let output = pair-output (c .left) (c .right) in
-          let same : (x : Two-paths) → written-by (decode (c .right)) (x .right) ≡ output x = λ x. sym (written x) in
+          let K = Read-pairs left right string in
+          let Is = Pair left right string in
+          let output = pair-output left right in
+          let same : (x : Two-paths) → written-by (decode right) (x .right) ≡ output x = λ x. sym (written x) in
           record {
             paths = paths-like K Is output back there same (lattice-of c) (leads-to c) (h .paths);
-            counts = counts-like K Is output back there same (c .counting) (h .counts);
-            tells = λ k l.
-                let t = h .tells k l in
-                let x = leads-to c (told-arcs c k) in
-                record { well = t .well; accepting = t .accepting; pair = back x (t .pair); output = t .output ∙ same x; cost = t .cost };
-            told-once = h .told-once;
-            in-order = h .in-order;
-            all-told = λ fine few x p. h .all-told fine few x (there x p);
+            counts = counts-like K Is output back there same (c .counting .answer) (h .counts);
+            lists = lists-like K Is output back there same (lattice-bytes (c .applying)) (leads-to c) (c .counting .answer) (c .telling) (h .lists);
           }

@@ -4,12 +4,8 @@ use mathlib.Core.Bool.{true}
 use mathlib.Core.List.{List}
 use Prim.Native.Nat.{ℕ, _≤_}
 use lib.ListN.{length}
-use Rattle.wire.specs.Bytes.{Bytes}
-use Rattle.transducer.specs.Format.{max-states, Transducer, Good, refusal, decode}
-use Rattle.transducer.specs.Encode.{encode}
-use Rattle.transducer.specs.Each.{named}
+use Rattle.transducer.specs.Format.{max-states, Transducer, Good}
 use Rattle.transducer.specs.Path.{accepts, read-by, written-by, path-cost}
-use Rattle.transducer.proofs.RoundTrip.{accepted-good}
 use Rattle.transducer.specs.Weight.{plus}
 use Rattle.explore.specs.Explore.{Step, built-refusal}
 use Rattle.explore.proofs.Member.{at-length, at-getD}
@@ -30,7 +26,7 @@ use Rattle.compose.proofs.LeastSums.{one-to-one-least-sums}
 use Rattle.steps.proofs.SameState.{same-state-decides}
 use Rattle.compose.proofs.MetPaths.{no-step, met-lefts, met-rights}
 use Rattle.compose.proofs.Pairs.{Accepted, accepted-pair, accepted-cost, Pair-trail, pair-accepted}
-use Rattle.compose.proofs.Written.{good-arcs-below, refusal-composed, decode-composed}
+use Rattle.compose.proofs.Written.{good-arcs-below}
 
 -- No step stands twice among the steps of a state.
 pub steps-once : (t u : Transducer) → Once (steps t u)
@@ -121,21 +117,3 @@ module _ (t u : Transducer) (good-t : Good t) (good-u : Good u) (fine : built-re
 
   pub composed-least-sums : Least-sums t u (composed t u .result)
   composed-least-sums = one-to-one-least-sums t u (composed t u .result) (origin-pairs (composed t u .steps)) composed-one-to-one
-
--- The same from the bytes of two transducers to those of their composition.
-module _ (xs ys : List ℕ) (bytes-xs : Bytes xs) (bytes-ys : Bytes ys) (good-xs : refusal xs ≡ 0)
-    (all : named (decode xs) ≡ true) (good-ys : refusal ys ≡ 0) (fine : built-refusal (composed (decode xs) (decode ys) .result) ≡ 0) where
-  pub bytes-refusal : refusal (encode (composed (decode xs) (decode ys) .result)) ≡ 0
-  bytes-refusal = refusal-composed (decode xs) (decode ys) (accepted-good xs bytes-xs good-xs) all (accepted-good ys bytes-ys good-ys) fine
-
-  pub bytes-decode : decode (encode (composed (decode xs) (decode ys) .result)) ≡ composed (decode xs) (decode ys) .result
-  bytes-decode = decode-composed (decode xs) (decode ys) (accepted-good xs bytes-xs good-xs) all (accepted-good ys bytes-ys good-ys) fine
-
-  pub bytes-one-to-one : One-to-one (decode xs) (decode ys) (decode (encode (composed (decode xs) (decode ys) .result)))
-      (origin-pairs (composed (decode xs) (decode ys) .steps))
-  bytes-one-to-one =
-      rw bytes-decode (composed-one-to-one (decode xs) (decode ys) (accepted-good xs bytes-xs good-xs) (accepted-good ys bytes-ys good-ys) fine)
-
-  pub bytes-least-sums : Least-sums (decode xs) (decode ys) (decode (encode (composed (decode xs) (decode ys) .result)))
-  bytes-least-sums =
-      rw bytes-decode (composed-least-sums (decode xs) (decode ys) (accepted-good xs bytes-xs good-xs) (accepted-good ys bytes-ys good-ys) fine)

@@ -17,3 +17,5 @@ pub mod WalkCode
 -- What is written, and the answers.
 pub mod KeyFinals
 pub mod ComposeSays
+-- What a call leaves behind.
+pub mod Called

@@ -4,7 +4,7 @@ use mathlib.Core.List.{List}
 use Prim.Native.Nat.{ℕ}
 use lib.Dec.{ltb}
 use Rattle.transducer.specs.declared.Written.{Written}
-use Rattle.transducer.specs.Format.{max-states, max-bytes, max-origins, refusal, decode}
+use Rattle.transducer.specs.Format.{Transducer, max-states, max-bytes, max-origins, refusal, decode}
 use Rattle.transducer.specs.Encode.{encode}
 use Rattle.transducer.specs.Each.{any-refusal}
 use Rattle.transducer.specs.Entry.{or-else}
@@ -14,6 +14,10 @@ use Rattle.steps.specs.declared.State.{State}
 use Rattle.steps.specs.declared.Origin.{Origin}
 use Rattle.steps.specs.Steps.{origin-pair}
 use Rattle.compose.specs.Compose.{composed}
+
+-- The composition of what is in two transducers' bytes.
+abbrev pub composition : (left right : List ℕ) → Transducer
+composition xs ys = composed (decode xs) (decode ys) .result
 
 -- The origins of each arc, the left one and then the right one.
 unfoldable pub origin-pairs : List (Step State Origin) → List ℕ
@@ -29,6 +33,11 @@ compose-refusal xs ys a b c =
     or-else (refusal xs)
     (or-else (any-refusal (decode xs))
     (or-else (refusal ys) (or-else (compose-room a b c) (built-refusal (composed (decode xs) (decode ys) .result)))))
+
+-- The number that refuses a composition where enough is lent: 10 is left out.
+unfoldable pub composition-refusal : (left right : List ℕ) → ℕ
+composition-refusal xs ys =
+    or-else (refusal xs) (or-else (any-refusal (decode xs)) (or-else (refusal ys) (built-refusal (composition xs ys))))
 
 -- The composed transducer, the origins of its arcs, and its states, lent only to work in.
 abbrev pub Compose-says : (left right : List ℕ) → (number : ℕ) → Written → (table table' origins origins' states states' : List ℕ) → Type 0

@@ -15,14 +15,14 @@ use Rattle.transducer.specs.Format.{Transducer, max-states, refusal, decode}
 use Rattle.transducer.specs.Weight.{Weight, no-weight}
 use Rattle.transducer.proofs.Weights.{sums}
 use Rattle.transducer.proofs.Answers.{none-or-else, weights-left-in-none}
-use Rattle.reach.proofs.Sized.{Sized}
+use Rattle.reach.proofs.Sized.{Sized, sized}
 use Rattle.least.specs.Cycles.{Falling, Falls, anywhere, falling-anywhere}
 use Rattle.least.proofs.Falls.{true-anywhere, anywhere-true}
 use Rattle.least.proofs.NoLeast.{no-least}
 use Rattle.distance.specs.Distance.{least-to-come}
 use Rattle.relax.specs.Nearest.{cost-at}
 use Rattle.distance.specs.Entry.{costs-refusal, costs-to-come, Costs-say}
-use Rattle.distance.specs.Claim.{Least-from, No-least-from, Cell-claim, Costs-claim}
+use Rattle.distance.specs.Claim.{Answered, Least-from, No-least-from, Cell-claim, Costs-claim, Costs-claimed}
 use Rattle.distance.proofs.ToCome.{cell-claimed}
 
 -- A cell on success.
@@ -86,5 +86,10 @@ module _ (bs : List ℕ) (r : ℕ) (a a' : List Weight) (ok : refusal bs ≡ 0) 
       let none : r ≡ 0 = refused-is ∙ rw rises refl in
       (none, λ s h. rw (cell-is bs (costs-refusal bs (length a)) r a a' says none s h) (cell-claimed t size rises s))
 
-  pub costs-claimed : Costs-claim t r a'
-  costs-claimed = record { falls = falls; bottomless = bottomless; told = told }
+  claimed : Costs-claim t r a'
+  claimed = record { falls = falls; bottomless = bottomless; told = told }
+
+pub costs-claimed : {table : List ℕ} (x : Answered table) → Costs-claimed x
+costs-claimed {table} x =
+    claimed table (x .call .answer) (x .call .cells) (x .call .cells-left) (x .accepted) (sized table (x .bytes) (x .accepted)) (x .call .room)
+    (x .call .says)

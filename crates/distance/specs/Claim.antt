@@ -4,14 +4,32 @@ use mathlib.Core.Path.{_≡_}
 use mathlib.Core.Bool.{true}
 use mathlib.Core.Logic.{_↔_}
 use mathlib.Core.List.{List}
-use Prim.Native.Nat.{ℕ, _<_}
-use Rattle.transducer.specs.Format.{Transducer, max-states}
+use Prim.Native.Nat.{ℕ, _≤_, _<_}
+use lib.ListN.{length}
+use Rattle.wire.specs.Bytes.{Bytes}
+use Rattle.transducer.specs.Format.{Transducer, max-states, refusal, decode}
 use Rattle.transducer.specs.Path.{is-final, runs, ends}
 use Rattle.transducer.specs.Weight.{Weight, At-most, Below}
 use Rattle.least.specs.Costs.{cost-from}
 use Rattle.least.specs.Cycles.{Falling}
 use Rattle.distance.specs.Distance.{no-path}
+use Rattle.distance.specs.Entry.{costs-refusal, Costs-say}
 use Rattle.relax.specs.Nearest.{cost-at}
+
+-- A call of `costs_to_come` on some bytes, answered as its contract says, with at least 1,024 cells lent; it may be refused. What it was lent stands
+-- beside the same as it was left behind (`-left`).
+pub record Costs-to-come (bytes : List ℕ) : Type 0 where
+  pub answer : ℕ
+  pub cells : List Weight
+  pub cells-left : List Weight
+  pub says : Costs-say bytes (costs-refusal bytes (length cells)) answer cells cells-left
+  pub room : max-states ≤ length cells
+
+-- The call on a table that is not refused. That the table is bytes holds of slices of bytes.
+pub record Answered (table : List ℕ) : Type 0 where
+  pub bytes : Bytes table
+  pub accepted : refusal table ≡ 0
+  pub call : Costs-to-come table
 
 -- A path from a state to a final one.
 pub record To-final (t : Transducer) (s : ℕ) (p : List ℕ) : Type 0 where
@@ -40,3 +58,7 @@ pub record Costs-claim (t : Transducer) (r : ℕ) (cells : List Weight) : Type 0
   pub falls : (r ≡ 19) ↔ ((s : ℕ) × Falling t s)
   pub bottomless : (r ≡ 19) ↔ ((s : ℕ) × No-least-from t s)
   pub told : (r ≡ 19 → ⊥) → (r ≡ 0) × ((s : ℕ) → s < max-states → Cell-claim t s (cost-at cells s))
+
+-- This is claimed of every call that was so answered.
+abbrev pub Costs-claimed : {table : List ℕ} → Answered table → Type 0
+Costs-claimed {table} x = Costs-claim (decode table) (x .call .answer) (x .call .cells-left)

@@ -22,3 +22,4 @@ pub mod Tracing
 pub mod Closing
 pub mod ApplySays
 pub mod AppliedWritten
+pub mod Called

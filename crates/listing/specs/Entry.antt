@@ -1,28 +1,22 @@
 -- The text of the whole listing, from the bytes of two transducers and of a code, and what the call answers. Assumes nothing: these are definitions.
 use mathlib.Core.Path.{_≡_}
-use mathlib.Core.Bool.{_&&_, cond}
+use mathlib.Core.Bool.{cond}
 use mathlib.Core.List.{List}
 use Prim.Native.Nat.{ℕ, _%_}
 use lib.Dec.{eqb, ltb}
 use lib.ListN.{length}
-use Rattle.transducer.specs.Format.{Transducer, max-states, max-bytes, max-origins, decode}
+use Rattle.transducer.specs.Format.{Transducer}
 use Rattle.transducer.specs.Entry.{or-else, unless, left-in}
-use Rattle.explore.specs.Explore.{built-refusal}
-use Rattle.compose.specs.Compose.{composed}
-use Rattle.compose.specs.Entry.{compose-refusal}
-use Rattle.lattice.specs.Apply.{string-good, applied}
+use Rattle.compose.specs.Entry.{composition, composition-refusal}
 use Rattle.lattice.specs.Lattice.{lattice}
+use Rattle.lattice.specs.ApplyEntry.{application-refusal}
 use Rattle.listing.specs.declared.Listed.{Listed}
 use Rattle.listing.specs.Code.{labels-in}
 use Rattle.listing.specs.Text.{listing-text, refused-text, least-room}
 
--- 9: an odd last byte, or a string that is not good
-unfoldable pub code-refusal : (code : List ℕ) → ℕ
-code-refusal cs = cond (eqb (length cs % 2) 0 && string-good (labels-in cs)) 0 9
-
--- The code's refusal, then 11 and 12 of what applying it makes.
+-- 9 for an odd last byte, and else that of applying the labels.
 unfoldable pub applied-refusal : Transducer → (code : List ℕ) → ℕ
-applied-refusal t cs = or-else (code-refusal cs) (built-refusal (applied (labels-in cs) t .result))
+applied-refusal t cs = cond (eqb (length cs % 2) 0) (application-refusal (labels-in cs) t) 9
 
 -- A text, or the one line of a refusal.
 unfoldable pub text-unless : (number : ℕ) → List ℕ → List ℕ
@@ -34,12 +28,11 @@ applied-text t cs = text-unless (applied-refusal t cs) (listing-text (lattice (l
 
 -- The refusal for two transducers and a code: the composition's comes before the code's.
 unfoldable pub listing-refusal : (left right code : List ℕ) → ℕ
-listing-refusal xs ys cs =
-    or-else (compose-refusal xs ys max-bytes max-origins max-states) (applied-refusal (composed (decode xs) (decode ys) .result) cs)
+listing-refusal xs ys cs = or-else (composition-refusal xs ys) (applied-refusal (composition xs ys) cs)
 
 -- The text for two transducers and a code.
 unfoldable pub text-of : (left right code : List ℕ) → List ℕ
-text-of xs ys cs = text-unless (listing-refusal xs ys cs) (listing-text (lattice (labels-in cs) (composed (decode xs) (decode ys) .result)))
+text-of xs ys cs = text-unless (listing-refusal xs ys cs) (listing-text (lattice (labels-in cs) (composition xs ys)))
 
 -- 10: the buffer lent for the text is too short
 unfoldable pub text-room : (room : ℕ) → ℕ

@@ -25,3 +25,5 @@ pub mod CountSays
 pub mod Walk
 pub mod Steps
 pub mod NthSays
+-- What the answers of the calls say.
+pub mod Called

@@ -1,6 +1,6 @@
 -- No text is longer than the least length of its buffer. Assumes nothing.
 use mathlib.Core.Path.{_≡_, refl}
-use mathlib.Core.Bool.{Bool, true, false, _&&_, _||_, cond}
+use mathlib.Core.Bool.{Bool, true, false, cond}
 use mathlib.Core.List.{List}
 use Prim.Native.Nat.{ℕ, _%_, _≤_}
 use native.Mathlib.Omega.{arith}
@@ -9,21 +9,21 @@ use lib.Dec.{eqb, ltb}
 use lib.ListN.{length}
 use Rattle.wire.specs.Bytes.{Bytes}
 use Rattle.wire.proofs.Bool.{cond-most}
-use Rattle.transducer.specs.Format.{max-bytes, max-origins, Transducer, Good, refusal, decode, weights-good, max-states, max-arcs}
+use Rattle.transducer.specs.Format.{Transducer, Good, refusal, decode, weights-good, max-states, max-arcs}
 use Rattle.transducer.specs.Encode.{encode}
 use Rattle.transducer.specs.Each.{named, any-refusal}
 use Rattle.transducer.specs.Entry.{or-else}
 use Rattle.transducer.proofs.Most.{refusal-most}
 use Rattle.transducer.proofs.RoundTrip.{bytes-encode, decode-encode, refusal-encode}
 use Rattle.explore.specs.Explore.{built-refusal}
-use Rattle.compose.specs.Compose.{composed}
-use Rattle.compose.specs.Entry.{compose-room, compose-refusal}
+use Rattle.compose.specs.Entry.{composition, composition-refusal}
 use Rattle.lattice.specs.Apply.{string-good, applied}
+use Rattle.lattice.specs.ApplyEntry.{application-refusal}
 use Rattle.paths.proofs.Ready.{Sized, sized}
 use Rattle.claim.specs.Entry.{composition-lattice}
 use Rattle.listing.specs.Code.{labels-in}
 use Rattle.listing.specs.Text.{listing-text, refused-text, least-room}
-use Rattle.listing.specs.Entry.{code-refusal, applied-refusal, listing-refusal, text-unless, text-of}
+use Rattle.listing.specs.Entry.{applied-refusal, listing-refusal, text-unless, text-of}
 use Rattle.listing.proofs.Short.{refused-short}
 use Rattle.listing.proofs.NthLine.{listing-short}
 use Rattle.printed.proofs.Pairs.{good-lattice}
@@ -41,23 +41,20 @@ built-most t =
     (cond-most (ltb max-arcs (length (t .arcs))) 12 (cond (weights-good t) 0 13) (omega arith) (cond-most (weights-good t) 0 13 (omega arith) (omega arith)))
 
 listing-most : (xs ys cs : List ℕ) → listing-refusal xs ys cs ≤ 18
-unfolding listing-refusal compose-refusal any-refusal compose-room applied-refusal code-refusal
+unfolding listing-refusal composition-refusal any-refusal applied-refusal application-refusal
 listing-most xs ys cs =
-    let z : Transducer = composed (decode xs) (decode ys) .result in
-    let room : ℕ = cond (ltb max-bytes max-bytes || (ltb max-origins max-origins || ltb max-states max-states)) 10 0 in
-    let code : ℕ = cond (eqb (length cs % 2) 0 && string-good (labels-in cs)) 0 9 in
-    let built : ℕ = built-refusal (applied (labels-in cs) z .result) in
-    let inner : or-else room (built-refusal z) ≤ 18 =
-    or-else-most room (built-refusal z) (cond-most (ltb max-bytes max-bytes || (ltb max-origins max-origins || ltb max-states max-states)) 10 0
-    (omega arith) (omega arith)) (built-most z) in
+    let z : Transducer = composition xs ys in
     let any : ℕ = cond (named (decode xs)) 0 18 in
-    let right : ℕ = or-else (refusal ys) (or-else room (built-refusal z)) in
-    or-else-most (or-else (refusal xs) (or-else any right)) (or-else code built)
+    let right : ℕ = or-else (refusal ys) (built-refusal z) in
+    let string : ℕ = cond (string-good (labels-in cs)) 0 9 in
+    let built : ℕ = built-refusal (applied (labels-in cs) z .result) in
+    or-else-most (or-else (refusal xs) (or-else any right)) (cond (eqb (length cs % 2) 0) (or-else string built) 9)
     (or-else-most (refusal xs) (or-else any right) (omega (arith, refusal-most xs))
     (or-else-most any right (cond-most (named (decode xs)) 0 18 (omega arith) (omega arith))
-    (or-else-most (refusal ys) (or-else room (built-refusal z)) (omega (arith, refusal-most ys)) inner)))
-    (or-else-most code built (cond-most (eqb (length cs % 2) 0 && string-good (labels-in cs)) 0 9 (omega arith) (omega arith))
-    (built-most (applied (labels-in cs) z .result)))
+    (or-else-most (refusal ys) (built-refusal z) (omega (arith, refusal-most ys)) (built-most z))))
+    (cond-most (eqb (length cs % 2) 0) (or-else string built) 9
+    (or-else-most string built (cond-most (string-good (labels-in cs)) 0 9 (omega arith) (omega arith)) (built-most (applied (labels-in cs) z .result)))
+    (omega arith))
 
 -- A transducer that can be written has a short listing.
 good-short : (t : Transducer) → Good t → length (listing-text t) ≤ least-room

@@ -1,23 +1,23 @@
 -- If nothing is refused, the paths of the lattice are the pairs. Assumes nothing.
 use mathlib.Core.Path.{_≡_}
-use mathlib.Core.Bool.{true, cond}
+use mathlib.Core.Bool.{true}
 use mathlib.Core.List.{List}
 use Prim.Native.Nat.{ℕ}
 use Rattle.wire.specs.Bytes.{Bytes}
-use Rattle.transducer.specs.Format.{max-bytes, max-origins, max-states, Transducer, Good, refusal, decode}
-use Rattle.wire.proofs.Bool.{passed-last}
-use Rattle.transducer.specs.Each.{named, any-refusal}
-use Rattle.transducer.specs.Entry.{or-else}
+use Rattle.transducer.specs.Format.{Transducer, Good, decode}
+use Rattle.transducer.specs.Each.{named}
 use Rattle.transducer.proofs.RoundTrip.{accepted-good}
 use Rattle.transducer.proofs.Runs.{Within, good-within}
 use Rattle.transducer.proofs.Answers.{or-else-none}
 use Rattle.explore.specs.Explore.{built-refusal}
 use Rattle.compose.specs.Compose.{composed}
-use Rattle.compose.specs.Entry.{origin-pairs, compose-room, compose-refusal}
+use Rattle.compose.specs.Entry.{composition, composition-refusal, origin-pairs}
+use Rattle.compose.proofs.Called.{Composable, unrefused-composable}
 use Rattle.compose.proofs.Claimed.{composed-one-to-one}
 use Rattle.compose.proofs.Written.{composed-plain, composed-good}
 use Rattle.lattice.specs.Apply.{string-good, applied}
 use Rattle.lattice.specs.Lattice.{lattice-origins}
+use Rattle.lattice.proofs.Called.{Appliable}
 use Rattle.lattice.proofs.LatticeGood.{lattice-good}
 use Rattle.lattice.proofs.LatticeLaw.{lattice-one-to-one}
 use Rattle.claim.specs.Kind.{Paths-are}
@@ -34,7 +34,7 @@ module _ (xs ys cs : List ℕ) (bytes-xs : Bytes xs) (bytes-ys : Bytes ys) (fine
   s = labels-in cs
 
   abbrev z : Transducer
-  z = composed (decode xs) (decode ys) .result
+  z = composition xs ys
 
   abbrev w : Transducer
   w = composition-lattice xs ys s
@@ -48,21 +48,18 @@ module _ (xs ys cs : List ℕ) (bytes-xs : Bytes xs) (bytes-ys : Bytes ys) (fine
     applies : built-refusal (applied s z .result) ≡ 0
 
   passed : Passed
-  unfolding listing-refusal compose-refusal any-refusal
+  unfolding listing-refusal
   passed =
-      let rest : ℕ = or-else (compose-room max-bytes max-origins max-states) (built-refusal z) in
-      let all = or-else-none (compose-refusal xs ys max-bytes max-origins max-states) (applied-refusal z cs) fine in
-      let one = or-else-none (refusal xs) (or-else (cond (named (decode xs)) 0 18) (or-else (refusal ys) rest)) (all .0) in
-      let any = or-else-none (cond (named (decode xs)) 0 18) (or-else (refusal ys) rest) (one .1) in
-      let two = or-else-none (refusal ys) rest (any .1) in
-      let code = applied-fine z cs (all .1) in
+      let both = or-else-none (composition-refusal xs ys) (applied-refusal z cs) fine in
+      let made : Composable xs ys = unrefused-composable xs ys (both .0) in
+      let put : Appliable s z = applied-fine z cs (both .1) in
       record {
-        left-good = accepted-good xs bytes-xs (one .0);
-        left-named = passed-last (named (decode xs)) 17 (any .0);
-        right-good = accepted-good ys bytes-ys (two .0);
-        composes = or-else-none (compose-room max-bytes max-origins max-states) (built-refusal z) (two .1) .1;
-        string = code .0;
-        applies = code .1;
+        left-good = accepted-good xs bytes-xs (made .left-good);
+        left-named = made .left-named;
+        right-good = accepted-good ys bytes-ys (made .right-good);
+        composes = made .fine;
+        string = put .string;
+        applies = put .fine;
       }
 
   good-z : Good z

@@ -8,9 +8,9 @@ use Rattle.wire.specs.Bytes.{Bytes}
 use Rattle.transducer.specs.Format.{decode}
 use Rattle.compose.specs.Claim.{Two-paths}
 use Rattle.compose.specs.Compose.{composed}
-use Rattle.compose.specs.Entry.{origin-pairs}
+use Rattle.compose.specs.Entry.{composition, origin-pairs}
 use Rattle.lattice.specs.Lattice.{lattice-origins}
-use Rattle.claim.specs.Entry.{composition, composition-lattice}
+use Rattle.claim.specs.Entry.{composition-lattice}
 use Rattle.claim.specs.Claim.{Pairs, to-pair}
 use Rattle.listing.specs.declared.Listed.{Listed}
 use Rattle.listing.specs.Code.{labels-in}

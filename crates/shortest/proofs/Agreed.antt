@@ -29,7 +29,7 @@ use Rattle.distance.proofs.ToCome.{cell-claimed}
 use Rattle.distance.proofs.Claimed.{cell-is}
 use Rattle.shortest.specs.Shortest.{shortest}
 use Rattle.shortest.specs.Entry.{shortest-refusal, Shortest-says}
-use Rattle.shortest.specs.Agree.{Agrees}
+use Rattle.shortest.specs.Agree.{Both-answered, Agrees, Both-agree}
 use Rattle.shortest.proofs.Cheapest.{shortest-accepts, shortest-least}
 
 -- The start's cell is the cost of the shortest path where there is one.
@@ -123,5 +123,10 @@ module _ (bs : List ℕ) (bytes : Bytes bs) (r : Told) (a a' b b' : List ℕ) (n
     same-rises : r .refusal ≡ 19 → ⊥
     same-rises h = clash (falling-some t (size .within) (is-19 short accepting (falling t) (sym refused-is ∙ h))) (both .1)
 
-  pub agrees : Agrees t r number c'
+  agrees : Agrees t r number c'
   agrees = record { cost = same-cost; none = same-none; rises = same-rises }
+
+pub both-agree : {table : List ℕ} (x : Both-answered table) → Both-agree x
+both-agree {table} x =
+    agrees table (x .bytes) (x .path) (x .arcs) (x .arcs-left) (x .labels) (x .labels-left) (x .costs) (x .cells) (x .cells-left) (x .path-says)
+    (x .costs-say)

@@ -13,6 +13,7 @@ use Rattle.transducer.proofs.Weights.{sums}
 use Rattle.wire.proofs.Places.{take-told}
 use Rattle.transducer.specs.Format.{max-path, Transducer, refusal, decode}
 use Rattle.transducer.specs.Path.{accepts, written-by, path-cost}
+use Rattle.transducer.specs.Entry.{unless, cost-unless, left-in}
 use Rattle.transducer.specs.Weight.{no-weight}
 use Rattle.transducer.proofs.Answers.{none-or-else, unless-none, cost-unless-none, left-in-none}
 use Rattle.transducer.proofs.RoundTrip.{accepted-good}
@@ -26,7 +27,7 @@ use Rattle.least.proofs.Falls.{falling-true, true-falling}
 use Rattle.least.proofs.NoLeast.{falling-no-least}
 use Rattle.shortest.specs.Shortest.{shortest}
 use Rattle.shortest.specs.Entry.{shortest-refusal, Shortest-says}
-use Rattle.shortest.specs.Claim.{Answered, No-least-cost, Best-of-all, Tells-path, Shortest-claim}
+use Rattle.shortest.specs.Claim.{Shortest-path, Answered, No-least-cost, Best-of-all, Tells-path, Shortest-claim}
 use Rattle.shortest.proofs.Cheapest.{shortest-accepts, shortest-least, nothing-better, shortest-short, nothing-accepts}
 
 -- The last two tests of the refusals.
@@ -150,3 +151,25 @@ pub answered-claimed : (table : List ℕ) (r : Told) (a a' b b' : List ℕ) → 
 answered-claimed table r a a' b b' c =
     shortest-claimed table r a a' b b' (c .accepted) (good-within (decode table) (accepted-good table (c .bytes) (c .accepted))) (c .arcs-room)
     (c .labels-room) (c .says)
+
+-- There are such calls: on any bytes, with whatever is lent, if it is long enough.
+pub some-shortest : (bs a l : List ℕ) → max-path ≤ length a → max-path ≤ length l → Shortest-path bs
+some-shortest bs a l long-a long-l =
+    let number : ℕ = shortest-refusal bs (length a) (length l) in
+    let p : List ℕ = shortest (decode bs) in
+    record {
+      answer =
+          record {
+            refusal = number;
+            cost = cost-unless number (path-cost (decode bs) p);
+            arcs = unless number (length p);
+            labels = unless number (length (written-by (decode bs) p));
+          };
+      arcs = a;
+      arcs-left = left-in number a p;
+      labels = l;
+      labels-left = left-in number l (written-by (decode bs) p);
+      says = record { refusal-is = refl; cost-is = refl; arcs-is = refl; labels-is = refl; arcs = refl; labels = refl };
+      arcs-room = long-a;
+      labels-room = long-l;
+    }

@@ -8,7 +8,7 @@ use lib.ListN.{length, take, replicate, length-replicate}
 use lib.Seq.{length-take-le}
 use Rattle.transducer.specs.Format.{max-states, max-arcs, max-bytes, decode}
 use Rattle.listing.specs.Code.{most-loaded}
-use Rattle.listing.proofs.Steps.{Applying, odd-refused, apply-refused, lattice-front, lattice-accepted, lattice-listed}
+use Rattle.listing.proofs.Steps.{Applying, odd-refused, apply-refused, lattice-fits, lattice-accepted, lattice-listed}
 use Rattle.listing.proofs.entry.list_applied.Statement.{statement}
 use Rattle.listing.proofs.entry.list_applied.Tie as tie
 
@@ -49,10 +49,13 @@ applying c =
       accepted = start c .pre .0;
       even = loaded c .before .before .if1 .left;
       string = loaded c .load-labels .ensures .labels;
-      table-room = omega (arith, length-replicate {A = ℕ} max-bytes 0);
-      origins-room = omega (arith, length-replicate {A = ℕ} max-arcs 0);
-      states-room = omega (arith, length-replicate {A = ℕ} max-states 0);
-      says = c .apply .ensures;
+      call =
+          record {
+            lattice-room = omega (arith, length-replicate {A = ℕ} max-bytes 0);
+            origins-room = omega (arith, length-replicate {A = ℕ} max-arcs 0);
+            pairs-room = omega (arith, length-replicate {A = ℕ} max-states 0);
+            says = c .apply .ensures;
+          };
     }
 
 refuse-into-requires : tie.Need-refuse-into-requires
@@ -108,7 +111,7 @@ cast-len c = search needs
 inside : (c : tie.After-struct-known) → called c .apply .result .len ≤ length (called c .apply .last .1 .1 .0)
 inside c =
     let asked = called c in
-    lattice-front (applying asked) (c .before .if2 .left) .1
+    lattice-fits (applying asked) (c .before .if2 .left)
 
 array-share-prefix-lattice : tie.Need-array-share-prefix-lattice
 array-share-prefix-lattice c = inside c

@@ -1,4 +1,4 @@
--- `compose-refused` has the text of a refusal, and `composed-..` what is handed on.
+-- `compose-refused` has the text of a refusal, and `table-..` what is handed on.
 use mathlib.Core.Path.{sym}
 use Prim.Native.Nat.{ℕ, _≤_}
 use native.Mathlib.Omega.{arith}
@@ -6,7 +6,7 @@ use borrow.Author.Needs.{needs}
 use lib.ListN.{length, replicate, length-replicate}
 use lib.Seq.{length-take-le}
 use Rattle.transducer.specs.Format.{max-states, max-bytes, max-origins}
-use Rattle.listing.proofs.Steps.{Composing, compose-refused, composed-front, composed-accepted, composed-listed}
+use Rattle.listing.proofs.Steps.{Composing, compose-refused, table-fits, table-accepted, table-listed}
 use Rattle.listing.proofs.entry.list_composed.Statement.{statement}
 use Rattle.listing.proofs.entry.list_composed.Tie as tie
 
@@ -39,10 +39,13 @@ composing c =
     record {
       left = λ i. omega (arith, lent-left c .shared-slice-known .given i);
       right = λ i. omega (arith, lent-right c .shared-slice-known2 .given i);
-      table-room = length-replicate {A = ℕ} max-bytes 0;
-      origins-room = length-replicate {A = ℕ} max-origins 0;
-      states-room = length-replicate {A = ℕ} max-states 0;
-      says = c .compose .ensures;
+      call =
+          record {
+            table-room = omega (arith, length-replicate {A = ℕ} max-bytes 0);
+            origins-room = omega (arith, length-replicate {A = ℕ} max-origins 0);
+            states-room = omega (arith, length-replicate {A = ℕ} max-states 0);
+            says = c .compose .ensures;
+          };
     }
 
 slice-aggregate-compose : tie.Need-slice-aggregate-compose
@@ -74,7 +77,7 @@ cast-len c = search needs
 inside : (c : tie.After-struct-known) → called c .compose .result .len ≤ length (called c .compose .last .1 .1 .0)
 inside c =
     let asked = called c in
-    composed-front (start asked .args .bytes .now) (composing asked) (c .before .if1 .left) .1
+    table-fits (start asked .args .bytes .now) (composing asked) (c .before .if1 .left)
 
 array-share-prefix-table : tie.Need-array-share-prefix-table
 array-share-prefix-table c = inside c
@@ -86,7 +89,7 @@ slice-aggregate-list-applied c =
 list-applied-requires : tie.Need-list-applied-requires
 list-applied-requires c κs =
     let asked = called (c .before .before) in (
-      composed-accepted (start asked .args .bytes .now) (composing asked) (c .before .before .before .if1 .left),
+      table-accepted (start asked .args .bytes .now) (composing asked) (c .before .before .before .if1 .left),
       start asked .pre,
     )
 
@@ -97,7 +100,7 @@ returns-2 : tie.Need-returns-2
 returns-2 c =
     let known = at-applied c in
     let asked = called known in
-    composed-listed (start asked .args .bytes .now) (composing asked) (known .before .if1 .left) (c .before .before .list-applied .ensures)
+    table-listed (start asked .args .bytes .now) (composing asked) (known .before .if1 .left) (c .before .before .list-applied .ensures)
 
 pub list-composed-spec : {M : Type 1} → statement M
 list-composed-spec =
