@@ -28,7 +28,8 @@ use Rattle.compose.specs.Entry.{origin-pairs, compose-room, compose-refusal}
 use Rattle.lattice.specs.Apply.{string-good, step, arc-steps, applied}
 use Rattle.lattice.specs.Apply.{same-state as same-position, steps as applied-steps, final-state as final-position}
 use Rattle.reach.specs.Reach.{entered, accessible, coaccessible, some-arc}
-use Rattle.trim.specs.Trim.{useful, arc-useful, renumbered, kept-arcs, kept-finals, kept-numbers, trimmed, origins-kept}
+use Rattle.trim.specs.Passing.{passing, passing-numbers}
+use Rattle.trim.specs.Trim.{useful, arc-useful, renumbered, moved, kept-finals, trimmed, origins-kept}
 use Rattle.lattice.specs.Lattice.{lattice, lattice-origins}
 use Rattle.lattice.specs.ApplyEntry.{apply-room, apply-refusal}
 use Rattle.paths.specs.Count.{before, paths-from, paths, goes-on, endless, path-count, nth-path}
@@ -86,7 +87,7 @@ unfolding two four low signed-four signed-low places every framed-from framed re
     place met served numbered targets arcs-here arcs-from finals-from steps-from built built-refusal all-origins same-state left-alone right-alone both-step
     left-steps right-steps steps first-state final-state state-weight composed left-origin right-origin origin-pair origin-pairs compose-room
     compose-refusal string-good step arc-steps applied same-position applied-steps final-position entered some-arc accessible coaccessible useful
-    arc-useful renumbered kept-arcs kept-finals kept-numbers trimmed origins-kept lattice lattice-origins apply-room apply-refusal before paths-from
+    arc-useful renumbered moved passing passing-numbers kept-finals trimmed origins-kept lattice lattice-origins apply-room apply-refusal before paths-from
     paths
     goes-on endless path-count nth-path count-refusal nth-refusal size-of nearer nearer-path better best-of best shortest some-leaving falls-to
     falls-round some-below falling-among falling shortest-refusal labels-in digits

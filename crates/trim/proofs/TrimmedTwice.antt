@@ -17,10 +17,11 @@ use Rattle.transducer.proofs.Runs.{accepting-append, accepts-accepting, Within,
 use Rattle.transducer.proofs.Good.{Content, good-tests, finals-inside, arcs-inside}
 use Rattle.transducer.proofs.RoundTrip.{good-range}
 use Rattle.reach.specs.Reach.{entered, some-arc, accessible, coaccessible}
-use Rattle.trim.specs.Trim.{useful, arc-useful, renumbered, kept-arcs, kept-finals, kept-numbers, trimmed, through}
+use Rattle.trim.specs.Passing.{passing}
+use Rattle.trim.specs.Trim.{useful, arc-useful, renumbered, moved, kept-arcs, kept-finals, kept-numbers, trimmed, through, Trim}
 use Rattle.reach.specs.Counted.{count}
-use Rattle.reach.proofs.Counted.{CountedAt, count-onto}
-use Rattle.trim.proofs.Useful.{OnPath, useful-on-path, on-path-useful, on-path-accepts, accepts-on-path}
+use Rattle.reach.proofs.Counted.{CountedAt, count-onto, count-full}
+use Rattle.trim.proofs.Useful.{OnPath, useful-on-path, on-path-useful, on-path-accepts, accepts-on-path, start-useful}
 use Rattle.trim.proofs.Kept.{renumbered-count}
 use Rattle.trim.proofs.Trimmed.{kept, lone, trimmed-kept, trimmed-lone, LedFrom, kept-led, LedBy, kept-led-by}
 use Rattle.trim.proofs.TrimmedGood.{kept-good}
@@ -62,7 +63,7 @@ kept-on-path t w u s v =
     let c : Split os (l .path) (r .before) (r .after) = led-split os (l .path) (r .before) (r .after) (l .leads) in
     kept-on-front t s (c .front) (c .back) (r .before) u (rw (c .whole) at (l .accepting)) (c .front-leads) (r .here)
 
-kept-useful : (t : Transducer) → Within t → Within (kept t) → useful t (t .start) ≡ true → (k : ℕ) → k < kept t .states → useful (kept t) k ≡ true
+kept-useful : (t : Transducer) → Within t → Within (kept t) → useful t (t .start) ≡ true → Trim (kept t)
 unfolding kept
 kept-useful t w w' u k h =
     let c : CountedAt (useful t) (t .states) k = count-onto (useful t) (t .states) k (rw renumbered-count at h) in
@@ -77,12 +78,12 @@ unfolding count
 count-all f n all zero h = refl
 count-all f n all (suc k) h = rw (all k h) (omega (arith, count-all f n all k (omega arith)))
 
-renumbered-same : (t : Transducer) → ((s : ℕ) → s < t .states → useful t s ≡ true) → (k : ℕ) → k ≤ t .states → renumbered t k ≡ k
+renumbered-same : (t : Transducer) → Trim t → (k : ℕ) → k ≤ t .states → renumbered t k ≡ k
 renumbered-same t all k h = renumbered-count t k ∙ count-all (useful t) (t .states) all k h
 
-pub arcs-same : (t : Transducer) (l : List Arc) → ((s : ℕ) → s < t .states → useful t s ≡ true)
+pub arcs-same : (t : Transducer) (l : List Arc) → Trim t
     → every (λ a. ltb (a .source) (t .states) && ltb (a .target) (t .states)) l ≡ true → kept-arcs t l ≡ l
-unfolding every kept-arcs arc-useful
+unfolding every passing moved arc-useful
 arcs-same t [] all h = refl
 arcs-same t (a ∷ l) all h =
     let n : ℕ = t .states in
@@ -94,7 +95,7 @@ arcs-same t (a ∷ l) all h =
     let to-same : renumbered t (a .target) ≡ a .target = renumbered-same t all (a .target) (omega arith) in
     rw (all (a .source) from, all (a .target) to, from-same, to-same, arcs-same t l all (p .1))
 
-pub finals-same : (t : Transducer) (l : List Final) → ((s : ℕ) → s < t .states → useful t s ≡ true) → every (λ f. ltb (f .state) (t .states)) l ≡ true
+pub finals-same : (t : Transducer) (l : List Final) → Trim t → every (λ f. ltb (f .state) (t .states)) l ≡ true
     → kept-finals t l ≡ l
 unfolding every kept-finals
 finals-same t [] all h = refl
@@ -105,7 +106,7 @@ finals-same t (f ∷ l) all h =
     let same : renumbered t (f .state) ≡ f .state = renumbered-same t all (f .state) (omega arith) in
     rw (all (f .state) below, same, finals-same t l all (p .1))
 
-pub kept-same : (t : Transducer) → Good t → ((s : ℕ) → s < t .states → useful t s ≡ true) → kept t ≡ t
+pub kept-same : (t : Transducer) → Good t → Trim t → kept t ≡ t
 unfolding kept
 kept-same t g all =
     let n : ℕ = t .states in
@@ -125,6 +126,14 @@ trimmed-twice t g = on (useful t (t .start)) refl
     on true u =
         let g' : Good (kept t) = kept-good t u g in
         let w' : Within (kept t) = good-within (kept t) g' in
-        let all : (k : ℕ) → k < kept t .states → useful (kept t) k ≡ true = kept-useful t (good-within t g) w' u in
+        let all : Trim (kept t) = kept-useful t (good-within t g) w' u in
         rw (trimmed-kept t u) (trimmed-kept (kept t) (all (kept t .start) (w' .starts)) ∙ kept-same (kept t) g' all)
     on false u = rw (trimmed-lone t u) lone-twice
+
+-- If trimming changes nothing and something accepts, each state lies on an accepting path.
+pub trimmed-trim : (t : Transducer) → Within t → trimmed t ≡ t → (p : List ℕ) → accepts t p ≡ true → Trim t
+unfolding kept
+trimmed-trim t w e p a =
+    let same : kept t ≡ t = sym (trimmed-kept t (start-useful t w p a)) ∙ e in
+    let all : renumbered t (t .states) ≡ t .states = ap (λ (u : Transducer). u .states) same in
+    count-full (t .states) (useful t) (omega (arith, all, renumbered-count t (t .states)))
