@@ -17,7 +17,8 @@ use Rattle.transducer.specs.Path.{is-final, final-weight, arc, ends, written-by
 use Rattle.transducer.specs.Each.{by-number, each-arc, unnamed, fits, passed, named, any-refusal}
 use Rattle.transducer.specs.Entry.{or-else, unless, cost-unless, left-in}
 use Rattle.reach.specs.Reach.{entered, some-arc, accessible, coaccessible}
-use Rattle.trim.specs.Trim.{useful, arc-useful, renumbered, kept-arcs, kept-finals, trimmed}
+use Rattle.trim.specs.Passing.{passing}
+use Rattle.trim.specs.Trim.{useful, arc-useful, renumbered, moved, kept-finals, trimmed}
 use Rattle.explore.specs.Explore.{there, place, met, served, numbered, targets, arcs-here, arcs-from, finals-from, steps-from}
 use Rattle.explore.specs.Explore.{built, built-refusal}
 use Rattle.steps.specs.Steps.{same-state, left-alone, right-alone, both-step, left-steps, right-steps, steps, first-state}
@@ -81,7 +82,7 @@ unfolding any-arc one-arc two four low signed-four signed-low places every frame
     final-weight arc ends by-number each-arc unnamed fits passed named any-refusal or-else there place met served numbered targets arcs-here arcs-from
     finals-from steps-from built built-refusal same-state left-alone right-alone both-step left-steps right-steps steps first-state final-state
     state-weight composed compose-room compose-refusal string-good step arc-steps applied same-position applied-steps final-position apply-room apply-refusal
-    entered some-arc accessible coaccessible useful arc-useful renumbered kept-arcs kept-finals trimmed lattice
+    entered some-arc accessible coaccessible useful arc-useful renumbered moved passing kept-finals trimmed lattice
     tables-refusal cascade-refusal
 computed =
     record {

@@ -1,20 +1,18 @@
 -- Inverting: its paths are those of the transducer, with what they read and write exchanged; it can be written if no arc bears 65,535; and inverting twice
 -- changes nothing. Assumes nothing.
-use mathlib.Core.Path.{_≡_, refl, sym, ap, _∙_}
-use mathlib.Core.Bool.{Bool, true, false, _&&_, not, cond}
+use mathlib.Core.Path.{_≡_, refl, ap, _∙_}
+use mathlib.Core.Bool.{Bool, true, false, _&&_}
 use mathlib.Core.List.{List, [], _∷_, map}
-use Prim.Native.Nat.{ℕ, zero, suc, _+_, _*_, _≤_, _<_}
+use Prim.Native.Nat.{ℕ}
 use native.Mathlib.Omega.{arith}
-use lib.Dec.{ltb, leb, eqb}
-use lib.ListN.{length, getD, length-map, List·getD-map}
+use lib.Dec.{ltb, eqb}
+use lib.ListN.{length, length-map, List·getD-map}
 use Rattle.wire.specs.Bytes.{Bytes, every}
 use Rattle.transducer.specs.declared.Arc.{Arc}
-use Rattle.transducer.specs.declared.Final.{Final}
-use Rattle.transducer.specs.Format.{Transducer, Good, refusal, decode, head-good, content-refusal, first-of, states-good, order-good, all-labels-good, weights-good, labels-good, weight-good, sources-stay, finals-rise, any}
-use Rattle.transducer.specs.Encode.{encode}
-use Rattle.transducer.specs.Path.{arc, no-arc, runs, ends, accepts, read-by, written-by, arcs-cost, path-cost, is-final, final-weight}
-use Rattle.transducer.proofs.RoundTrip.{encode-decode, decode-encode, refusal-encode, accepted-good, bytes-encode}
-use Rattle.transducer.proofs.Encode.{length-encode}
+use Rattle.transducer.specs.Format.{Transducer, Good, refusal, decode, any, head-good, content-refusal, first-of}
+use Rattle.transducer.specs.Format.{states-good, sources-stay, order-good, labels-good, all-labels-good, weight-good, weights-good}
+use Rattle.transducer.specs.Path.{arc, no-arc, runs, ends, accepts, read-by, written-by, arcs-cost, path-cost}
+use Rattle.transducer.proofs.RoundTrip.{accepted-good}
 use borrow.Author.Tests.{ne-eqb, ltb-true}
 use Rattle.wire.proofs.Bool.{and-true}
 use Rattle.transducer.specs.Each.{named, plain}
@@ -144,12 +142,13 @@ plain-of (a ∷ as') h =
     let q = and-true (ltb (a .input) any) (ltb (a .output) any) (p .0) in
     rw (q .0, q .1, plain-of as' (p .1))
 
--- Where no arc is for any symbol, none bears 65,535 inverted either.
+-- If no arc bears 65,535, none does inverted.
 pub plain-inverted : (t : Transducer) → plain t ≡ true → plain (inverted t) ≡ true
 unfolding plain inverted
 plain-inverted t h = plain-of (t .arcs) h
 
-head-inverted : (t : Transducer) → head-good (inverted t .states) (length (inverted t .arcs)) (length (inverted t .finals)) (inverted t .start) ≡ head-good (t .states) (length (t .arcs)) (length (t .finals)) (t .start)
+head-inverted : (t : Transducer) → head-good (inverted t .states) (length (inverted t .arcs)) (length (inverted t .finals)) (inverted t .start)
+    ≡ head-good (t .states) (length (t .arcs)) (length (t .finals)) (t .start)
 unfolding inverted
 head-inverted t = rw (length-map (t .arcs) inverted-arc)
 

@@ -7,7 +7,6 @@ pub mod InvertedWritten
 pub mod Restricted
 pub mod RestrictedWritten
 -- Reversed: the arcs by target, what can be written, the records, its paths and the least cost from a state
-pub mod Labels
 pub mod ReversedOrder
 pub mod ReversedGood
 pub mod ReversedWritten

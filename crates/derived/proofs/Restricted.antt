@@ -1,8 +1,8 @@
 -- A restricted transducer can be written if the whole one can, and its paths are those whose arcs all pass the test. Assumes nothing.
 use mathlib.Core.Path.{_≡_, refl, sym, ap, ap₂, _∙_}
-use mathlib.Core.Bool.{Bool, true, false, _&&_}
+use mathlib.Core.Bool.{Bool, true, _&&_}
 use mathlib.Core.List.{List, [], _∷_}
-use Prim.Native.Nat.{ℕ, _+_, _≤_, _<_}
+use Prim.Native.Nat.{ℕ, _<_}
 use native.Mathlib.Nat.{zero-add}
 use native.Mathlib.Omega.{arith}
 use lib.Dec.{ltb}
@@ -12,7 +12,7 @@ use Rattle.wire.proofs.Bool.{and-true, true-and}
 use Rattle.transducer.specs.declared.Arc.{Arc}
 use Rattle.transducer.specs.Format.{Transducer, Good, states-good, finals-rise, sources-stay, order-good}
 use Rattle.transducer.specs.Format.{labels-good, all-labels-good, weight-good, weights-good}
-use Rattle.transducer.specs.Path.{arc, no-arc, non-empty, is-final, final-weight, runs, ends, accepts, read-by, written-by, arcs-cost, path-cost}
+use Rattle.transducer.specs.Path.{arc, non-empty, is-final, final-weight, runs, ends, accepts, read-by, written-by, arcs-cost, path-cost}
 use Rattle.transducer.specs.Weight.{plus}
 use Rattle.transducer.proofs.Good.{Content, good-tests, tests-good, Head-range, finals-rise-good, sources-stay-good}
 use Rattle.transducer.proofs.Good.{finals-inside, arcs-inside, finals-light, arcs-light}
@@ -21,8 +21,9 @@ use Rattle.transducer.proofs.RoundTrip.{good-range}
 use Rattle.transducer.proofs.Runs.{Accepting, accepts-accepting, accepting-accepts, Within}
 use Rattle.trim.specs.Passing.{passing, passing-numbers}
 use Rattle.trim.specs.Trim.{through}
-use Rattle.trim.proofs.Passing.{passing-few, PassedAt, passed-at, PassedTo, passed-to, passing-rise, every-passing, passing-stay, passing-same, numbers-same}
-use Rattle.trim.proofs.Trimmed.{Led, LedBy}
+use Rattle.trim.proofs.Passing.{passing-few, PassedAt, passed-at, PassedTo, passed-to, passing-rise, passing-injective}
+use Rattle.trim.proofs.Passing.{every-passing, passing-stay, passing-same, numbers-same}
+use Rattle.trim.proofs.Trimmed.{Led, LedBy, through-injective}
 use Rattle.derived.specs.Restricted.{unchanged, restricted, origins-restricted}
 
 -- Bytes
@@ -146,6 +147,12 @@ module _ (test : Arc → Bool) (t : Transducer) where
         writes = r .writes;
         cost = ap₂ plus (r .costs) (ap (final-weight (t .finals)) (r .there));
       }
+
+  -- No two paths come from one.
+  pub restricted-injective : (s s' : ℕ) (p p' : List ℕ) → runs (restricted test t) s p ≡ true → runs (restricted test t) s' p' ≡ true
+      → through (origins-restricted test t) p ≡ through (origins-restricted test t) p' → p ≡ p'
+  unfolding restricted origins-restricted
+  restricted-injective = through-injective (restricted test t) (origins-restricted test t) (passing-injective test unchanged 0 (t .arcs))
 
   -- Each path whose arcs all pass is left.
   abbrev pub all-pass : List ℕ → Bool

@@ -1,38 +1,38 @@
 -- The paths of a reversed transducer are paths taken backwards, with the same arc weights. So the least cost to come there is the least cost from the state
 -- that is final. Assumes nothing.
 use mathlib.Core.Path.{_≡_, refl, sym, ap, ap₂, _∙_}
-use mathlib.Core.Bool.{Bool, true, false, _||_, cond}
+use mathlib.Core.Bool.{Bool, true, false, cond}
 use mathlib.Core.Logic.{_⊎_, inl, inr, _↔_}
-use mathlib.Core.List.{List, [], _∷_, _++_, append-nil, append-assoc, reverse, reverse-append}
-use Prim.Native.Nat.{ℕ, _+_, _≤_, _<_}
+use mathlib.Core.List.{List, [], _∷_, _++_, map, append-nil, reverse, reverse-cons, reverse-append, reverse-reverse}
+use Prim.Native.Nat.{ℕ, _+_, _<_}
 use native.Mathlib.Omega.{arith}
 use lib.Dec.{eqb}
 use lib.ListN.{length, getD, length-map}
 use lib.Seq.{append-snoc}
 use borrow.Author.Tests.{eqb-true, eq-eqb}
-use Rattle.wire.proofs.Bool.{never, and-true, true-and, or-true, is-false}
+use Rattle.wire.proofs.Bool.{never, true-and, or-true}
 use Rattle.transducer.specs.declared.Arc.{Arc}
-use Rattle.transducer.specs.Format.{Transducer, Good, max-arcs}
+use Rattle.transducer.specs.Format.{Transducer, Good}
 use Rattle.transducer.specs.Path.{arc, is-final, final-weight, non-empty, runs, ends, read-by, written-by, arcs-cost}
-use Rattle.transducer.specs.Weight.{Weight, no-weight, plus, At-most}
-use Rattle.transducer.proofs.Good.{good-tests}
+use Rattle.transducer.specs.Weight.{Weight, no-weight, plus}
 use Rattle.transducer.proofs.Paths.{Runs, runs-cons, cons-runs}
-use Rattle.transducer.proofs.RoundTrip.{good-range}
-use Rattle.transducer.proofs.Runs.{Accepting, AcceptingBy, cons-accepting, nil-accepting, runs-append, ends-append, Within, good-within}
-use Rattle.transducer.proofs.Weights.{sums, sum, plus-none, none-plus}
-use Rattle.reach.proofs.Sized.{Sized}
+use Rattle.transducer.proofs.Runs.{Accepting, cons-accepting, nil-accepting, runs-append, ends-append, Within, good-within}
+use Rattle.transducer.proofs.Weights.{sums, sum, plus-none}
+use Rattle.reach.proofs.Sized.{good-sized}
+use Rattle.trim.specs.Trim.{through}
+use Rattle.trim.proofs.Trimmed.{through-injective}
 use Rattle.least.specs.Costs.{cost-from}
-use Rattle.least.specs.Cycles.{Falling, falling-anywhere}
-use Rattle.least.proofs.Costs.{cost-nil, cost-cons, arcs-cost-append}
-use Rattle.least.proofs.Falls.{true-anywhere}
-use Rattle.derived.proofs.Labels.{read-append, written-append}
+use Rattle.least.specs.Cycles.{Leads, Negative-cycle, falling-anywhere}
+use Rattle.least.proofs.Costs.{arcs-cost-append}
+use Rattle.least.proofs.Falls.{rises-anywhere}
+use Rattle.least.proofs.Labels.{read-append, written-append}
 use Rattle.distance.specs.Distance.{no-path, least-to-come}
 use Rattle.distance.specs.Claim.{To-final, Least-from, Cell-claim}
 use Rattle.distance.proofs.ToCome.{cell-claimed}
 use Rattle.derived.specs.Reversed.{reversed-arc, origins-reversed, reversed}
-use Rattle.derived.specs.Claim.{backwards, Leads, Least-between, Negative-cycle}
-use Rattle.derived.proofs.ReversedOrder.{Placed, origin-below, origin-placed}
-use Rattle.derived.proofs.ReversedGood.{arc-reversed, length-reversed, reversed-good}
+use Rattle.derived.specs.Claim.{backwards, Least-between}
+use Rattle.derived.proofs.ReversedOrder.{Placed, origin-below, origin-placed, origins-distinct}
+use Rattle.derived.proofs.ReversedGood.{arc-reversed, reversed-good}
 
 -- A label at the end of a string, with the string reversed.
 reverse-label : (x : ℕ) (xs : List ℕ) → reverse (xs ++ non-empty x []) ≡ non-empty x (reverse xs)
@@ -43,10 +43,12 @@ reverse-label x xs = on (eqb x 0)
     on true = ap reverse (append-nil xs)
     on false = reverse-append xs (x ∷ [])
 
-pub good-sized : (t : Transducer) → Good t → Sized t
-good-sized t g =
-    let r = good-range t g in
-    record { content = good-tests t g; within = good-within t g; states = r .states; arcs = r .arcs }
+-- Taken backwards, a path is the list of its origins, reversed.
+backwards-is : (os p : List ℕ) → backwards os p ≡ reverse (through os p)
+unfolding backwards through
+backwards-is os [] = refl
+backwards-is os (j ∷ p) =
+    ap (λ (l : List ℕ). l ++ (getD os j 0 ∷ [])) (backwards-is os p) ∙ sym (reverse-cons (getD os j 0) (map (λ i. getD os i 0) p))
 
 module _ (t : Transducer) (f : ℕ) where
   -- The one final state, at no weight.
@@ -133,6 +135,17 @@ module _ (t : Transducer) (f : ℕ) where
         costs = omega (arith, sums, cost, same, weight, sum (arc t i .weight) no-weight);
       }
 
+  -- A cycle taken backwards is a cycle.
+  pub cycle-back : Negative-cycle (reversed t f) → Negative-cycle t
+  cycle-back c =
+      let m : Back (c .state) (c .cycle) = back (c .state) (c .cycle) (c .around .goes) in
+      record {
+        state = c .state;
+        cycle = backwards (origins-reversed t) (c .cycle);
+        around = rw (c .around .there) at (m .leads);
+        sum = rw (m .costs) (c .sum);
+      }
+
   pub back-final : (u : ℕ) (p : List ℕ) → Accepting (reversed t f) u p → Leads t f u (backwards (origins-reversed t) p)
   back-final u p a = rw (sym (only-final (ends (reversed t f) u p) (a .final))) at (back u p (a .goes) .leads)
 
@@ -142,6 +155,17 @@ module _ (t : Transducer) (f : ℕ) where
       let x : Weight = arcs-cost (reversed t f) p in
       let none : final-weight (reversed t f .finals) (ends (reversed t f) u p) ≡ no-weight = no-weight-there (ends (reversed t f) u p) in
       back u p h .costs ∙ sym (ap (plus x) none ∙ plus-none x)
+
+  -- No two paths are one taken backwards.
+  pub backwards-injective : (s s' : ℕ) (p p' : List ℕ) → runs (reversed t f) s p ≡ true → runs (reversed t f) s' p' ≡ true
+      → backwards (origins-reversed t) p ≡ backwards (origins-reversed t) p' → p ≡ p'
+  unfolding reversed
+  backwards-injective s s' p p' h h' e =
+      let os : List ℕ = origins-reversed t in
+      let size : length (reversed t f .arcs) ≡ length os = length-map os (λ i. reversed-arc (arc t i)) in
+      through-injective (reversed t f) os (λ j j' b b' same. origins-distinct t j j' (omega (arith, b, size)) (omega (arith, b', size)) same) s s' p p' h h'
+      (sym (reverse-reverse (through os p))
+      ∙ (ap reverse (sym (backwards-is os p) ∙ (e ∙ backwards-is os p')) ∙ reverse-reverse (through os p')))
 
   -- Each path from the state that is final is one of the reversed transducer, taken backwards.
   module _ (w : Within t) where
@@ -195,15 +219,7 @@ module _ (t : Transducer) (f : ℕ) where
 -- If no cycle sums below zero, the least cost to come in the reversed transducer is the least cost of a path from the state that is final.
 module _ (t : Transducer) (f : ℕ) (g : Good t) (b : f < t .states) (no-cycle : Negative-cycle t → ⊥) where
   pub reversed-rises : falling-anywhere (reversed t f) ≡ false
-  reversed-rises =
-      is-false (falling-anywhere (reversed t f))
-      (λ h.
-      let r : Transducer = reversed t f in
-      let s : ℕ = true-anywhere r h .state in
-      let k : Falling r s = true-anywhere r h .falling in
-      let x : ℕ = ends r s (k .lead) in
-      let m : Back t f x (k .cycle) = back t f x (k .cycle) (k .around) in
-      no-cycle (record { state = x; cycle = backwards (origins-reversed t) (k .cycle); around = rw (k .back) at (m .leads); sum = rw (m .costs) (k .sum) }))
+  reversed-rises = rises-anywhere (reversed t f) (λ c. no-cycle (cycle-back t f c))
 
   pub record Coming (u : ℕ) : Type 0 where
     pub none : (least-to-come (reversed t f) u ≡ no-path) ↔ ((p : List ℕ) → Leads t f u p → ⊥)

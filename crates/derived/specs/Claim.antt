@@ -1,29 +1,17 @@
 -- What the paths of a reversed transducer are. Assumes nothing: these are definitions.
 use mathlib.Core.Path.{_≡_}
-use mathlib.Core.Bool.{true}
 use mathlib.Core.List.{List, [], _∷_, _++_}
 use Prim.Native.Nat.{ℕ}
 use lib.ListN.{getD}
 use Rattle.transducer.specs.Format.{Transducer}
-use Rattle.transducer.specs.Path.{runs, ends, arcs-cost}
-use Rattle.transducer.specs.Weight.{Weight, no-weight, At-most, Below}
+use Rattle.transducer.specs.Path.{arcs-cost}
+use Rattle.transducer.specs.Weight.{Weight, At-most}
+use Rattle.least.specs.Cycles.{Leads}
 
 -- The path that a path of the reversed transducer stands for: the arcs that its arcs come from, the last one first.
 unfoldable pub backwards : (origins path : List ℕ) → List ℕ
 backwards origins [] = []
 backwards origins (j ∷ p) = backwards origins p ++ (getD origins j 0 ∷ [])
-
--- A path from one state to another.
-pub record Leads (t : Transducer) (s u : ℕ) (p : List ℕ) : Type 0 where
-  pub goes : runs t s p ≡ true
-  pub there : ends t s p ≡ u
-
--- A cycle below zero, wherever it lies.
-pub record Negative-cycle (t : Transducer) : Type 0 where
-  pub state : ℕ
-  pub cycle : List ℕ
-  pub around : Leads t state state cycle
-  pub sum : Below (arcs-cost t cycle) no-weight
 
 -- The least cost of the arcs of all paths from one state to another, however long.
 pub record Least-between (t : Transducer) (s u : ℕ) (x : Weight) : Type 0 where

@@ -40,8 +40,8 @@ fn put_inverted(table: &[u8], first: usize, arcs: usize, out: &mut [u8])
     }
 }
 
-// Writes an accepted table inverted and returns its length in bytes. An arc for any symbol would bear 65,535 as output alone, which refusal 7
-// forbids; so no arc of the table may be for any symbol. Linear in the length of the table.
+// Writes an accepted table inverted and returns its length in bytes. An arc for any symbol (65,535) that writes another label would, inverted, have
+// 65,535 as output only, which refusal 7 forbids; so no arc of the table may be for any symbol. Linear in the length of the table.
 pub fn invert_into(table: &[u8], out: &mut [u8]) -> usize
     requires { ⌜ (refusal (now table) ≡ 0) × (named (decode (now table)) ≡ true) × (max-bytes ≤ length (now out)) ⌝ }
     ensures { λ r. ⌜ Puts (inverted (decode (now (table .entry)))) r (now (out .exit)) ⌝ }

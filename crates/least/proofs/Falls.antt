@@ -10,7 +10,7 @@ use native.Mathlib.Nat.{not-suc-le-zero, le-of-suc-le-suc}
 use lib.Dec.{eqb, leb}
 use lib.ListN.{length, getD, length-append}
 use borrow.Author.Tests.{eqb-true, eq-eqb, leb-true, leb-false}
-use Rattle.wire.proofs.Bool.{never, and-true, true-and, or-true, or-left, or-right}
+use Rattle.wire.proofs.Bool.{never, is-false, and-true, true-and, or-true, or-left, or-right}
 use Rattle.transducer.specs.declared.Arc.{Arc}
 use Rattle.transducer.specs.Format.{Transducer}
 use Rattle.transducer.specs.Path.{arc, no-arc, runs, ends, arcs-cost}
@@ -25,7 +25,7 @@ use Rattle.reach.specs.Marks.{Passes}
 use Rattle.reach.proofs.Closure.{accessible-passes}
 use Rattle.reach.proofs.Reach.{PathTo, accessible-start, accessible-path, coaccessible-path, path-coaccessible}
 use Rattle.least.specs.Cycles.{Falling, some-leaving, falls-to, falls-round, some-below}
-use Rattle.least.specs.Cycles.{falling-among, falling, anywhere, falling-anywhere, Falls}
+use Rattle.least.specs.Cycles.{falling-among, falling, anywhere, falling-anywhere, Falls, Leads, Negative-cycle}
 use Rattle.least.proofs.Costs.{arcs-cost-append}
 use Rattle.least.proofs.Cycles.{falling-rest, falling-behind}
 
@@ -390,6 +390,19 @@ true-anywhere t h = among-falls t anywhere h
 
 pub falling-anywhere-is : (t : Transducer) → Within t → (falling-anywhere t ≡ true) ↔ Falls t anywhere
 falling-anywhere-is t w = (true-anywhere t, anywhere-true t w)
+
+-- If there is no cycle below zero at all, there is none on such a path.
+pub rises-anywhere : (t : Transducer) → (Negative-cycle t → ⊥) → falling-anywhere t ≡ false
+rises-anywhere t none =
+    is-false (falling-anywhere t)
+    (λ h.
+    let f : Falling t (true-anywhere t h .state) = true-anywhere t h .falling in
+    none (record {
+      state = ends t (true-anywhere t h .state) (f .lead);
+      cycle = f .cycle;
+      around = record { goes = f .around; there = f .back };
+      sum = f .sum;
+    }))
 
 -- A cycle on an accepting path is one of them.
 pub falling-some : (t : Transducer) → Within t → falling t ≡ true → falling-anywhere t ≡ true

@@ -10,6 +10,18 @@ use Rattle.transducer.specs.Path.{is-final, runs, ends, arcs-cost}
 use Rattle.transducer.specs.Weight.{Weight, no-weight, plus, Below, below}
 use Rattle.reach.specs.Reach.{accessible, coaccessible}
 
+-- A path from one state to another.
+pub record Leads (t : Transducer) (s u : ℕ) (p : List ℕ) : Type 0 where
+  pub goes : runs t s p ≡ true
+  pub there : ends t s p ≡ u
+
+-- A cycle below zero, wherever it lies.
+pub record Negative-cycle (t : Transducer) : Type 0 where
+  pub state : ℕ
+  pub cycle : List ℕ
+  pub around : Leads t state state cycle
+  pub sum : Below (arcs-cost t cycle) no-weight
+
 -- A cycle below zero on an accepting path from a state: the path up to the cycle, the cycle, and the rest of the path.
 pub record Falling (t : Transducer) (s : ℕ) : Type 0 where
   pub lead : List ℕ

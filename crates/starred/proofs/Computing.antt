@@ -23,7 +23,8 @@ use Rattle.compose.specs.Entry.{origin-pairs, compose-room, compose-refusal, co
 use Rattle.lattice.specs.Apply.{string-good, step, arc-steps, applied}
 use Rattle.lattice.specs.Apply.{same-state as same-position, steps as applied-steps, final-state as final-position}
 use Rattle.reach.specs.Reach.{entered, accessible, coaccessible, some-arc}
-use Rattle.trim.specs.Trim.{useful, arc-useful, renumbered, kept-arcs, kept-finals, kept-numbers, trimmed, origins-kept}
+use Rattle.trim.specs.Passing.{passing, passing-numbers}
+use Rattle.trim.specs.Trim.{useful, arc-useful, renumbered, moved, kept-finals, trimmed, origins-kept}
 use Rattle.lattice.specs.Lattice.{lattice, lattice-origins}
 use Rattle.lattice.specs.ApplyEntry.{apply-room, apply-refusal, application-refusal}
 use Rattle.paths.specs.Count.{before, paths-from, paths, goes-on, endless, path-count, nth-path}
@@ -49,7 +50,7 @@ unfolding two four low signed-four signed-low places every framed-from framed re
     arc-fields read-room read-refusal there place met served numbered targets arcs-here arcs-from finals-from steps-from built built-refusal
     all-origins same-state left-alone right-alone both-step left-steps right-steps steps first-state final-state state-weight composed left-origin
     right-origin origin-pair origin-pairs compose-room compose-refusal composition-refusal string-good step arc-steps applied same-position applied-steps final-position
-    entered some-arc accessible coaccessible useful arc-useful renumbered kept-arcs kept-finals kept-numbers trimmed origins-kept lattice
+    entered some-arc accessible coaccessible useful arc-useful renumbered moved passing passing-numbers kept-finals trimmed origins-kept lattice
     lattice-origins apply-room apply-refusal application-refusal before paths-from paths goes-on endless path-count nth-path count-refusal nth-refusal size-of nearer
     nearer-path better best-of best shortest some-leaving falls-to falls-round some-below falling-among falling shortest-refusal labels-in digits
     decimal cost-text readings-word labels-text line line-of lines counted-text listing-text code-refusal applied-refusal text-unless listing-refusal

@@ -6,10 +6,10 @@ use Prim.Native.Nat.{ℕ, zero, suc, _+_, _*_, _≤_, _<_}
 use native.Mathlib.Nat.{not-suc-le-zero, le-of-suc-le-suc, add-zero, zero-add}
 use native.Mathlib.Numerals.{add-one}
 use native.Mathlib.Omega.{arith}
-use lib.Dec.{leb}
+use lib.Dec.{ltb, leb}
 use lib.ListN.{length, getD, set, take, length-set, length-append}
 use lib.Seq.{sets, take-suc, take-all, length-take-le}
-use borrow.Author.Tests.{leb-true, le-leb}
+use borrow.Author.Tests.{ltb-true, ltb-false, leb-true, le-leb}
 use Rattle.wire.specs.Bytes.{every}
 use Rattle.wire.proofs.Bool.{and-true, true-and}
 use Rattle.transducer.specs.declared.Arc.{Arc}
@@ -27,7 +27,8 @@ length-passing test change i [] = refl
 length-passing test change i (a ∷ l) = on (test a) (length-passing test change (suc i) l)
   where
     on : (b : Bool) → length (passing-numbers test (suc i) l) ≡ length (passing test change l)
-        → length (cond b (i ∷ passing-numbers test (suc i) l) (passing-numbers test (suc i) l)) ≡ length (cond b (change a ∷ passing test change l) (passing test change l))
+        → length (cond b (i ∷ passing-numbers test (suc i) l) (passing-numbers test (suc i) l))
+        ≡ length (cond b (change a ∷ passing test change l) (passing test change l))
     on true e = ap suc e
     on false e = e
 
@@ -112,6 +113,19 @@ passing-rise test i (a ∷ l) j j' h h' = on (test a) refl j j' h h' (λ j j' h 
     on true e (suc j) (suc j') h h' more = rw e (more j j' (le-of-suc-le-suc h) (le-of-suc-le-suc (rw e at h')))
     on false e j j' h h' more = rw e (more j j' h (rw e at h'))
 
+-- So no arc stands there twice.
+pub passing-injective : (test : Arc → Bool) (change : Arc → Arc) (i : ℕ) (l : List Arc) (j j' : ℕ) → j < length (passing test change l)
+    → j' < length (passing test change l) → getD (passing-numbers test i l) j 0 ≡ getD (passing-numbers test i l) j' 0 → j ≡ j'
+passing-injective test change i l j j' h h' e = on (ltb j j') refl (ltb j' j) refl
+  where
+    few : length (passing-numbers test i l) ≡ length (passing test change l)
+    few = length-passing test change i l
+
+    on : (b : Bool) → ltb j j' ≡ b → (b' : Bool) → ltb j' j ≡ b' → j ≡ j'
+    on true c b' c' = absurd (omega (arith, passing-rise test i l j j' (ltb-true j j' c) (omega (arith, few))))
+    on false c true c' = absurd (omega (arith, passing-rise test i l j' j (ltb-true j' j c') (omega (arith, few))))
+    on false c false c' = omega (arith, ltb-false j j' c, ltb-false j' j c')
+
 -- A test of each
 
 pub every-passing : (test : Arc → Bool) (change : Arc → Arc) (p q : Arc → Bool) (l : List Arc)
@@ -169,15 +183,6 @@ numbers-same f g i [] e = refl
 numbers-same f g i (a ∷ l) e =
     let here : f a ≡ g a = e 0 (omega arith) in
     rw here (ap (λ (r : List ℕ). cond (g a) (i ∷ r) r) (numbers-same f g (suc i) l (λ j h. e (suc j) (omega arith))))
-
--- If all pass, as many are left.
-pub passing-all : (test : Arc → Bool) (change : Arc → Arc) (l : List Arc) → every (λ a. test a) l ≡ true
-    → ((a : Arc) → change a ≡ a) → passing test change l ≡ l
-unfolding every passing
-passing-all test change [] h same = refl
-passing-all test change (a ∷ l) h same =
-    let e = and-true (test a) (every test l) h in
-    rw (e .0, same a) (ap (λ (r : List Arc). a ∷ r) (passing-all test change l (e .1) same))
 
 -- One more arc
 

@@ -12,11 +12,11 @@ use Rattle.wire.proofs.Bool.{is-true, is-false}
 use Rattle.transducer.specs.declared.Arc.{Arc}
 use Rattle.transducer.specs.declared.Final.{Final}
 use Rattle.transducer.specs.Format.{Transducer, max-states}
-use Rattle.trim.specs.Trim.{useful, renumbered}
+use Rattle.trim.specs.Trim.{useful, renumbered, moved}
 use Rattle.trim.specs.Parts.{Renumbered}
 use Rattle.reach.specs.Counted.{count}
 use Rattle.reach.proofs.Counted.{count-most}
-use Rattle.trim.proofs.Kept.{renumbered-count, moved}
+use Rattle.trim.proofs.Kept.{renumbered-count}
 use Rattle.trim.proofs.TrimmedGood.{moved-final}
 
 -- A property is that of two marks.

@@ -19,10 +19,11 @@ use Rattle.transducer.specs.Encode.{head-record, final-records, arc-records, en
 use Rattle.transducer.specs.Entry.{or-else, unless, left-in}
 use Rattle.transducer.proofs.Encode.{sets-then, length-head-record, length-final-records, length-encode, cleared-sets}
 use Rattle.transducer.proofs.RoundTrip.{accepted-good, length-encode-below}
-use Rattle.trim.specs.Trim.{useful, renumbered, kept-arcs, kept-finals, trimmed, origins-kept}
-use Rattle.trim.specs.Parts.{Renumbered, Arcs-put, Trims}
+use Rattle.trim.specs.Passing.{Passing-put}
+use Rattle.trim.specs.Trim.{useful, arc-useful, renumbered, moved, kept-arcs, kept-finals, trimmed, origins-kept}
+use Rattle.trim.specs.Parts.{Renumbered, Trims}
 use Rattle.trim.specs.TrimEntry.{trim-room, trim-refusal, Trim-says}
-use Rattle.trim.proofs.Kept.{length-kept}
+use Rattle.trim.proofs.Passing.{length-passing}
 use Rattle.trim.proofs.TrimmedGood.{moved-final, trimmed-good}
 use Rattle.trim.proofs.Trimmed.{kept, lone, trimmed-kept, trimmed-lone, origins-some, origins-none}
 
@@ -123,7 +124,7 @@ trims-lone t out origins s end is none ends room h1 h2 h3 =
 pub trims-kept : (t : Transducer) (out origins : List ℕ) {o1 o2 o3 o4 g1 g2 : List ℕ} (s n r f m at : ℕ) → s ≡ t .start → useful t s ≡ true
     → n ≡ renumbered t (t .states) → r ≡ renumbered t (t .start) → f ≡ length (kept-finals t (t .finals)) → at ≡ arcs-at f
     → at + arc-bytes * m ≤ length out → m ≤ length origins
-    → o1 ≡ sets out head-bytes (final-records (kept-finals t (t .finals))) → Arcs-put t at m o1 o2 origins g1
+    → o1 ≡ sets out head-bytes (final-records (kept-finals t (t .finals))) → Passing-put (arc-useful t) (moved t) (t .arcs) at m o1 o2 origins g1
     → o3 ≡ sets o2 0 (head-record n m f r) → o4 ≡ cleared (at + arc-bytes * m) o3 → g2 ≡ cleared m g1
     → Trims t (at + arc-bytes * m) out o4 origins g2
 trims-kept t out origins {o1} {o2} s n r f m at is some en er ef there room room' h1 put h3 h4 h5 =
@@ -131,13 +132,13 @@ trims-kept t out origins {o1} {o2} s n r f m at is some en er ef there room room
     let as' : List ℕ = arc-records (kept-arcs t (t .arcs)) in
     let arcs : o2 ≡ sets o1 (arcs-at f) as' = put .table ∙ ap (λ (k : ℕ). sets o1 k as') there in
     let long : length (encode (trimmed t)) ≡ at + arc-bytes * m = length-trimmed u (put .count-is) in
-    let sized : length (origins-kept t) ≡ m = ap length (origins-some t u) ∙ length-kept t 0 (t .arcs) ∙ sym (put .count-is) in
+    let sized : length (origins-kept t) ≡ m = ap length (origins-some t u) ∙ length-passing (arc-useful t) (moved t) 0 (t .arcs) ∙ sym (put .count-is) in
     record {
       len-is = sym long;
       table =
           cleared-sets (encode (trimmed t)) out (at + arc-bytes * m) long room
           (kept-encode t out u n r f m en er ef (put .count-is) (omega arith) h1 arcs h3) h4;
-      origins-are = cleared-sets (origins-kept t) origins m sized room' (rw (origins-some t u) (put .origins-are)) h5;
+      origins-are = cleared-sets (origins-kept t) origins m sized room' (rw (origins-some t u) (put .numbers-are)) h5;
     }
   where
     length-trimmed : useful t (t .start) ≡ true → m ≡ length (kept-arcs t (t .arcs)) → length (encode (trimmed t)) ≡ at + arc-bytes * m

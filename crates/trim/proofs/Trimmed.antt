@@ -5,9 +5,7 @@ use mathlib.Core.List.{List, [], _∷_, map}
 use Prim.Native.Nat.{ℕ, _<_}
 use native.Mathlib.Nat.{not-suc-le-zero, zero-add}
 use native.Mathlib.Omega.{arith}
-use lib.Dec.{ltb}
 use lib.ListN.{length, getD}
-use borrow.Author.Tests.{ltb-true, ltb-false}
 use Rattle.wire.proofs.Bool.{never, and-true, true-and}
 use Rattle.transducer.specs.declared.Arc.{Arc}
 use Rattle.transducer.specs.Format.{Transducer}
@@ -15,9 +13,10 @@ use Rattle.transducer.specs.Path.{arc, runs, ends, accepts, is-final, final-wei
 use Rattle.transducer.proofs.Paths.{Runs, runs-cons, cons-runs}
 use Rattle.transducer.proofs.Runs.{Accepting, AcceptingBy, accepting-cons, accepts-accepting, Within}
 use Rattle.transducer.specs.Weight.{plus}
-use Rattle.trim.specs.Trim.{useful, arc-useful, renumbered, kept-arcs, kept-finals, kept-numbers, trimmed, origins-kept, through}
+use Rattle.trim.specs.Trim.{useful, arc-useful, renumbered, moved, kept-arcs, kept-finals, kept-numbers, trimmed, origins-kept, through}
 use Rattle.trim.proofs.Useful.{useful-next, start-useful}
-use Rattle.trim.proofs.Kept.{renumbered-injective, moved, length-kept, KeptAt, kept-at, KeptTo, kept-to, kept-rise, kept-is-final, kept-final-weight}
+use Rattle.trim.proofs.Passing.{PassedAt, passed-at, PassedTo, passed-to, passing-injective}
+use Rattle.trim.proofs.Kept.{renumbered-injective, kept-is-final, kept-final-weight}
 
 -- What trimming makes: where the start is useful what is kept, else the start alone.
 unfoldable pub kept : Transducer → Transducer
@@ -60,9 +59,9 @@ pub record KeptArc (t : Transducer) (j i : ℕ) : Type 0 where
 pub kept-arc : (t : Transducer) (j : ℕ) → j < length (kept-arcs t (t .arcs)) → KeptArc t j (getD (kept-numbers t 0 (t .arcs)) j 0)
 unfolding kept arc
 kept-arc t j h =
-    let r : KeptAt t 0 (t .arcs) j = kept-at t 0 (t .arcs) j h in
+    let r : PassedAt (arc-useful t) (moved t) 0 (t .arcs) j = passed-at (arc-useful t) (moved t) 0 (t .arcs) j h in
     let e : getD (kept-numbers t 0 (t .arcs)) j 0 ≡ r .place = r .number ∙ zero-add (r .place) in
-    rw e (record { below = r .below; used = r .used; arc-is = r .arc-is })
+    rw e (record { below = r .below; used = r .passes; arc-is = r .arc-is })
 
 -- A path of what is kept, from a useful state
 
@@ -137,29 +136,25 @@ trimmed-led t p h = on (useful t (t .start)) refl
 
 -- No two paths lead to one
 
-pub kept-injective : (t : Transducer) (j j' : ℕ) → j < length (kept-arcs t (t .arcs)) → j' < length (kept-arcs t (t .arcs))
-    → getD (kept-numbers t 0 (t .arcs)) j 0 ≡ getD (kept-numbers t 0 (t .arcs)) j' 0 → j ≡ j'
-kept-injective t j j' h h' e = on (ltb j j') refl (ltb j' j) refl
-  where
-    on : (b : Bool) → ltb j j' ≡ b → (b' : Bool) → ltb j' j ≡ b' → j ≡ j'
-    on true c b' c' = absurd (omega (arith, kept-rise t 0 (t .arcs) j j' (ltb-true j j' c) (omega (arith, length-kept t 0 (t .arcs)))))
-    on false c true c' = absurd (omega (arith, kept-rise t 0 (t .arcs) j' j (ltb-true j' j c') (omega (arith, length-kept t 0 (t .arcs)))))
-    on false c false c' = omega (arith, ltb-false j j' c, ltb-false j' j c')
+pub through-injective : (z : Transducer) (os : List ℕ)
+    → ((j j' : ℕ) → j < length (z .arcs) → j' < length (z .arcs) → getD os j 0 ≡ getD os j' 0 → j ≡ j') → (s s' : ℕ) (p p' : List ℕ)
+    → runs z s p ≡ true → runs z s' p' ≡ true → through os p ≡ through os p' → p ≡ p'
+unfolding through
+through-injective z os one-origin s s' [] [] h h' e = refl
+through-injective z os one-origin s s' [] (j' ∷ p') h h' e = let z : _≡_ {A = ℕ} 0 1 = cc in absurd (omega arith)
+through-injective z os one-origin s s' (j ∷ p) [] h h' e = let z : _≡_ {A = ℕ} 0 1 = cc in absurd (omega arith)
+through-injective z os one-origin s s' (j ∷ p) (j' ∷ p') h h' e =
+    let r : Runs z s j p = runs-cons z s j p h in
+    let r' : Runs z s' j' p' = runs-cons z s' j' p' h' in
+    let one : getD os j 0 ≡ getD os j' 0 = cc in
+    let more : map (λ j. getD os j 0) p ≡ map (λ j. getD os j 0) p' = cc in
+    ap₂ _∷_ (one-origin j j' (r .below) (r' .below) one)
+    (through-injective z os one-origin (arc z j .target) (arc z j' .target) p p' (r .rest) (r' .rest) more)
 
 kept-led-injective : (t : Transducer) (s s' : ℕ) (p p' : List ℕ) → runs (kept t) s p ≡ true → runs (kept t) s' p' ≡ true
     → through (kept-numbers t 0 (t .arcs)) p ≡ through (kept-numbers t 0 (t .arcs)) p' → p ≡ p'
-unfolding through kept
-kept-led-injective t s s' [] [] h h' e = refl
-kept-led-injective t s s' [] (j' ∷ p') h h' e = let z : _≡_ {A = ℕ} 0 1 = cc in absurd (omega arith)
-kept-led-injective t s s' (j ∷ p) [] h h' e = let z : _≡_ {A = ℕ} 0 1 = cc in absurd (omega arith)
-kept-led-injective t s s' (j ∷ p) (j' ∷ p') h h' e =
-    let os : List ℕ = kept-numbers t 0 (t .arcs) in
-    let r : Runs (kept t) s j p = runs-cons (kept t) s j p h in
-    let r' : Runs (kept t) s' j' p' = runs-cons (kept t) s' j' p' h' in
-    let one : getD os j 0 ≡ getD os j' 0 = cc in
-    let more : map (λ j. getD os j 0) p ≡ map (λ j. getD os j 0) p' = cc in
-    ap₂ _∷_ (kept-injective t j j' (r .below) (r' .below) one)
-    (kept-led-injective t (arc (kept t) j .target) (arc (kept t) j' .target) p p' (r .rest) (r' .rest) more)
+unfolding kept
+kept-led-injective t = through-injective (kept t) (kept-numbers t 0 (t .arcs)) (passing-injective (arc-useful t) (moved t) 0 (t .arcs))
 
 pub led-injective : (t : Transducer) (s s' : ℕ) (p p' : List ℕ) → runs (trimmed t) s p ≡ true → runs (trimmed t) s' p' ≡ true
     → through (origins-kept t) p ≡ through (origins-kept t) p' → p ≡ p'
@@ -187,7 +182,7 @@ kept-unled t w s (i ∷ q) u a =
     let target-used : useful t (arc t i .target) ≡ true = useful-next t w s i q u r in
     let used : arc-useful t (arc t i) ≡ true =
     true-and (useful t (arc t i .source)) (useful t (arc t i .target)) (ap (useful t) (r .leaves) ∙ u) target-used in
-    let k : KeptTo t 0 (t .arcs) i = kept-to t 0 (t .arcs) i (r .below) used in
+    let k : PassedTo (arc-useful t) (moved t) 0 (t .arcs) i = passed-to (arc-useful t) (moved t) 0 (t .arcs) i (r .below) used in
     let o : getD os (k .place) 0 ≡ i = k .number ∙ zero-add i in
     let is : arc (kept t) (k .place) ≡ moved t (arc t i) = rw o at (kept-arc t (k .place) (k .below) .arc-is) in
     let more = kept-unled t w (arc t i .target) q target-used (r .rest) in (

@@ -2,7 +2,7 @@
 use mathlib.Core.Path.{_≡_, refl, ap, _∙_}
 use mathlib.Core.Bool.{Bool, true, false, _&&_, cond}
 use mathlib.Core.List.{List, [], _∷_}
-use Prim.Native.Nat.{ℕ, suc, _+_, _≤_, _<_}
+use Prim.Native.Nat.{ℕ, _+_, _≤_, _<_}
 use native.Mathlib.Numerals.{add-one}
 use native.Mathlib.Omega.{arith}
 use lib.Dec.{ltb, leb}
@@ -18,25 +18,16 @@ use Rattle.transducer.specs.Each.{plain}
 use Rattle.transducer.specs.Format.{first-of, content-refusal, Good}
 use Rattle.transducer.proofs.Good.{Content, good-tests, tests-good}
 use Rattle.transducer.proofs.RoundTrip.{good-range}
-use Rattle.trim.specs.Trim.{useful, arc-useful, renumbered, kept-arcs, kept-finals, trimmed}
+use Rattle.trim.specs.Trim.{useful, arc-useful, renumbered, moved, kept-arcs, kept-finals, trimmed}
 use Rattle.reach.proofs.Counted.{count-most}
-use Rattle.trim.proofs.Kept.{renumbered-count, renumbered-rises, renumbered-before, renumbered-next, moved}
+use Rattle.trim.proofs.Kept.{renumbered-count, renumbered-rises, renumbered-before, renumbered-next}
+use Rattle.trim.proofs.Passing.{passing-few, every-passing, passing-stay}
 use Rattle.trim.proofs.Trimmed.{kept, lone, trimmed-kept, trimmed-lone}
 
 unfoldable pub moved-final : Transducer → Final → Final
 moved-final t f = record { state = renumbered t (f .state); weight = f .weight }
 
--- A test of each arc that is kept, and of each final.
-pub every-kept-arc : (t : Transducer) (p q : Arc → Bool) (l : List Arc) → ((a : Arc) → arc-useful t a ≡ true → p a ≡ true → q (moved t a) ≡ true)
-    → every p l ≡ true → every q (kept-arcs t l) ≡ true
-unfolding every kept-arcs moved
-every-kept-arc t p q [] turn h = refl
-every-kept-arc t p q (a ∷ l) turn h = on (arc-useful t a) refl (every-kept-arc t p q l turn (and-true (p a) (every p l) h .1))
-  where
-    on : (b : Bool) → arc-useful t a ≡ b → every q (kept-arcs t l) ≡ true → every q (cond b (moved t a ∷ kept-arcs t l) (kept-arcs t l)) ≡ true
-    on true u more = true-and (q (moved t a)) (every q (kept-arcs t l)) (turn a u (and-true (p a) (every p l) h .0)) more
-    on false u more = more
-
+-- A test of each final that is kept.
 pub every-kept-final : (t : Transducer) (p q : Final → Bool) (l : List Final)
     → ((f : Final) → useful t (f .state) ≡ true → p f ≡ true → q (moved-final t f) ≡ true) → every p l ≡ true → every q (kept-finals t l) ≡ true
 unfolding every kept-finals moved-final
@@ -48,15 +39,6 @@ every-kept-final t p q (f ∷ l) turn h = on (useful t (f .state)) refl (every-k
     on true u more = true-and (q (moved-final t f)) (every q (kept-finals t l)) (turn f u (and-true (p f) (every p l) h .0)) more
     on false u more = more
 
-pub length-kept-arcs : (t : Transducer) (l : List Arc) → length (kept-arcs t l) ≤ length l
-unfolding kept-arcs moved
-length-kept-arcs t [] = omega arith
-length-kept-arcs t (a ∷ l) = on (arc-useful t a) (length-kept-arcs t l)
-  where
-    on : (b : Bool) → length (kept-arcs t l) ≤ length l → length (cond b (moved t a ∷ kept-arcs t l) (kept-arcs t l)) ≤ suc (length l)
-    on true more = omega arith
-    on false more = omega arith
-
 -- Order
 
 pub rise-lower : (floor floor' : ℕ) (fs : List Final) → floor' ≤ floor → finals-rise floor fs ≡ true → finals-rise floor' fs ≡ true
@@ -65,13 +47,6 @@ rise-lower floor floor' [] l h = refl
 rise-lower floor floor' (f ∷ fs) l h =
     let e = and-true (leb floor (f .state)) (finals-rise (f .state + 1) fs) h in
     true-and (leb floor' (f .state)) (finals-rise (f .state + 1) fs) (le-leb floor' (f .state) (omega (arith, leb-true floor (f .state) (e .0)))) (e .1)
-
-pub stay-lower : (floor floor' : ℕ) (l : List Arc) → floor' ≤ floor → sources-stay floor l ≡ true → sources-stay floor' l ≡ true
-unfolding sources-stay
-stay-lower floor floor' [] l h = refl
-stay-lower floor floor' (a ∷ as') l h =
-    let e = and-true (leb floor (a .source)) (sources-stay (a .source) as') h in
-    true-and (leb floor' (a .source)) (sources-stay (a .source) as') (le-leb floor' (a .source) (omega (arith, leb-true floor (a .source) (e .0)))) (e .1)
 
 pub kept-finals-rise : (t : Transducer) (floor : ℕ) (fs : List Final) → finals-rise floor fs ≡ true → finals-rise (renumbered t floor) (kept-finals t fs) ≡ true
 unfolding finals-rise kept-finals moved-final
@@ -94,23 +69,9 @@ kept-finals-rise t floor (f ∷ fs) h = on (useful t (f .state)) refl (kept-fina
         rise-lower (renumbered t (f .state + 1)) (renumbered t floor) (kept-finals t fs)
         (omega (arith, up, renumbered-rises t (f .state) (f .state + 1) (omega arith))) more
 
-pub kept-sources-stay : (t : Transducer) (floor : ℕ) (l : List Arc) → sources-stay floor l ≡ true → sources-stay (renumbered t floor) (kept-arcs t l) ≡ true
-unfolding sources-stay kept-arcs moved
-kept-sources-stay t floor [] h = refl
-kept-sources-stay t floor (a ∷ l) h = on (arc-useful t a) (kept-sources-stay t (a .source) l (e .1))
-  where
-    e : (leb floor (a .source) ≡ true) × (sources-stay (a .source) l ≡ true)
-    e = and-true (leb floor (a .source)) (sources-stay (a .source) l) h
-
-    up : renumbered t floor ≤ renumbered t (a .source)
-    up = renumbered-rises t floor (a .source) (leb-true floor (a .source) (e .0))
-
-    on : (b : Bool) → sources-stay (renumbered t (a .source)) (kept-arcs t l) ≡ true
-        → sources-stay (renumbered t floor) (cond b (moved t a ∷ kept-arcs t l) (kept-arcs t l)) ≡ true
-    on true more =
-        true-and (leb (renumbered t floor) (renumbered t (a .source))) (sources-stay (renumbered t (a .source)) (kept-arcs t l))
-        (le-leb (renumbered t floor) (renumbered t (a .source)) up) more
-    on false more = stay-lower (renumbered t (a .source)) (renumbered t floor) (kept-arcs t l) up more
+kept-sources-stay : (t : Transducer) (floor : ℕ) (l : List Arc) → sources-stay floor l ≡ true → sources-stay (renumbered t floor) (kept-arcs t l) ≡ true
+unfolding moved
+kept-sources-stay t floor l h = passing-stay (arc-useful t) (moved t) (renumbered t) (renumbered-rises t) (λ a. refl) floor l h
 
 -- Final states that rise below a bound are no more than it.
 pub length-rise : (floor n : ℕ) (fs : List Final) → floor ≤ n → finals-rise floor fs ≡ true → every (λ f. ltb (f .state) n) fs ≡ true → floor + length fs ≤ n
@@ -149,7 +110,7 @@ kept-states-good t h =
     true-and (every (λ f. ltb (f .state) n') (kept-finals t (t .finals)))
     (every (λ a. ltb (a .source) n' && ltb (a .target) n') (kept-arcs t (t .arcs)))
     (every-kept-final t (λ f. ltb (f .state) n) (λ f. ltb (f .state) n') (t .finals) (λ f. below (f .state)) (e .0))
-    (every-kept-arc t (λ a. ltb (a .source) n && ltb (a .target) n) (λ a. ltb (a .source) n' && ltb (a .target) n') (t .arcs) both (e .1))
+    (every-passing (arc-useful t) (moved t) (λ a. ltb (a .source) n && ltb (a .target) n) (λ a. ltb (a .source) n' && ltb (a .target) n') (t .arcs) both (e .1))
 
 kept-order-good : (t : Transducer) → order-good t ≡ true → order-good (kept t) ≡ true
 unfolding order-good kept renumbered
@@ -161,12 +122,13 @@ kept-order-good t h =
 kept-labels-good : (t : Transducer) → all-labels-good t ≡ true → all-labels-good (kept t) ≡ true
 unfolding all-labels-good kept moved
 kept-labels-good t h =
-    every-kept-arc t (λ a. labels-good (a .input) (a .output)) (λ a. labels-good (a .input) (a .output)) (t .arcs) (λ a u g. g) h
+    every-passing (arc-useful t) (moved t) (λ a. labels-good (a .input) (a .output)) (λ a. labels-good (a .input) (a .output)) (t .arcs) (λ a u g. g) h
 
 kept-plain : (t : Transducer) → plain t ≡ true → plain (kept t) ≡ true
 unfolding plain kept moved
 kept-plain t h =
-    every-kept-arc t (λ a. ltb (a .input) any && ltb (a .output) any) (λ a. ltb (a .input) any && ltb (a .output) any) (t .arcs) (λ a u g. g) h
+    let p : Arc → Bool = λ a. ltb (a .input) any && ltb (a .output) any in
+    every-passing (arc-useful t) (moved t) p p (t .arcs) (λ a u g. g) h
 
 kept-weights-good : (t : Transducer) → weights-good t ≡ true → weights-good (kept t) ≡ true
 unfolding weights-good kept moved moved-final
@@ -174,7 +136,7 @@ kept-weights-good t h =
     let e = and-true (every (λ f. weight-good (f .weight)) (t .finals)) (every (λ a. weight-good (a .weight)) (t .arcs)) h in
     true-and (every (λ f. weight-good (f .weight)) (kept-finals t (t .finals))) (every (λ a. weight-good (a .weight)) (kept-arcs t (t .arcs)))
     (every-kept-final t (λ f. weight-good (f .weight)) (λ f. weight-good (f .weight)) (t .finals) (λ f u g. g) (e .0))
-    (every-kept-arc t (λ a. weight-good (a .weight)) (λ a. weight-good (a .weight)) (t .arcs) (λ a u g. g) (e .1))
+    (every-passing (arc-useful t) (moved t) (λ a. weight-good (a .weight)) (λ a. weight-good (a .weight)) (t .arcs) (λ a u g. g) (e .1))
 
 pub kept-good : (t : Transducer) → useful t (t .start) ≡ true → Good t → Good (kept t)
 unfolding kept
@@ -189,7 +151,7 @@ kept-good t u g =
     (record {
       some = omega arith;
       states = omega (arith, r .states);
-      arcs = omega (arith, r .arcs, length-kept-arcs t (t .arcs));
+      arcs = omega (arith, r .arcs, passing-few (arc-useful t) (moved t) (t .arcs));
       finals = few-finals (kept t) states order;
       start = first;
     })

@@ -9,10 +9,11 @@ use Rattle.wire.proofs.Bool.{is-false}
 use Rattle.transducer.specs.Format.{Transducer}
 use Rattle.transducer.specs.Path.{arc, accepts, is-final, final-weight}
 use Rattle.transducer.proofs.Runs.{Within, ends-below}
-use Rattle.trim.specs.Trim.{useful, arc-useful, renumbered, kept-numbers, trimmed, origins-kept}
+use Rattle.trim.specs.Trim.{useful, arc-useful, renumbered, moved, kept-numbers, trimmed, origins-kept}
 use Rattle.reach.proofs.Counted.{CountedAt, count-onto}
 use Rattle.trim.proofs.Useful.{OnPath, useful-on-path, on-path-useful, on-path-accepts, ArcOnPath, arc-useful-on-path, arc-on-path-useful, start-useful}
-use Rattle.trim.proofs.Kept.{renumbered-count, renumbered-before, moved, length-kept, KeptTo, kept-to, kept-rise, kept-is-final, kept-final-weight}
+use Rattle.trim.proofs.Passing.{length-passing, PassedTo, passed-to, passing-rise}
+use Rattle.trim.proofs.Kept.{renumbered-count, renumbered-before, kept-is-final, kept-final-weight}
 use Rattle.trim.proofs.Trimmed.{kept, lone, trimmed-kept, trimmed-lone, origins-some, origins-none, KeptArc, kept-arc}
 
 -- Arcs
@@ -22,14 +23,14 @@ unfolding kept lone
 length-origins t = on (useful t (t .start)) refl
   where
     on : (b : Bool) → useful t (t .start) ≡ b → length (origins-kept t) ≡ length (trimmed t .arcs)
-    on true u = rw (trimmed-kept t u, origins-some t u) (length-kept t 0 (t .arcs))
+    on true u = rw (trimmed-kept t u, origins-some t u) (length-passing (arc-useful t) (moved t) 0 (t .arcs))
     on false u = rw (trimmed-lone t u, origins-none t u)
 
 pub origins-rise : (t : Transducer) (j j' : ℕ) → j < j' → j' < length (origins-kept t) → getD (origins-kept t) j 0 < getD (origins-kept t) j' 0
 origins-rise t j j' h h' = on (useful t (t .start)) refl
   where
     on : (b : Bool) → useful t (t .start) ≡ b → getD (origins-kept t) j 0 < getD (origins-kept t) j' 0
-    on true u = rw (origins-some t u) (kept-rise t 0 (t .arcs) j j' h (rw (origins-some t u) at h'))
+    on true u = rw (origins-some t u) (passing-rise (arc-useful t) 0 (t .arcs) j j' h (rw (origins-some t u) at h'))
     on false u = absurd (not-suc-le-zero (rw (origins-none t u) at h'))
 
 -- An arc of the trimmed transducer, and the arc on an accepting path that it comes from.
@@ -61,7 +62,7 @@ unfolding kept arc
 on-path-kept t w i r =
     let u : useful t (t .start) ≡ true = start-useful t w (r .before ++ i ∷ r .after) (r .accepting) in
     let a : (i < length (t .arcs)) × (arc-useful t (arc t i) ≡ true) = arc-on-path-useful t w i r in
-    let k : KeptTo t 0 (t .arcs) i = kept-to t 0 (t .arcs) i (a .0) (a .1) in
+    let k : PassedTo (arc-useful t) (moved t) 0 (t .arcs) i = passed-to (arc-useful t) (moved t) 0 (t .arcs) i (a .0) (a .1) in
     rw (trimmed-kept t u, origins-some t u) (record { number = k .place; below = k .below; origin = k .number ∙ zero-add i })
 
 -- States

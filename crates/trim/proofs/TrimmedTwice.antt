@@ -17,10 +17,11 @@ use Rattle.transducer.proofs.Runs.{accepting-append, accepts-accepting, Within,
 use Rattle.transducer.proofs.Good.{Content, good-tests, finals-inside, arcs-inside}
 use Rattle.transducer.proofs.RoundTrip.{good-range}
 use Rattle.reach.specs.Reach.{entered, some-arc, accessible, coaccessible}
-use Rattle.trim.specs.Trim.{useful, Trim, arc-useful, renumbered, kept-arcs, kept-finals, kept-numbers, trimmed, through}
+use Rattle.trim.specs.Passing.{passing}
+use Rattle.trim.specs.Trim.{useful, arc-useful, renumbered, moved, kept-arcs, kept-finals, kept-numbers, trimmed, through, Trim}
 use Rattle.reach.specs.Counted.{count}
 use Rattle.reach.proofs.Counted.{CountedAt, count-onto, count-full}
-use Rattle.trim.proofs.Useful.{start-useful, OnPath, useful-on-path, on-path-useful, on-path-accepts, accepts-on-path}
+use Rattle.trim.proofs.Useful.{OnPath, useful-on-path, on-path-useful, on-path-accepts, accepts-on-path, start-useful}
 use Rattle.trim.proofs.Kept.{renumbered-count}
 use Rattle.trim.proofs.Trimmed.{kept, lone, trimmed-kept, trimmed-lone, LedFrom, kept-led, LedBy, kept-led-by}
 use Rattle.trim.proofs.TrimmedGood.{kept-good}
@@ -82,7 +83,7 @@ renumbered-same t all k h = renumbered-count t k ∙ count-all (useful t) (t .st
 
 pub arcs-same : (t : Transducer) (l : List Arc) → Trim t
     → every (λ a. ltb (a .source) (t .states) && ltb (a .target) (t .states)) l ≡ true → kept-arcs t l ≡ l
-unfolding every kept-arcs arc-useful
+unfolding every passing moved arc-useful
 arcs-same t [] all h = refl
 arcs-same t (a ∷ l) all h =
     let n : ℕ = t .states in
@@ -129,6 +130,7 @@ trimmed-twice t g = on (useful t (t .start)) refl
         rw (trimmed-kept t u) (trimmed-kept (kept t) (all (kept t .start) (w' .starts)) ∙ kept-same (kept t) g' all)
     on false u = rw (trimmed-lone t u) lone-twice
 
+-- If trimming changes nothing and something accepts, each state lies on an accepting path.
 pub trimmed-trim : (t : Transducer) → Within t → trimmed t ≡ t → (p : List ℕ) → accepts t p ≡ true → Trim t
 unfolding kept
 trimmed-trim t w e p a =

@@ -3,22 +3,15 @@ use mathlib.Core.Path.{_≡_}
 use mathlib.Core.List.{List}
 use Prim.Native.Nat.{ℕ, _+_, _≤_}
 use lib.ListN.{length, getD}
-use lib.Seq.{sets}
 use Rattle.wire.specs.Bytes.{filled}
 use Rattle.transducer.specs.Format.{Transducer, max-states}
-use Rattle.transducer.specs.Encode.{arc-records, encode}
-use Rattle.trim.specs.Trim.{renumbered, kept-arcs, kept-numbers, trimmed, origins-kept}
+use Rattle.transducer.specs.Encode.{encode}
+use Rattle.trim.specs.Trim.{renumbered, trimmed, origins-kept}
 
 -- The new numbers of the states, and behind them that of their end.
 pub record Renumbered (t : Transducer) (index : List ℕ) : Type 0 where
   pub long : length index ≡ max-states + 1
   pub at-state : (s : ℕ) → s ≤ t .states → getD index s 0 ≡ renumbered t s
-
--- The arcs that are kept, written from a place on, and their origins from the front.
-pub record Arcs-put (t : Transducer) (at : ℕ) (count : ℕ) (out out' origins origins' : List ℕ) : Type 0 where
-  pub count-is : count ≡ length (kept-arcs t (t .arcs))
-  pub table : out' ≡ sets out at (arc-records (kept-arcs t (t .arcs)))
-  pub origins-are : origins' ≡ sets origins 0 (kept-numbers t 0 (t .arcs))
 
 -- The trimmed transducer, written, and the arcs it keeps.
 pub record Trims (t : Transducer) (len : ℕ) (out out' origins origins' : List ℕ) : Type 0 where

@@ -8,6 +8,7 @@ use Rattle.transducer.specs.declared.Arc.{Arc}
 use Rattle.transducer.specs.declared.Final.{Final}
 use Rattle.transducer.specs.Format.{Transducer}
 use Rattle.reach.specs.Reach.{accessible, coaccessible}
+use Rattle.trim.specs.Passing.{passing, passing-numbers}
 
 -- Whether a state lies on an accepting path: it is accessible and coaccessible.
 unfoldable pub useful : Transducer → (s : ℕ) → Bool
@@ -25,22 +26,21 @@ unfoldable pub renumbered : Transducer → (s : ℕ) → ℕ
 renumbered t zero = 0
 renumbered t (suc s) = renumbered t s + cond (useful t s) 1 0
 
-unfoldable pub kept-arcs : Transducer → List Arc → List Arc
-kept-arcs t [] = []
-kept-arcs t (a ∷ as') =
-    cond (arc-useful t a)
-    (record { source = renumbered t (a .source); input = a .input; output = a .output; target = renumbered t (a .target); weight = a .weight }
-    ∷ kept-arcs t as') (kept-arcs t as')
+-- An arc between the new numbers of its states.
+unfoldable pub moved : Transducer → Arc → Arc
+moved t a = record { source = renumbered t (a .source); input = a .input; output = a .output; target = renumbered t (a .target); weight = a .weight }
+
+-- The arcs that are kept, and their numbers, the first of the list having the number i.
+abbrev pub kept-arcs : Transducer → List Arc → List Arc
+kept-arcs t l = passing (arc-useful t) (moved t) l
+
+abbrev pub kept-numbers : Transducer → (i : ℕ) → List Arc → List ℕ
+kept-numbers t i l = passing-numbers (arc-useful t) i l
 
 unfoldable pub kept-finals : Transducer → List Final → List Final
 kept-finals t [] = []
 kept-finals t (f ∷ fs) =
     cond (useful t (f .state)) (record { state = renumbered t (f .state); weight = f .weight } ∷ kept-finals t fs) (kept-finals t fs)
-
--- The numbers of the arcs that are kept, the first of a run having the number i.
-unfoldable pub kept-numbers : Transducer → (i : ℕ) → List Arc → List ℕ
-kept-numbers t i [] = []
-kept-numbers t i (a ∷ as') = cond (arc-useful t a) (i ∷ kept-numbers t (suc i) as') (kept-numbers t (suc i) as')
 
 -- Where nothing accepts, the start alone remains.
 unfoldable pub trimmed : Transducer → Transducer

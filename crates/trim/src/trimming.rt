@@ -8,9 +8,10 @@ ghost use Rattle.transducer.specs.Format.{max-states, max-arcs, max-bytes, head
 ghost use Rattle.transducer.specs.Format.{refusal, decode, head-finals};
 ghost use Rattle.transducer.specs.Encode.{final-records};
 ghost use Rattle.transducer.specs.Leaf.{Opened};
-ghost use Rattle.trim.specs.Trim.{kept-finals};
+ghost use Rattle.trim.specs.Trim.{arc-useful, moved, kept-finals};
+ghost use Rattle.trim.specs.Passing.{Passing-put};
 ghost use Rattle.reach.specs.Reach.{All-accessible};
-ghost use Rattle.trim.specs.Parts.{Renumbered, Arcs-put, Trims};
+ghost use Rattle.trim.specs.Parts.{Renumbered, Trims};
 ghost use Rattle.trim.specs.TrimEntry.{Trim-says, trim-refusal};
 use crate::renumber;
 use transducer::Arc;
@@ -61,7 +62,8 @@ fn put_arcs(
 ) -> usize
     requires { ⌜ Opened (now bytes) first × (arcs ≡ length (decode (now bytes) .arcs)) × Renumbered (decode (now bytes)) (now index)
         × (at + arc-bytes * arcs ≤ length (now out)) × (arcs ≤ length (now origins)) ⌝ }
-    ensures { λ r. ⌜ Arcs-put (decode (now (bytes .entry))) at r (now (out .entry)) (now (out .exit)) (now (origins .entry)) (now (origins .exit)) ⌝ }
+    ensures { λ r. ⌜ Passing-put (arc-useful (decode (now (bytes .entry)))) (moved (decode (now (bytes .entry)))) (decode (now (bytes .entry)) .arcs)
+        at r (now (out .entry)) (now (out .exit)) (now (origins .entry)) (now (origins .exit)) ⌝ }
 {
     let mut i = 0;
     let mut count = 0;

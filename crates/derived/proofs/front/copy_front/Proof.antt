@@ -3,7 +3,7 @@ use borrow.Author.Needs.{needs}
 use mathlib.Core.Path.{_≡_, sym, ap, _∙_}
 use Prim.Native.Nat.{ℕ, _-_, _≤_}
 use native.Mathlib.Omega.{arith}
-use lib.ListN.{length, take}
+use lib.ListN.{take}
 use Rattle.derived.proofs.Written.{Copied, copied-first, copied-next}
 use Rattle.derived.proofs.front.copy_front.Statement.{statement}
 use Rattle.derived.proofs.front.copy_front.Tie as tie

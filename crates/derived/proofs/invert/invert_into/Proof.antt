@@ -3,21 +3,25 @@ use borrow.Author.Needs.{needs}
 use mathlib.Core.Path.{_≡_, refl, sym, _∙_}
 use Prim.Native.Nat.{ℕ, _+_, _*_, _≤_}
 use native.Mathlib.Omega.{arith}
-use lib.ListN.{length}
 use Rattle.wire.specs.Bytes.{Bytes}
-use Rattle.transducer.specs.Format.{decode, head-finals, arcs-at}
-use Rattle.transducer.proofs.Offsets.{length-accepted, length-finals, length-arcs, accepted-within}
+use Rattle.transducer.specs.Format.{decode, arcs-at}
+use Rattle.transducer.proofs.Offsets.{length-accepted, length-finals, accepted-within}
 use Rattle.reach.proofs.Sized.{Sized, sized}
 use Rattle.derived.proofs.InvertedWritten.{inverts}
 use Rattle.derived.proofs.invert.invert_into.Statement.{statement}
 use Rattle.derived.proofs.invert.invert_into.Tie as tie
 
+-- Places to look back to.
 abbrev start : tie.After-shape-of → tie.Start
 start c = c .before .before .before
 
 abbrev shaped : tie.After-put-inverted → tie.After-shape-of
 shaped c = c .before .before .before .before .before .before
 
+abbrev copied : tie.After-put-inverted → tie.After-copy-front
+copied c = c .before .before .before .before
+
+-- What is known of accepted bytes.
 is-bytes : (c : tie.After-shape-of) → Bytes (start c .args .table .now)
 is-bytes c = λ i. omega (arith, c .before .before .shared-slice-known .given i)
 
@@ -72,14 +76,13 @@ returns c =
     let w = shaped p in
     let e = w .shape-of .ensures in
     let bs = start w .args .table .now in
-    let copied = p .before .before .before .before in
     let finals = e .finals-are ∙ sym (length-finals bs (is-bytes w) (start w .pre .0)) in
-    let room = omega' (few-arcs w) (place w) (few-finals w) (start w .pre .2) (copied .copy-front .kept .1 .1 .0) in
+    let room = fits (few-arcs w) (place w) (few-finals w) (start w .pre .2) (copied p .copy-front .kept .1 .1 .0) in
     inverts bs (is-bytes w) (start w .pre .0) (w .shape-of .result .finals) (w .shape-of .result .arcs) (w .shape-of .result .first) _ _ _ finals (e .arcs-are)
-    (place w) room (copied .copy-front .ensures) (p .put-inverted .ensures) refl
+    (place w) room (copied p .copy-front .ensures) (p .put-inverted .ensures) refl
   where
-    omega' : {count at f room long : ℕ} → count ≤ 3072 → at ≡ arcs-at f → f ≤ 1024 → 59404 ≤ room → long ≡ room → at + 16 * count ≤ long
-    omega' a b c d e = omega arith
+    fits : {count at f room long : ℕ} → count ≤ 3072 → at ≡ arcs-at f → f ≤ 1024 → 59404 ≤ room → long ≡ room → at + 16 * count ≤ long
+    fits a b c d e = omega arith
 
 pub invert-into-spec : {M : Type 1} → statement M
 invert-into-spec =

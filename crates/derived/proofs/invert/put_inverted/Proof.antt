@@ -1,13 +1,10 @@
 -- A loop that writes each arc with its labels exchanged. The invariant, `Inverting`: the first `i` arcs are written.
 use borrow.Author.Needs.{needs}
-use mathlib.Core.Path.{_≡_, refl, sym, ap, _∙_}
-use Prim.Native.Nat.{ℕ, _-_, _+_, _*_, _≤_, _<_}
+use Prim.Native.Nat.{_-_, _+_, _*_, _≤_, _<_}
 use native.Mathlib.Omega.{arith}
-use lib.ListN.{length, getD}
-use Rattle.wire.specs.Bytes.{Bytes}
+use lib.ListN.{length}
 use Rattle.transducer.specs.Format.{arc-bytes, decode}
-use Rattle.transducer.specs.Path.{arc, no-arc}
-use Rattle.derived.specs.Inverted.{inverted-arc}
+use Rattle.transducer.specs.Path.{arc}
 use Rattle.derived.proofs.InvertedWritten.{Inverting, inverting-first, inverting-next, inverting-stop}
 use Rattle.derived.proofs.invert.put_inverted.Statement.{statement}
 use Rattle.derived.proofs.invert.put_inverted.Tie as tie
@@ -61,10 +58,10 @@ unfolding arc
 loop-again c =
     let put = c .before .before in
     let at = turn put in
-    let turned = put .before .inverted-arc in
+    let inverted = put .before .inverted-arc in
     let read = put .before .before .before .arc-of in
-    inverting-next _ (start at .args .first) (at .before .loop .i) (start at .args .out .now) (at .before .loop .out) _ (read .result) (turned .result) (is-arc at)
-    (read .ensures) (turned .ensures) (put .put-arc .kept .0) (put .put-arc .ensures) (at .before .loop .inv)
+    inverting-next _ (start at .args .first) (at .before .loop .i) (start at .args .out .now) (at .before .loop .out) _ (read .result) (inverted .result)
+    (is-arc at) (read .ensures) (inverted .ensures) (put .put-arc .kept .0) (put .put-arc .ensures) (at .before .loop .inv)
 
 same-length : tie.Need-same-length Inv-loop μ-loop
 same-length c = c .before .loop .inv .long

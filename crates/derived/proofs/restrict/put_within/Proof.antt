@@ -3,14 +3,13 @@
 use borrow.Author.Needs.{needs}
 use borrow.Author.Tests.{not-true, not-false}
 use mathlib.Core.Path.{_≡_, refl, sym, subst, _∙_}
-use Prim.Native.Nat.{ℕ, _-_, _+_, _*_, _≤_, _<_}
+use Prim.Native.Nat.{_-_, _+_, _*_, _≤_, _<_}
 use native.Mathlib.Omega.{arith}
 use lib.ListN.{length, getD}
 use mir.Syntax.{w32, w64}
 use mir.Val.{toZ, ofZ}
 use mir.Facts.{toZ-ofZ}
 use Rattle.wire.specs.Bytes.{Bytes}
-use Rattle.transducer.specs.declared.Arc.{Arc}
 use Rattle.transducer.specs.Format.{arc-bytes, decode}
 use Rattle.transducer.specs.Path.{arc, no-arc}
 use Rattle.transducer.specs.Weight.{Weight}

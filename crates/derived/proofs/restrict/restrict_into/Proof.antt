@@ -3,13 +3,12 @@ use borrow.Author.Needs.{needs}
 use mathlib.Core.Path.{_≡_, refl, sym, _∙_}
 use Prim.Native.Nat.{ℕ, _+_, _*_, _≤_}
 use native.Mathlib.Omega.{arith}
-use lib.ListN.{length}
 use mir.Syntax.{w64}
 use mir.Val.{toZ, ofZ}
 use mir.Facts.{toZ-ofZ}
 use Rattle.wire.specs.Bytes.{Bytes}
-use Rattle.transducer.specs.Format.{decode, head-finals, arcs-at}
-use Rattle.transducer.proofs.Offsets.{length-accepted, length-finals, length-arcs, accepted-within}
+use Rattle.transducer.specs.Format.{decode, arcs-at}
+use Rattle.transducer.proofs.Offsets.{length-accepted, length-finals, accepted-within}
 use Rattle.reach.proofs.Sized.{Sized, sized}
 use Rattle.derived.specs.Restricted.{unchanged, within-bound}
 use Rattle.trim.proofs.Passing.{passing-few}
@@ -17,11 +16,15 @@ use Rattle.derived.proofs.RestrictedWritten.{restricts, restricts-by}
 use Rattle.derived.proofs.restrict.restrict_into.Statement.{statement}
 use Rattle.derived.proofs.restrict.restrict_into.Tie as tie
 
+-- Places to look back to.
 abbrev start : tie.After-shape-of → tie.Start
 start c = c .before .before .before .before
 
 abbrev shaped : tie.After-put-within → tie.After-shape-of
 shaped c = c .before .before .before .before .before .before .before
+
+abbrev copied : tie.After-put-within → tie.After-copy-front
+copied c = c .before .before .before .before .before
 
 abbrev arcs-put : tie.After-put-head → tie.After-put-within
 arcs-put c = c .before .before .before .before .before .before .before .before .before
@@ -52,8 +55,10 @@ shape-of-requires c κs = c .before .before .before .pre .0
 copy-front-requires : tie.Need-copy-front-requires
 copy-front-requires c κs =
     let w = c .before in
-    let bs = start w .args .table .now in
-    (omega (arith, place w, w .shape-of .ensures .finals-are, length-accepted bs (is-bytes w) (start w .pre .0)), omega (arith, place w, few-finals w, start w .pre .3))
+    let bs = start w .args .table .now in (
+      omega (arith, place w, w .shape-of .ensures .finals-are, length-accepted bs (is-bytes w) (start w .pre .0)),
+      omega (arith, place w, few-finals w, start w .pre .3),
+    )
 
 put-within-requires : tie.Need-put-within-requires
 put-within-requires c κs =
@@ -68,19 +73,21 @@ put-within-requires c κs =
     )
 
 cast-put-head : tie.Need-cast-put-head
-cast-put-head c = omega (arith, c .before .before .before .before .before .before .before .before .before .before .before .before .before .shape-of .ensures .few-states)
+cast-put-head c = omega (arith, shaped (c .before .before .before .before .before .before) .shape-of .ensures .few-states)
 
 cast-put-head-2 : tie.Need-cast-put-head-2
 cast-put-head-2 c = omega (arith, few (c .before .before .before .before .before .before))
 
 cast-put-head-3 : tie.Need-cast-put-head-3
-cast-put-head-3 c = omega (arith, few-finals (c .before .before .before .before .before .before .before .before .before .before .before .before .before .before))
+cast-put-head-3 c = omega (arith, few-finals (shaped (c .before .before .before .before .before .before .before)))
 
 cast-put-head-4 : tie.Need-cast-put-head-4
-cast-put-head-4 c = omega (arith, c .before .before .before .before .before .before .before .before .before .before .before .before .before .before .before .shape-of .ensures .start-below)
+cast-put-head-4 c = omega (arith, shaped (c .before .before .before .before .before .before .before .before) .shape-of .ensures .start-below)
 
 put-head-requires : tie.Need-put-head-requires
-put-head-requires c κs = omega (arith, c .before .before .before .before .before .before .before .before .put-within .kept, c .before .before .before .before .before .before .before .before .before .before .before .before .before .copy-front .kept, c .before .before .before .before .before .before .before .before .before .before .before .before .before .before .before .before .before .before .before .pre .3)
+put-head-requires c κs =
+    let p = c .before .before .before .before .before .before .before .before in
+    omega (arith, p .put-within .kept, copied p .copy-front .kept, start (shaped p) .pre .3)
 
 mul-result : tie.Need-mul-result
 mul-result c = omega (arith, few (arcs-put (c .before .before)))
@@ -103,16 +110,15 @@ returns c =
     let w = shaped p in
     let e = w .shape-of .ensures in
     let bs = start w .args .table .now in
-    let copied = p .before .before .before .before .before in
     let finals = e .finals-are ∙ sym (length-finals bs (is-bytes w) (start w .pre .0)) in
-    let room = omega' (few p) (place w) (few-finals w) (start w .pre .3) (copied .copy-front .kept .1 .1 .0) in
+    let room = fits (few p) (place w) (few-finals w) (start w .pre .3) (copied p .copy-front .kept .1 .1 .0) in
     restricts-by (start w .args .coming .now) (start w .args .rest .now) _ _ (decode bs) (start w .args .numbers .now) (toZ-ofZ (start w .fits .most))
     (restricts _ bs (is-bytes w) (start w .pre .0) (w .shape-of .result .states) (w .shape-of .result .finals) (w .shape-of .result .start)
     (w .shape-of .result .first) (p .put-within .result) _ _ _ _ _ _ (e .states-are) finals (e .start-is) (place w) room
-    (copied .copy-front .ensures) (p .put-within .ensures) (p .put-within .kept .1 .1 .1 .1 .1 .1 .1 .0) (head .put-head .ensures) refl)
+    (copied p .copy-front .ensures) (p .put-within .ensures) (p .put-within .kept .1 .1 .1 .1 .1 .1 .1 .0) (head .put-head .ensures) refl)
   where
-    omega' : {count at f room long : ℕ} → count ≤ 3072 → at ≡ arcs-at f → f ≤ 1024 → 59404 ≤ room → long ≡ room → at + 16 * count ≤ long
-    omega' a b c d e = omega arith
+    fits : {count at f room long : ℕ} → count ≤ 3072 → at ≡ arcs-at f → f ≤ 1024 → 59404 ≤ room → long ≡ room → at + 16 * count ≤ long
+    fits a b c d e = omega arith
 
 pub restrict-into-spec : {M : Type 1} → statement M
 restrict-into-spec =

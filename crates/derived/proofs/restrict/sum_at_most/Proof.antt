@@ -5,7 +5,7 @@ use mir.Syntax.{w64}
 use mir.Val.{SFits}
 use mir.Facts.{toZ-ofZ}
 use Rattle.wire.proofs.Ints.{wider, size}
-use Rattle.transducer.specs.Weight.{Weight, plus}
+use Rattle.transducer.specs.Weight.{plus}
 use Rattle.transducer.proofs.Weights.{magnitude-is, magnitude-plus, magnitude-fits}
 use Rattle.derived.proofs.restrict.sum_at_most.Statement.{statement}
 use Rattle.derived.proofs.restrict.sum_at_most.Tie as tie

@@ -1,7 +1,7 @@
--- A loop that writes what is kept. The invariant, `Arcs-kept`: of the first `i` arcs those that are kept stand from `at` on, and their numbers
+-- A loop that writes what is kept. The invariant, `Passing-so-far`: of the first `i` arcs those that are kept stand from `at` on, and their numbers
 -- at the front of the origins.
 use borrow.Author.Needs.{needs}
-use mathlib.Core.Path.{refl, ap, _∙_}
+use mathlib.Core.Path.{_≡_, refl, ap, _∙_}
 use mathlib.Core.List.{List}
 use Prim.Native.Nat.{ℕ, _-_, _+_, _*_, _≤_, _<_}
 use native.Mathlib.Omega.{arith}
@@ -11,16 +11,20 @@ use mir.Facts.{toZ-ofZ}
 use Rattle.wire.specs.Bytes.{Bytes}
 use Rattle.transducer.specs.Format.{arc-bytes, decode}
 use Rattle.transducer.proofs.Offsets.{length-arcs, accepted-within}
+use Rattle.transducer.specs.Path.{arc, no-arc}
 use Rattle.transducer.specs.Weight.{Weight}
 use Rattle.transducer.specs.declared.Arc.{Arc}
 use Rattle.reach.proofs.Ends.{Arc-ends, arc-ends}
+use Rattle.trim.specs.Trim.{arc-useful, moved}
 use Rattle.trim.proofs.Running.{index-no, index-yes, index-arc}
-use Rattle.trim.proofs.KeptWritten.{Arcs-kept, arcs-first, arcs-skipped, arcs-more, arcs-stop, unused-source, unused-target, used-both}
+use Rattle.trim.proofs.KeptWritten.{unused-source, unused-target, used-both}
+use Rattle.trim.proofs.Passing.{Passing-so-far, passing-first, passing-skip, passing-more, passing-stop}
 use Rattle.trim.proofs.trimming.put_arcs.Statement.{statement}
 use Rattle.trim.proofs.trimming.put_arcs.Tie as tie
 
 abbrev Inv-loop : tie.InvT-loop
-Inv-loop bytes first arcs index at out₀ origins₀ i₀ count₀ out origins i count = Arcs-kept (decode bytes) at i count out₀ out origins₀ origins
+Inv-loop bytes first arcs index at out₀ origins₀ i₀ count₀ out origins i count =
+    Passing-so-far (arc-useful (decode bytes)) (moved (decode bytes)) (decode bytes .arcs) at i count out₀ out origins₀ origins
 
 abbrev μ-loop : tie.MeasureT-loop
 μ-loop bytes first arcs index at out₀ origins₀ i₀ count₀ out origins i count = arcs - i
@@ -62,6 +66,12 @@ ends c =
     arc-ends (bytes-of (c .before)) (is-bytes (c .before)) (start (c .before) .pre .0 .accepted) (c .before .before .loop .i) (c .arc-of .result)
     (is-arc (c .before)) (c .arc-of .ensures)
 
+-- The arc as the invariant has it.
+arc-is : (c : tie.After-arc-of Inv-loop μ-loop)
+    → c .arc-of .result ≡ getD (decode (bytes-of (c .before)) .arcs) (c .before .before .loop .i) no-arc
+unfolding arc
+arc-is c = c .arc-of .ensures
+
 -- The place of the record and of the origin stay inside: no more are kept than passed.
 room : (c : tie.Else2 Inv-loop μ-loop) →
     (start (turn-of c) .args .at + arc-bytes * turn-of c .before .loop .count + arc-bytes ≤ length (start (turn-of c) .args .out .now))
@@ -73,7 +83,7 @@ room c =
     )
 
 loop-holds : tie.Need-loop-holds Inv-loop μ-loop
-loop-holds c = arcs-first (c .before .before .before .args .out .now) (c .before .before .before .args .origins .now)
+loop-holds c = passing-first (c .before .before .before .args .out .now) (c .before .before .before .args .origins .now)
 
 arc-of-requires : tie.Need-arc-of-requires Inv-loop μ-loop
 arc-of-requires c κs = (start c .pre .0, is-arc c)
@@ -111,7 +121,7 @@ loop-again c =
     let turn = here .before in
     let a = here .arc-of .result in
     let unused = index-no (start turn .pre .2) (a .source) (ends here .source-below) (c .if1 .taken) in
-    arcs-skipped a (is-arc turn) (here .arc-of .ensures) (turn .before .loop .inv) (unused-source (decode (bytes-of turn)) a unused)
+    passing-skip a (is-arc turn) (arc-is here) (turn .before .loop .inv) (unused-source (decode (bytes-of turn)) a unused)
 
 mul-if2 : tie.Need-mul-if2 Inv-loop μ-loop
 mul-if2 c = omega (arith, ends (loaded c))
@@ -137,7 +147,7 @@ loop-again-2 c =
     let turn = here .before in
     let a = here .arc-of .result in
     let unused = index-no (start turn .pre .2) (a .target) (ends here .target-below) (omega (arith, c .if2 .taken)) in
-    arcs-skipped a (is-arc turn) (here .arc-of .ensures) (turn .before .loop .inv) (unused-target (decode (bytes-of turn)) a unused)
+    passing-skip a (is-arc turn) (arc-is here) (turn .before .loop .inv) (unused-target (decode (bytes-of turn)) a unused)
 
 mul-t16 : tie.Need-mul-t16 Inv-loop μ-loop
 mul-t16 c = omega (arith, ends (loaded (source-kept c)))
@@ -175,7 +185,7 @@ slice-write-origins : tie.Need-slice-write-origins Inv-loop μ-loop
 slice-write-origins c =
     let turn = turn-of (both-kept (c .before .before)) in
     let here = turn .before .loop .inv in
-    omega (arith, turn .loop-test .taken, here .few, here .origins-long, start turn .pre .4)
+    omega (arith, turn .loop-test .taken, here .few, here .numbers-long, start turn .pre .4)
 
 add-count : tie.Need-add-count Inv-loop μ-loop
 add-count c = let e = both-kept (c .before .before) in omega (arith, room e .1, start (turn-of e) .good)
@@ -193,22 +203,22 @@ loop-again-3 c =
     let index = start turn .pre .2 in
     let cells = start turn .args .index .now in
     let weight = toZ-ofZ {w = w32} {z = a .weight} (record { sfits = put .before .before .struct-told .given .1 .1 .1 .1 .0 .1 }) in
-    let moved : Weight → Arc =
+    let kept : Weight → Arc =
     λ w. record { source = getD cells (a .source) 0; input = a .input; output = a .output; target = getD cells (a .target) 0; weight = w } in
     let used = used-both (decode (bytes-of turn)) a (index-yes index (a .source) (ends here .source-below) (source-kept e .if1 .left))
     (index-yes index (a .target) (ends here .target-below) (λ same. e .if2 .left (omega (arith, same)))) in
-    arcs-more a (is-arc turn) (here .arc-of .ensures) (turn .before .loop .inv) _ _ _ used
-    (ap moved weight ∙ index-arc index a (ends here .source-below) (ends here .target-below)) (omega arith) (omega arith) (put .put-arc .kept .0)
+    passing-more a (is-arc turn) (arc-is here) (turn .before .loop .inv) _ _ _ used
+    (ap kept weight ∙ index-arc index a (ends here .source-below) (ends here .target-below)) (omega arith) (omega arith) (put .put-arc .kept .0)
     (put .put-arc .ensures) refl
 
 same-length : tie.Need-same-length Inv-loop μ-loop
 same-length c = c .before .loop .inv .long
 
 same-length-2 : tie.Need-same-length-2 Inv-loop μ-loop
-same-length-2 c = c .before .loop .inv .origins-long
+same-length-2 c = c .before .loop .inv .numbers-long
 
 returns : tie.Need-returns Inv-loop μ-loop
-returns c = arcs-stop (omega (arith, c .loop-test .left, entry (c .before) .pre .1)) (c .before .loop .inv)
+returns c = passing-stop (omega (arith, c .loop-test .left, entry (c .before) .pre .1)) (c .before .loop .inv)
 
 pub put-arcs-spec : {M : Type 1} → statement M
 put-arcs-spec =

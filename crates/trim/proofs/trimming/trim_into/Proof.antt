@@ -10,7 +10,8 @@ use Rattle.transducer.specs.Format.{max-states, max-arcs, arc-bytes, arcs-at, d
 use Rattle.transducer.specs.Leaf.{Opened}
 use Rattle.transducer.proofs.Headed.{Headed, headed, headed-opened, head-inside}
 use Rattle.trim.proofs.Running.{index-no, index-yes}
-use Rattle.trim.proofs.TrimmedGood.{length-kept-arcs}
+use Rattle.trim.specs.Trim.{arc-useful, moved}
+use Rattle.trim.proofs.Passing.{passing-few}
 use Rattle.trim.proofs.TrimSays.{length-kept-finals, index-at, trims-lone, trims-kept}
 use Rattle.trim.proofs.trimming.trim_into.Statement.{statement}
 use Rattle.trim.proofs.trimming.trim_into.Tie as tie
@@ -99,7 +100,7 @@ few-arcs : (c : tie.After-put-arcs) → c .put-arcs .result ≤ max-arcs
 few-arcs c =
     let h = head-at c in
     let t = decode (bytes-of h) in
-    omega (arith, c .put-arcs .ensures .count-is, length-kept-arcs t (t .arcs), head-is h .arcs-are, head-is h .few-arcs)
+    omega (arith, c .put-arcs .ensures .count-is, passing-few (arc-useful t) (moved t) (t .arcs), head-is h .arcs-are, head-is h .few-arcs)
 
 fits : (c : tie.After-arcs-at2) → c .arcs-at2 .result + arc-bytes * max-arcs ≤ length (start (head-of (c .before .before .before)) .args .out .now)
 fits c = let put = c .before .before .before in omega (arith, c .arcs-at2 .ensures, few-finals put, start (head-of put) .pre .1)
