@@ -1,26 +1,31 @@
 -- The answers of the one call: one law for each, in the order of its calls. Assumes nothing.
-use mathlib.Core.Path.{_≡_, sym, ap, _∙_}
-use mathlib.Core.Bool.{cond}
+use mathlib.Core.Path.{_≡_, refl, sym, ap, _∙_}
+use mathlib.Core.Bool.{true, cond}
 use mathlib.Core.List.{List}
 use Prim.Native.Nat.{ℕ, _≤_}
 use lib.ListN.{length, take}
-use Rattle.wire.specs.Bytes.{Bytes}
+use Rattle.wire.specs.Bytes.{Bytes, filled}
+use Rattle.wire.proofs.Bool.{passed-last}
 use Rattle.transducer.specs.declared.Written.{Written}
 use Rattle.transducer.specs.Format.{max-arcs, max-bytes, max-origins, max-states, Transducer, Good, refusal, decode}
+use Rattle.transducer.specs.Encode.{encode}
 use Rattle.transducer.specs.Entry.{or-else}
-use Rattle.transducer.proofs.Answers.{some-or-else, none-or-else, unless-some}
+use Rattle.transducer.proofs.Answers.{or-else-none, some-or-else, none-or-else, unless-some}
 use Rattle.transducer.proofs.RoundTrip.{accepted-good}
 use Rattle.compose.specs.Entry.{compose-room, compose-refusal, Compose-says}
-use Rattle.lattice.specs.ApplyEntry.{apply-room, apply-refusal, Apply-says}
-use Rattle.lattice.specs.Lattice.{lattice}
+use Rattle.lattice.specs.ApplyEntry.{apply-refusal, Apply-says}
+use Rattle.explore.specs.Explore.{built-refusal}
+use Rattle.lattice.specs.Apply.{string-good, applied}
+use Rattle.lattice.specs.Lattice.{lattice, lattice-origins}
 use Rattle.paths.specs.declared.Counted.{Counted}
 use Rattle.paths.specs.Count.{endless, path-count}
-use Rattle.paths.specs.Entry.{count-refusal, Count-says}
+use Rattle.lookup.specs.declared.StringCount.{StringCount}
+use Rattle.lookup.specs.Lookup.{count-string-refusal, Count-string-says}
+use Rattle.lookup.proofs.CountString.{counts-lattice}
 use Rattle.claim.specs.Entry.{composition, composition-lattice, composition-refusal, application-refusal, readings-refusal, Readings-says}
 use Rattle.claim.proofs.Answers.{Composed-well, composed-well, composed-fits}
-use Rattle.claim.proofs.Answers.{Applied-well, applied-well, applied-fits}
-use Rattle.claim.proofs.ChainCounted.{Calls-chained, lattice-read, lattice-accepted, counts-pairs}
-use Rattle.claim.proofs.HandedOn.{composition-read, composition-accepted}
+use Rattle.claim.proofs.ChainCounted.{Calls-chained, counts-pairs}
+use Rattle.claim.proofs.HandedOn.{composition-read, composition-accepted, composition-good}
 
 -- Which refusal it is
 
@@ -37,14 +42,6 @@ module _ (xs ys cs : List ℕ) where
   number-first : (m ≡ 0 → ⊥) → readings-refusal xs ys cs ≡ m
   unfolding readings-refusal
   number-first bad = some-or-else m (or-else n last) bad
-
-  number-second : m ≡ 0 → (n ≡ 0 → ⊥) → readings-refusal xs ys cs ≡ n
-  unfolding readings-refusal
-  number-second e bad = none-or-else m (or-else n last) e ∙ some-or-else n last bad
-
-  number-third : m ≡ 0 → n ≡ 0 → readings-refusal xs ys cs ≡ last
-  unfolding readings-refusal
-  number-third e f = none-or-else m (or-else n last) e ∙ none-or-else n last f
 
 -- Composing was called with buffers of the least lengths.
 pub record Composed-call (xs ys : List ℕ) (made : Written) (a a' b b' c c' : List ℕ) : Type 0 where
@@ -97,56 +94,45 @@ module _ {xs ys : List ℕ} {made : Written} {a a' b b' c c' : List ℕ} (bytes-
     read : decode (take (made .len) a') ≡ composition xs ys
     read = composition-read good-xs good-ys made-well
 
-    -- The application's answer
+    pub made-accepted : refusal (take (made .len) a') ≡ 0
+    made-accepted = composition-accepted good-xs good-ys made-well
 
-    module _ {cs : List ℕ} {put : Written} {d d' e e' f f' : List ℕ} (applying : Applied-call cs (take (made .len) a') put d d' e e' f f') where
+    -- The answer of applying and counting
+
+    module _ {cs : List ℕ} {r : StringCount} {d' : List ℕ} (counting : Count-string-says cs (decode (take (made .len) a')) r d') where
       abbrev bs : List ℕ
       bs = take (made .len) a'
 
-      put-number : put .refusal ≡ application-refusal cs (composition xs ys)
-      unfolding apply-refusal apply-room application-refusal or-else
-      put-number =
-          applying .says .refusal-is
-          ∙ (rw (applying .lattice-room, applying .origins-room, applying .pairs-room, composition-accepted good-xs good-ys made-well, read))
+      abbrev answer : Counted
+      answer = record { refusal = r .refusal; count = r .count }
 
-      pub says-unapplied : (put .refusal ≡ 0 → ⊥) → Readings-says xs ys cs (record { refusal = put .refusal; count = 0 })
-      says-unapplied bad =
-          let some : application-refusal cs (composition xs ys) ≡ 0 → ⊥ = λ free. bad (put-number ∙ free) in
-          let is : readings-refusal xs ys cs ≡ application-refusal cs (composition xs ys) = number-second xs ys cs none some in
+      number : count-string-refusal cs (decode bs) ≡ readings-refusal xs ys cs
+      unfolding count-string-refusal readings-refusal application-refusal
+      number =
+          ap (λ (t : Transducer). count-string-refusal cs t) read
+          ∙ sym (none-or-else (m xs ys cs) (or-else (n xs ys cs) (last xs ys cs)) none)
+
+      -- If applying is not refused, the answer is the count of the lattice's bytes.
+      chained : application-refusal cs (composition xs ys) ≡ 0
+          → Calls-chained xs ys cs bs b' (encode (lattice cs (decode bs))) (filled 0 (lattice-origins cs (decode bs))) answer
+      unfolding application-refusal
+      chained free =
+          let built : ℕ = built-refusal (applied cs (decode bs) .result) in
+          let free' : or-else (cond (string-good cs) 0 9) built ≡ 0 = rw read free in
+          let both = or-else-none (cond (string-good cs) 0 9) built free' in
+          let string : string-good cs ≡ true = passed-last (string-good cs) 8 (both .0) in
           record {
-            refusal-is = put-number ∙ sym is;
-            count-is = sym (unless-some (readings-refusal xs ys cs) (path-count (composition-lattice xs ys cs)) (λ free. some (sym is ∙ free)));
-            counts = λ _ free. absurd (some free);
+            left-bytes = bytes-xs;
+            right-bytes = bytes-ys;
+            composing = made-well;
+            applying = record { table-good = made-accepted; string = string; fine = both .1; bytes = refl; room = 0; origins = refl };
+            counting = counts-lattice cs (decode bs) (composition-good good-xs good-ys made-well) string (both .1) r d' counting;
           }
 
-      -- The count's answer
-
-      module _ (fine : put .refusal ≡ 0) where
-        put-well : Applied-well cs bs (take (put .len) d') e'
-        put-well = applied-well cs bs put d d' e e' f f' (applying .says) fine
-
-        pub put-fits : put .len ≤ length d'
-        put-fits = applied-fits cs bs put d d' e e' f f' (applying .says) fine
-
-        pub says-counted : (r : Counted) → Count-says (take (put .len) d') (count-refusal (take (put .len) d')) r → Readings-says xs ys cs r
-        unfolding count-refusal
-        says-counted r counting =
-            let ws : List ℕ = take (put .len) d' in
-            let w : Transducer = composition-lattice xs ys cs in
-            let chained : Calls-chained xs ys cs bs b' ws e' r =
-            record {
-              left-bytes = bytes-xs;
-              right-bytes = bytes-ys;
-              composing = made-well;
-              applying = put-well;
-              counting = counting;
-            } in
-            let in-bytes : decode ws ≡ w = lattice-read chained ∙ ap (lattice cs) read in
-            let number : count-refusal ws ≡ readings-refusal xs ys cs =
-            none-or-else (refusal ws) (cond (endless (decode ws)) 14 0) (lattice-accepted chained)
-            ∙ ap (λ (t : Transducer). cond (endless t) 14 0) in-bytes ∙ sym (number-third xs ys cs none (sym put-number ∙ fine)) in
-            record {
-              refusal-is = counting .refusal-is ∙ number;
-              count-is = counting .count-is ∙ (rw (number, in-bytes));
-              counts = λ _ _. counts-pairs chained;
-            }
+      pub says-counted : Readings-says xs ys cs answer
+      says-counted =
+          record {
+            refusal-is = counting .refusal-is ∙ number;
+            count-is = counting .count-is ∙ (rw (number, read));
+            counts = λ _ free. counts-pairs (chained free);
+          }
