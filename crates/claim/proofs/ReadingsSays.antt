@@ -1,25 +1,33 @@
 -- The answers of the one call: one law for each, in the order of its calls. Assumes nothing.
 use mathlib.Core.Path.{_≡_, sym, ap, _∙_}
-use mathlib.Core.Bool.{cond}
+use mathlib.Core.Bool.{true, cond}
 use mathlib.Core.List.{List}
 use Prim.Native.Nat.{ℕ, _≤_}
-use lib.ListN.{length, take}
+use native.Mathlib.Omega.{arith}
+use lib.ListN.{length, take, replicate, length-replicate}
 use Rattle.wire.specs.Bytes.{Bytes}
 use Rattle.transducer.specs.declared.Written.{Written}
-use Rattle.transducer.specs.Format.{Transducer, refusal, decode}
+use Rattle.transducer.specs.Format.{max-arcs, max-bytes, max-states, Transducer, Good, refusal, decode}
+use Rattle.transducer.specs.Each.{named}
 use Rattle.transducer.specs.Entry.{or-else}
 use Rattle.transducer.proofs.Answers.{some-or-else, none-or-else, unless-some}
+use Rattle.transducer.proofs.Fits.{plain-named}
+use Rattle.transducer.proofs.RoundTrip.{accepted-good}
 use Rattle.compose.specs.Entry.{composition, composition-refusal}
 use Rattle.compose.specs.Composition.{Composition}
-use Rattle.compose.proofs.Called.{Composed-call, composed-number, composition-of, composed-fits}
+use Rattle.compose.proofs.Called.{Composed-call, composed-number, composition-of, composed-fits, composable, composition-good, composition-plain}
 use Rattle.lattice.specs.ApplyEntry.{application-refusal}
 use Rattle.lattice.specs.Application.{Application}
-use Rattle.lattice.proofs.Called.{Applied-call, applied-number, application-of, applied-fits}
+use Rattle.lattice.proofs.Called.{Appliable, unrefused-appliable, lattice-bytes-are, some-application}
 use Rattle.paths.specs.declared.Counted.{Counted}
 use Rattle.paths.specs.Count.{endless, path-count}
-use Rattle.paths.specs.Entry.{count-refusal, Count-says}
+use Rattle.lookup.specs.declared.StringCount.{StringCount}
+use Rattle.lookup.specs.Lookup.{count-string-refusal, Count-string-says}
+use Rattle.lookup.proofs.CountString.{counts-lattice}
 use Rattle.claim.specs.Entry.{composition-lattice, readings-refusal, Readings-says}
-use Rattle.claim.proofs.ChainCounted.{table-read, table-accepted, lattice-read, lattice-accepted, counts-pairs}
+use Rattle.claim.specs.Kind.{Counts}
+use Rattle.claim.specs.Claim.{Pairs}
+use Rattle.claim.proofs.ChainCounted.{table-read, table-accepted, counts-pairs}
 
 -- Which refusal it is
 
@@ -36,14 +44,6 @@ module _ (xs ys cs : List ℕ) where
   number-first : (m ≡ 0 → ⊥) → readings-refusal xs ys cs ≡ m
   unfolding readings-refusal
   number-first bad = some-or-else m (or-else n last) bad
-
-  number-second : m ≡ 0 → (n ≡ 0 → ⊥) → readings-refusal xs ys cs ≡ n
-  unfolding readings-refusal
-  number-second e bad = none-or-else m (or-else n last) e ∙ some-or-else n last bad
-
-  number-third : m ≡ 0 → n ≡ 0 → readings-refusal xs ys cs ≡ last
-  unfolding readings-refusal
-  number-third e f = none-or-else m (or-else n last) e ∙ none-or-else n last f
 
 -- The composition's answer
 
@@ -63,48 +63,63 @@ module _ {xs ys : List ℕ} {made : Written} {a a' b b' c c' : List ℕ} (bytes-
     abbrev table : Composition xs ys
     table = composition-of composing well
 
+    abbrev bs : List ℕ
+    bs = take (made .len) a'
+
     pub made-fits : made .len ≤ length a'
     made-fits = composed-fits table
 
     none : composition-refusal xs ys ≡ 0
     none = sym (composed-number composing) ∙ well
 
-    -- The application's answer
+    read : decode bs ≡ composition xs ys
+    read = table-read bytes-xs bytes-ys table
 
-    module _ {cs : List ℕ} {put : Written} {d d' e e' f f' : List ℕ} (applying : Applied-call cs (take (made .len) a') put d d' e e' f f') where
-      put-number : put .refusal ≡ application-refusal cs (composition xs ys)
-      put-number =
-          applied-number applying (table-accepted bytes-xs bytes-ys table) ∙ ap (application-refusal cs) (table-read bytes-xs bytes-ys table)
+    pub made-accepted : refusal bs ≡ 0
+    made-accepted = table-accepted bytes-xs bytes-ys table
 
-      pub says-unapplied : (put .refusal ≡ 0 → ⊥) → Readings-says xs ys cs (record { refusal = put .refusal; count = 0 })
-      says-unapplied bad =
-          let some : application-refusal cs (composition xs ys) ≡ 0 → ⊥ = λ free. bad (put-number ∙ free) in
-          let is : readings-refusal xs ys cs ≡ application-refusal cs (composition xs ys) = number-second xs ys cs none some in
+    good-xs : Good (decode xs)
+    good-xs = accepted-good xs bytes-xs (composable table .left-good)
+
+    good-ys : Good (decode ys)
+    good-ys = accepted-good ys bytes-ys (composable table .right-good)
+
+    -- A composition has no arc for any symbol.
+    pub made-named : named (decode bs) ≡ true
+    made-named = plain-named (decode bs) (composition-plain good-xs good-ys table)
+
+    -- The answer of applying and counting
+
+    module _ {cs : List ℕ} {r : StringCount} {d' : List ℕ} (counting : Count-string-says cs (decode bs) r d') where
+      abbrev answer : Counted
+      answer = record { refusal = r .refusal; count = r .count }
+
+      number : count-string-refusal cs (decode bs) ≡ readings-refusal xs ys cs
+      unfolding count-string-refusal readings-refusal application-refusal
+      number =
+          ap (λ (t : Transducer). count-string-refusal cs t) read
+          ∙ sym (none-or-else (m xs ys cs) (or-else (n xs ys cs) (last xs ys cs)) none)
+
+      -- If applying is not refused, the answer is the count of what a call of `apply` would leave.
+      counts-them : application-refusal cs (composition xs ys) ≡ 0 → Counts (Pairs xs ys cs) answer
+      counts-them free =
+          let free' : application-refusal cs (decode bs) ≡ 0 = ap (application-refusal cs) read ∙ free in
+          let fine : Appliable cs (decode bs) = unrefused-appliable cs (decode bs) free' in
+          let put : Application cs bs =
+          some-application (replicate max-bytes 0) (replicate max-arcs 0) (replicate max-states 0) (omega (arith, length-replicate {A = ℕ} max-bytes 0))
+          (omega (arith, length-replicate {A = ℕ} max-arcs 0)) (omega (arith, length-replicate {A = ℕ} max-states 0)) cs bs made-accepted free' in
+          counts-pairs bytes-xs bytes-ys table put
+          (record {
+            answer = answer;
+            says =
+                rw (lattice-bytes-are put)
+                (counts-lattice cs (decode bs) (composition-good good-xs good-ys table) (fine .string) (fine .fine) r d' counting);
+          })
+
+      pub says-counted : Readings-says xs ys cs answer
+      says-counted =
           record {
-            refusal-is = put-number ∙ sym is;
-            count-is = sym (unless-some (readings-refusal xs ys cs) (path-count (composition-lattice xs ys cs)) (λ free. some (sym is ∙ free)));
-            counts = λ _ free. absurd (some free);
+            refusal-is = counting .refusal-is ∙ number;
+            count-is = counting .count-is ∙ (rw (number, read));
+            counts = λ _ free. counts-them free;
           }
-
-      -- The count's answer
-
-      module _ (fine : put .refusal ≡ 0) where
-        abbrev lattice : Application cs (take (made .len) a')
-        lattice = application-of applying fine
-
-        pub put-fits : put .len ≤ length d'
-        put-fits = applied-fits lattice
-
-        pub says-counted : (r : Counted) → Count-says (take (put .len) d') (count-refusal (take (put .len) d')) r → Readings-says xs ys cs r
-        unfolding count-refusal
-        says-counted r counting =
-            let ws : List ℕ = take (put .len) d' in
-            let in-bytes : decode ws ≡ composition-lattice xs ys cs = lattice-read bytes-xs bytes-ys table lattice in
-            let number : count-refusal ws ≡ readings-refusal xs ys cs =
-            none-or-else (refusal ws) (cond (endless (decode ws)) 14 0) (lattice-accepted bytes-xs bytes-ys table lattice)
-            ∙ ap (λ (t : Transducer). cond (endless t) 14 0) in-bytes ∙ sym (number-third xs ys cs none (sym put-number ∙ fine)) in
-            record {
-              refusal-is = counting .refusal-is ∙ number;
-              count-is = counting .count-is ∙ (rw (number, in-bytes));
-              counts = λ _ _. counts-pairs bytes-xs bytes-ys table lattice (record { answer = r; says = counting });
-            }

@@ -3,7 +3,8 @@ ghost use Rattle.claim.specs.Entry.{Readings-says};
 use paths::Counted;
 
 // Composes two transducers, applies a string and counts the accepting paths: what a picking machine acts on. Nothing is lent: the calls
-// work in arrays of this one's own, which are long enough, so that 10 is never answered. Time is that of composing, applying and counting.
+// work in arrays of this one's own, which are long enough, so that 10 is never answered. Only the two tables handed in are validated: composition and
+// lattice are proved to be accepted and to have no arc for any symbol. Time is that of composing, applying and counting.
 pub fn readings(left: &[u8], right: &[u8], string: &[u16]) -> Counted
     ensures { λ r. ⌜ Readings-says (now (left .entry)) (now (right .entry)) (now (string .entry)) r ⌝ }
 {
@@ -21,13 +22,16 @@ pub fn readings(left: &[u8], right: &[u8], string: &[u16]) -> Counted
     let mut lattice = [0u8; transducer::MAX_BYTES];
     let mut arcs = [0u16; transducer::MAX_ARCS];
     let mut pairs = [0u32; transducer::MAX_STATES];
-    let applied = lattice::apply(string, &table[..size], &mut lattice, &mut arcs, &mut pairs);
-    if applied.refusal != 0 {
-        return Counted {
-            refusal: applied.refusal,
-            count: 0,
-        };
+    let counted = lookup::count_string(
+        string,
+        &table[..size],
+        true,
+        &mut lattice,
+        &mut arcs,
+        &mut pairs,
+    );
+    Counted {
+        refusal: counted.refusal,
+        count: counted.count,
     }
-    let len = applied.len as usize;
-    paths::path_count(&lattice[..len])
 }
