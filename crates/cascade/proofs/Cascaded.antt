@@ -280,8 +280,8 @@ module _ {left right string : List ℕ} (c : Cascaded left right string) where
   table-is : c .table-left ≡ filled (length (c .table)) (encode (cascade left right string))
   table-is = c .says .table ∙ behind-written (c .table) (encode (cascade left right string)) number none
 
-  bytes-are : cascaded-bytes c ≡ encode (cascade left right string)
-  bytes-are = take-told (c .answer .len) (length (c .table)) (encode (cascade left right string)) (c .table-left) len-is table-is
+  pub cascaded-bytes-are : cascaded-bytes c ≡ encode (cascade left right string)
+  cascaded-bytes-are = take-told (c .answer .len) (length (c .table)) (encode (cascade left right string)) (c .table-left) len-is table-is
 
   leads-as : (side : ℕ) (p : List ℕ) → met-at (c .origins-left) side p ≡ met-at (cascade-origins left right string) side p
   leads-as side p =
@@ -289,27 +289,27 @@ module _ {left right string : List ℕ} (c : Cascaded left right string) where
       ∙ met-filled (length (c .origins)) (cascade-origins left right string) side p
 
   pub claim : Claim left right string (cascaded-bytes c) (leads-to c)
-  claim = by-claim (c .left-bytes) (c .right-bytes) fine (cascaded-bytes c) (c .origins-left) bytes-are leads-as
+  claim = by-claim (c .left-bytes) (c .right-bytes) fine (cascaded-bytes c) (c .origins-left) cascaded-bytes-are leads-as
 
   pub orders-agree : (d : Chained left right string) → Agrees (cascaded-bytes c) (leads-to c) d
-  orders-agree = by-agree (c .left-bytes) (c .right-bytes) fine (cascaded-bytes c) (c .origins-left) bytes-are leads-as
+  orders-agree = by-agree (c .left-bytes) (c .right-bytes) fine (cascaded-bytes c) (c .origins-left) cascaded-bytes-are leads-as
 
   -- What a caller needs who passes the result on.
 
   pub cascaded-paths : Paths-are (Fitting-pairs left right string) (decode (cascaded-bytes c)) (leads-to c)
-  cascaded-paths = by-paths (c .left-bytes) (c .right-bytes) fine (cascaded-bytes c) (c .origins-left) bytes-are leads-as
+  cascaded-paths = by-paths (c .left-bytes) (c .right-bytes) fine (cascaded-bytes c) (c .origins-left) cascaded-bytes-are leads-as
 
   pub cascaded-good : Good (decode (cascaded-bytes c))
-  cascaded-good = by-good (c .left-bytes) (c .right-bytes) fine (cascaded-bytes c) (c .origins-left) bytes-are leads-as
+  cascaded-good = by-good (c .left-bytes) (c .right-bytes) fine (cascaded-bytes c) (c .origins-left) cascaded-bytes-are leads-as
 
   pub cascaded-plain : plain (decode (cascaded-bytes c)) ≡ true
-  cascaded-plain = by-plain (c .left-bytes) (c .right-bytes) fine (cascaded-bytes c) (c .origins-left) bytes-are leads-as
+  cascaded-plain = by-plain (c .left-bytes) (c .right-bytes) fine (cascaded-bytes c) (c .origins-left) cascaded-bytes-are leads-as
 
   pub cascaded-accepted : refusal (cascaded-bytes c) ≡ 0
-  cascaded-accepted = by-accepted (c .left-bytes) (c .right-bytes) fine (cascaded-bytes c) (c .origins-left) bytes-are leads-as
+  cascaded-accepted = by-accepted (c .left-bytes) (c .right-bytes) fine (cascaded-bytes c) (c .origins-left) cascaded-bytes-are leads-as
 
   pub cascaded-read : decode (cascaded-bytes c) ≡ cascade left right string
-  cascaded-read = result-read (c .left-bytes) (c .right-bytes) fine (cascaded-bytes c) (c .origins-left) bytes-are leads-as
+  cascaded-read = result-read (c .left-bytes) (c .right-bytes) fine (cascaded-bytes c) (c .origins-left) cascaded-bytes-are leads-as
 
   pub cascaded-fits : c .answer .len ≤ length (c .table-left)
   unfolding filled

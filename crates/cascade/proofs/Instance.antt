@@ -4,6 +4,7 @@
 use mathlib.Core.Path.{_≡_, refl, sym, subst, _∙_}
 use mathlib.Core.List.{List, [], _∷_}
 use Prim.Native.Nat.{ℕ, _≤_}
+use native.Mathlib.Omega.{arith}
 use lib.ListN.{length}
 use Rattle.wire.specs.Bytes.{Bytes, two, four, low, signed-four, signed-low, places, every}
 use Rattle.transducer.specs.Format.{max-states, max-arcs, max-bytes, max-origins, max-path}
@@ -35,6 +36,8 @@ use Rattle.claim.specs.Listed.{Telling}
 use Rattle.explore.specs.Explore.{left-behind}
 use Rattle.cascade.specs.Entry.{cascade, cascade-origins, tables-refusal, cascade-refusal}
 use Rattle.cascade.specs.Cascade.{Cascaded, Two-calls, Chained}
+use Rattle.cascade.specs.Three.{Three-cascaded}
+use Rattle.cascade.proofs.Cascaded.{cascaded-bytes-are}
 
 -- One arc for any symbol, which passes it on, from state 0 to state 1, which is final.
 unfoldable pub any-arc : (weight : ℕ) → List ℕ
@@ -52,6 +55,9 @@ b = one-arc 2 3 6
 abbrev c : List ℕ
 c = one-arc 7 4 6
 
+abbrev d : List ℕ
+d = one-arc 4 9 2
+
 -- What the definitions give, computed: nothing is refused, and each lattice and composition has one arc.
 record Computed : Type 0 where
   any-fine : apply-refusal (7 ∷ []) (any-arc 5) max-bytes max-arcs max-states ≡ 0
@@ -63,6 +69,8 @@ record Computed : Type 0 where
   ab-is : encode (composed (decode a) (decode b) .result) ≡ one-arc 1 3 11
   applied-fine : apply-refusal (1 ∷ []) (one-arc 1 3 11) max-bytes max-arcs max-states ≡ 0
   cascade-fine : cascade-refusal (any-arc 5) c (7 ∷ []) max-bytes max-origins max-states ≡ 0
+  cascade-is : encode (cascade (any-arc 5) c (7 ∷ [])) ≡ one-arc 7 4 11
+  third-fine : compose-refusal (one-arc 7 4 11) d max-bytes max-origins max-states ≡ 0
 
 computed : Computed
 unfolding any-arc one-arc two four low signed-four signed-low places every framed-from framed records-from records kind-good in-order kinds-good weight-at
@@ -85,11 +93,13 @@ computed =
       ab-is = refl;
       applied-fine = refl;
       cascade-fine = refl;
+      cascade-is = refl;
+      third-fine = refl;
     }
 
-bytes-all : Bytes (any-arc 5) × Bytes a × Bytes b × Bytes c
+bytes-all : Bytes (any-arc 5) × Bytes a × Bytes b × Bytes c × Bytes d
 unfolding any-arc one-arc every
-bytes-all = (all-bytes (any-arc 5) refl, all-bytes a refl, all-bytes b refl, all-bytes c refl)
+bytes-all = (all-bytes (any-arc 5) refl, all-bytes a refl, all-bytes b refl, all-bytes c refl, all-bytes d refl)
 
 -- The bytes handed on are those of the definition.
 applied-on : {cs zs : List ℕ} (x : Application cs zs) → lattice-bytes x ≡ encode (lattice cs (decode zs))
@@ -147,6 +157,18 @@ some-cascaded t o s long-t long-o long-s =
       states-left = left-behind number s [];
       says = record { refusal-is = refl; len-is = refl; table = refl; origins = refl; work = refl };
       well = rw (← long-t, ← long-o, ← long-s) (computed .cascade-fine);
+    }
+
+-- A third transducer behind it.
+pub some-three : (t o s : List ℕ) → max-bytes ≡ length t → max-origins ≡ length o → max-states ≡ length s → Three-cascaded (any-arc 5) c d (7 ∷ [])
+some-three t o s long-t long-o long-s =
+    let inner : Cascaded (any-arc 5) c (7 ∷ []) = some-cascaded t o s long-t long-o long-s in
+    let made : Composition (one-arc 7 4 11) d =
+    composing t o s (omega (arith, long-t)) (omega (arith, long-o)) (omega (arith, long-s)) (one-arc 7 4 11) d (computed .third-fine) in
+    record {
+      cascading = inner;
+      right-bytes = bytes-all .4;
+      composing = subst (λ (bs : List ℕ). Composition bs d) (sym (cascaded-bytes-are inner ∙ computed .cascade-is)) made;
     }
 
 pub some-telling : (bs : List ℕ) (count : ℕ) (x y : List ℕ) → max-path ≤ length x → max-path ≤ length y → Telling bs count

@@ -22,7 +22,7 @@ use Rattle.listing.specs.declared.Listed.{Listed}
 use Rattle.listing.specs.Code.{labels-in, most-loaded}
 use Rattle.listing.specs.Text.{listing-text, refused-text, least-room, Whole}
 use Rattle.listing.specs.Entry.{code-refusal, text-unless, text-room}
-use Rattle.listing.proofs.Steps.{text-refused, text-kept, good-whole, taken-good}
+use Rattle.listing.proofs.Steps.{front, text-refused, text-kept, good-whole, taken-good}
 use Rattle.cascade_listing.specs.Entry.{cascade-listing-refusal, cascade-text, Cascade-listing-says}
 
 -- A refusal that comes first, or the other one, is a refusal.
@@ -133,3 +133,10 @@ pub says-whole : {xs ys cs out out' : List ℕ} {w : Listed} → least-room ≤ 
 unfolding text-room unless left-in
 says-whole {xs} {ys} {cs} {out} h p =
     rw (le-ltb (length out) least-room h) (record { refusal-is = p .refusal-is; len-is = p .len-is; said-is = p .said-is; text = p .bytes })
+
+-- The text that is told of lies within the buffer.
+pub says-fits : {xs ys cs : List ℕ} {short : ℕ} {w : Listed} {out out' : List ℕ} → Cascade-listing-says xs ys cs short w out out' → w .len ≤ length out'
+unfolding unless left-in
+says-fits {xs} {ys} {cs} {short} {w} {out} {out'} says =
+    by-test (eqb short 0) (λ e. front (w .len) out out' (cascade-text xs ys cs) (rw e at (says .text)) (rw e at (says .len-is)) .1)
+    (λ e. let none : w .len ≡ 0 = rw e at (says .len-is) in omega arith)
