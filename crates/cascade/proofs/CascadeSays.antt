@@ -1,6 +1,6 @@
 -- The answers of the call with the table: which refusal it is, and what is said and left behind; one law for each answer. Assumes nothing.
 use mathlib.Core.Path.{_≡_, refl, sym, ap, _∙_}
-use mathlib.Core.Bool.{Bool, true, false, _||_, cond}
+use mathlib.Core.Bool.{Bool, true, false, cond}
 use mathlib.Core.List.{List, [], _∷_}
 use Prim.Native.Nat.{ℕ, _-_, _*_, _≤_, _<_}
 use native.Mathlib.Omega.{arith}
@@ -17,8 +17,8 @@ use Rattle.transducer.specs.Format.{max-bytes, max-origins, max-states, head-by
 use Rattle.transducer.specs.Encode.{encode}
 use Rattle.transducer.specs.Leaf.{header-of}
 use Rattle.transducer.specs.Each.{named, any-refusal}
-use Rattle.transducer.specs.Entry.{or-else, unless}
-use Rattle.transducer.proofs.Answers.{some-or-else, none-or-else, unless-some, unless-none}
+use Rattle.transducer.specs.Entry.{or-else}
+use Rattle.transducer.proofs.Answers.{some-or-else, none-or-else, unless-some}
 use Rattle.transducer.proofs.Fits.{plain-named}
 use Rattle.transducer.proofs.Headed.{headed, head-inside}
 use Rattle.transducer.proofs.Most.{refusal-most}
@@ -179,8 +179,8 @@ module _ (xs ys cs a b c : List ℕ) (n : ℕ) (unapplied : Unapplied xs cs n) w
           says-zeroed (encode (cascade xs ys cs)) (cascade-origins xs ys cs) number n r a a a' b b b' c c c' is (l .high) (l .low) refl refl refl cleared
 
 -- What is not written does not matter to a refusal.
-refused-alike : (bytes traced bytes' traced' : List ℕ) (n : ℕ) (r : Written) (a a' b b' c c' : List ℕ) → (n ≡ 0 → ⊥) → Built-says bytes traced n r a a' b b' c c'
-    → Built-says bytes' traced' n r a a' b b' c c'
+refused-alike : (bytes traced bytes' traced' : List ℕ) (n : ℕ) (r : Written) (a a' b b' c c' : List ℕ) → (n ≡ 0 → ⊥)
+    → Built-says bytes traced n r a a' b b' c c' → Built-says bytes' traced' n r a a' b b' c c'
 unfolding left-behind
 refused-alike bytes traced bytes' traced' n r a a' b b' c c' bad says =
     record {

@@ -36,7 +36,7 @@ use Rattle.claim.proofs.Chain.{chain-pairs}
 use Rattle.claim.proofs.HandedOn.{composition-read, composition-good, composition-plain, composition-accepted, composition-pairs}
 use Rattle.claim.proofs.HandedOn.{applied-good, applied-accepted, applied-reads}
 use Rattle.claim.proofs.Listing.{lists}
-use Rattle.associate.specs.Associate.{composed-bytes, lattice-bytes, Holds}
+use Rattle.associate.specs.Associate.{composed-bytes, Holds}
 use Rattle.associate.proofs.Associated.{composing, applying}
 use Rattle.associate.proofs.Agreeing.{holds, agree}
 use Rattle.cascade.specs.Pairs.{Fitting-pairs, Same-pairs}
@@ -223,7 +223,8 @@ module _ {left right string : List ℕ} (left-bytes : Bytes left) (right-bytes :
 
   leads-same : (p : List ℕ) → accepts (decode zs) p ≡ true → by-origins os' p ≡ to-fitting ls os p
   leads-same p h =
-      let met : (side : ℕ) → met-at os' side p ≡ met-at (left-traced ls os) side p = λ side. leads-as side p ∙ ap (λ (l : List ℕ). met-at l side p) origins-are in
+      let met : (side : ℕ) → met-at os' side p ≡ met-at (left-traced ls os) side p =
+      λ side. leads-as side p ∙ ap (λ (l : List ℕ). met-at l side p) origins-are in
       let long : length os ≡ 2 * length (decode zs .arcs) =
       length-composed-origins (decode ws) (decode right) ∙ ap (λ (t : Transducer). 2 * length (t .arcs)) (sym composed-read) in
       same-two (by-origins os' p) (by-origins (left-traced ls os) p) (met 0) (met 1) ∙ traced-same left-bytes right-bytes put made p h long

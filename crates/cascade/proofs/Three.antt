@@ -188,7 +188,8 @@ module _ {left middle right string : List ℕ} (c : Three-cascaded left middle r
     here =
         holds (Triples-of (decode left) (decode middle) (decode right) string) (three-bytes c) (three-leads c) accepted good-three
         (paths-triples left middle right string (named-plain (decode left) (good-tests (decode left) good-a .labels) (composing (r .ab) .left-named))
-        (named-plain (decode middle) (good-tests (decode middle) good-b .labels) (composing (r .bc) .left-named)) (decode (three-bytes c)) (three-leads c) paths)
+        (named-plain (decode middle) (good-tests (decode middle) good-b .labels) (composing (r .bc) .left-named)) (decode (three-bytes c)) (three-leads c)
+        paths)
 
     -- The lattice of a bracket: its paths are the triples of the string.
     applied-holds : (zs : List ℕ) (x : Application string zs) (to : List ℕ → Three-paths) → Good (decode zs) → plain (decode zs) ≡ true

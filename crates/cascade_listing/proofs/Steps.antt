@@ -1,16 +1,16 @@
 -- From what the cascade answers to the text of its listing. Assumes nothing.
 use mathlib.Core.Path.{_≡_, refl, sym, ap, _∙_}
-use mathlib.Core.Bool.{Bool, true, false, _&&_, cond}
+use mathlib.Core.Bool.{true}
 use mathlib.Core.List.{List}
 use Prim.Native.Nat.{ℕ, _%_, _≤_, _<_}
 use native.Mathlib.Omega.{arith}
 use borrow.Author.Tests.{eqb-true, eqb-false, eq-eqb, ne-eqb, lt-ltb, le-ltb}
-use lib.Dec.{eqb, ltb}
+use lib.Dec.{eqb}
 use lib.ListN.{length, take}
 use Rattle.wire.specs.Bytes.{Bytes}
 use Rattle.wire.proofs.Bool.{by-test}
 use Rattle.transducer.specs.declared.Written.{Written}
-use Rattle.transducer.specs.Format.{Transducer, max-states, max-bytes, max-origins, refusal, decode}
+use Rattle.transducer.specs.Format.{max-states, max-bytes, max-origins, refusal, decode}
 use Rattle.transducer.specs.Entry.{or-else, unless, left-in}
 use Rattle.transducer.proofs.Answers.{some-or-else, none-or-else}
 use Rattle.compose.specs.Entry.{compose-room}
@@ -21,7 +21,7 @@ use Rattle.cascade.proofs.Cascaded.{passed, cascaded-fits, cascaded-accepted, c
 use Rattle.listing.specs.declared.Listed.{Listed}
 use Rattle.listing.specs.Code.{labels-in, most-loaded}
 use Rattle.listing.specs.Text.{listing-text, refused-text, least-room, Whole}
-use Rattle.listing.specs.Entry.{code-refusal, text-unless, text-room}
+use Rattle.listing.specs.Entry.{code-refusal, text-room}
 use Rattle.listing.proofs.Steps.{front, text-refused, text-kept, good-whole, taken-good}
 use Rattle.cascade_listing.specs.Entry.{cascade-listing-refusal, cascade-text, Cascade-listing-says}
 

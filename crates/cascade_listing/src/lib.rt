@@ -1,6 +1,5 @@
 // The listing of a cascade as text: a string applied to the left transducer first, its lattice composed with the right one, and a line for each accepting
 // path of the result. specs/PrintedCascade.antt says what is claimed of the text.
-ghost use mathlib.Core.Path.{_≡_};
 ghost use Prim.Native.Nat.{_≤_};
 ghost use lib.ListN.{length};
 ghost use Rattle.transducer.specs.Entry.{or-else};

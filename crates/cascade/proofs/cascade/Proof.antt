@@ -1,10 +1,10 @@
 -- One call after the other, each answer with its law in `CascadeSays`; the arrays are as long as applying asks.
 use borrow.Author.Needs.{needs}
-use mathlib.Core.Path.{_≡_, sym, _∙_}
+use mathlib.Core.Path.{sym}
 use mathlib.Core.List.{List}
 use Prim.Native.Nat.{ℕ, _≤_}
 use native.Mathlib.Omega.{arith}
-use lib.ListN.{length, take, replicate, length-replicate}
+use lib.ListN.{length, replicate, length-replicate}
 use lib.Seq.{length-take-le}
 use Rattle.wire.specs.Bytes.{Bytes}
 use Rattle.transducer.specs.Format.{max-arcs, max-bytes, max-states}
@@ -118,7 +118,8 @@ returns : tie.Need-returns
 returns c =
     let refused = at-refused c in
     let put = refused-by refused in
-    c .before .before .before .before .before .before .unapplied .ensures (left put) (string put) (not-applied (left-bytes put) (apply-said put) (refused .if1 .taken))
+    c .before .before .before .before .before .before .unapplied .ensures (left put) (string put)
+    (not-applied (left-bytes put) (apply-said put) (refused .if1 .taken))
 
 cast-len : tie.Need-cast-len
 cast-len c = search needs
@@ -176,8 +177,8 @@ trace-left-requires c κs =
     let fine = composed at in
     let made = composing fine in
     let put = applied (passed made) in
-    origins-fit (left-bytes put) (apply-said put) (passed made .if1 .left) (right put) (right-bytes put) (made .compose .ensures) (fine .if2 .left) (at .header .result)
-    (at .header .ensures)
+    origins-fit (left-bytes put) (apply-said put) (passed made .if1 .left) (right put) (right-bytes put) (made .compose .ensures) (fine .if2 .left)
+    (at .header .result) (at .header .ensures)
 
 same-length-7 : tie.Need-same-length-7
 same-length-7 c = search needs
@@ -195,8 +196,8 @@ returns-3 c =
     let fine = composed at in
     let made = composing fine in
     let put = applied (passed made) in
-    says-traced (left-bytes put) (apply-said put) (passed made .if1 .left) (right put) (right-bytes put) (made .compose .ensures) (fine .if2 .left) (at .header .result)
-    (at .header .ensures) _ (last .trace-left .ensures)
+    says-traced (left-bytes put) (apply-said put) (passed made .if1 .left) (right put) (right-bytes put) (made .compose .ensures) (fine .if2 .left)
+    (at .header .result) (at .header .ensures) _ (last .trace-left .ensures)
 
 pub cascade-spec : {M : Type 1} → statement M
 cascade-spec =

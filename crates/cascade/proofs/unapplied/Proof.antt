@@ -1,8 +1,6 @@
 -- One law for each answer, in the order of the tests.
 use borrow.Author.Needs.{needs}
 use mathlib.Core.Path.{_≡_, sym, _∙_}
-use mathlib.Core.List.{List}
-use Prim.Native.Nat.{ℕ}
 use Rattle.transducer.specs.Format.{refusal}
 use Rattle.cascade.proofs.CascadeSays.{says-left, says-right, says-string, says-table, says-origins, says-states, says-large}
 use Rattle.cascade.proofs.unapplied.Statement.{statement}
