@@ -1,7 +1,7 @@
 """The program `list` on paper 01's cases: it is run in folders made here, and its bytes are held to a text that the plain Python of
-tests/limits computes. Each case has the first line written out by hand.
+tests/limits computes. Each case has the first line written out by hand. Then the cascade, by the program `list_cascade`, on the same files and on some more.
 
-    python3 -B tests/listing/cases.py [PROGRAM]     (target/bin/list unless named)
+    python3 -B tests/listing/cases.py [PROGRAM [PROGRAM]]     (target/bin/list and target/bin/list_cascade unless named)
 """
 import subprocess
 import sys
@@ -16,7 +16,7 @@ from model import ANY, WEIGHT
 from rows import sound
 
 import changed
-from listed import MOST_READ, labels, listing
+from listed import MOST_READ, cascade_listing, labels, listing
 
 LONGEST = 602996  # bytes of the longest text
 
@@ -104,6 +104,28 @@ def cases():
     yield "a code of 65,537 bytes", "refused 9", COPY, COPY, ONE * (MOST_READ // 2) + b"\0"
 
 
+def cascades():
+    """What is tried where the code is applied first: cases that the two chains answer differently."""
+    any_copy, wide = one_state((1, ANY, ANY, 1)), [one_state((40, 1, 2, 0)), one_state((40, 2, 3, 0))]
+    yield "an arc for any symbol in the left table", "readings 1", any_copy, COPY, labels(2, 2)
+    yield "arcs for any symbol in both tables", "readings 1", any_copy, any_copy, labels(65534)
+    yield "named arcs before any in the left table", "readings 1", one_state((1, ANY, 7, 1), (1, 2, 2, 0)), COPY, labels(2)
+    yield "18 does not arise, and 1 of the right", "refused 1", any_copy, COPY[:3], ONE
+    yield "the right table before the code", "refused 1", COPY, COPY[:3], ONE[:1]
+    yield "the code before the lattice", "refused 9", one_state((49, 1, 2, 0)), COPY, ONE * 64 + b"\0"
+    yield "11 in the lattice", "refused 11", ladder(17), COPY, labels(2) * 64
+    yield "11 in the lattice before 12 behind it", "refused 11", ladder(17), one_state((3072, 2, 2, 0)), labels(2) * 64
+    yield "975 pairs in the lattice", "readings 0", ladder(15), COPY, labels(2) * 64
+    yield "12 in the lattice", "refused 12", one_state((49, 1, 2, 0)), COPY, ONE * 64
+    yield "12 behind the lattice", "refused 12", one_state((56, 1, 2, 0)), one_state((55, 2, 3, 0)), ONE
+    yield "12 composed first, not with this code", "readings 0", one_state((56, 1, 2, 0)), one_state((55, 2, 3, 0)), labels(3)
+    yield "11 behind the lattice", "refused 11", line(65), sound(n=17, start=0, finals=((16, 0),), arcs=[(s, 0, 7, s + 1, 0) for s in range(16)]), ONE * 64
+    yield "13 behind the lattice", "refused 13", like_arcs(1, 600000), one_state((1, 2, 2, 400001)), ONE
+    yield "13 composed first, not with this code", "readings 0", like_arcs(1, 600000), one_state((1, 2, 2, 400001)), labels(2)
+    yield "a string where both tables have many arcs", "readings 99+", *wide, ONE
+    yield "endless", "readings endless", COPY, REST, b""
+
+
 def run(program, files):
     with tempfile.TemporaryDirectory() as folder:
         for name, data in zip(("left.tab", "right.tab", "code.lab"), files):
@@ -113,13 +135,18 @@ def run(program, files):
 
 
 def main():
-    program = Path(sys.argv[1] if len(sys.argv) > 1 else ROOT / "target/bin/list").resolve()
+    named = [ROOT / "target/bin/list", ROOT / "target/bin/list_cascade"]
+    named[: len(sys.argv) - 1] = sys.argv[1:]
+    program, cascade = (Path(x).resolve() for x in named)
     wrong = total = longest_met = 0
-    for name, first, *files in cases():
-        want = listing(*(data or b"" for data in files))
-        if want.split("\n")[0] != first:
+    tried = [(name, first, files, listing, program) for name, first, *files in cases()]
+    tried += [(f"{name}, code first", None, files, cascade_listing, cascade) for name, _, *files in cases()]
+    tried += [(f"{name}, code first", first, files, cascade_listing, cascade) for name, first, *files in cascades()]
+    for name, first, files, model, runs in tried:
+        want = model(*(data or b"" for data in files))
+        if first and want.split("\n")[0] != first:
             sys.exit(f"{name}: the case says {first}, the model {want!r}")
-        got = run(program, files)
+        got = run(runs, files)
         total += 1
         longest_met = max(longest_met, len(got))
         if got != want.encode():

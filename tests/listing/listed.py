@@ -38,14 +38,36 @@ def listing(left, right, code):
     if number:
         return f"refused {number}\n"
     string = struct.unpack(f"<{len(code) // 2}H", code)
-    lattice = trimmed(applied(string, encode(composed(left, right)[0]))[0])[0]
-    if endless(lattice):
+    return text(trimmed(applied(string, encode(composed(left, right)[0]))[0])[0])
+
+
+def text(t):
+    """The count of a trimmed table and its paths, where they are fewer than 99."""
+    if endless(t):
         return "readings endless\n"
-    found = paths(lattice, 99)
+    found = paths(t, 99)
     if len(found) == 99:
         return "readings 99+\n"
     lines = [f"readings {len(found)}"]
     for k, path in enumerate(found):
-        outputs = [lattice.arcs[i].output for i in path if lattice.arcs[i].output]
-        lines.append(" ".join(map(str, [k, cost(lattice, path), *outputs])))
+        outputs = [t.arcs[i].output for i in path if t.arcs[i].output]
+        lines.append(" ".join(map(str, [k, cost(t, path), *outputs])))
     return "\n".join(lines) + "\n"
+
+
+def cascade_listing(left, right, code):
+    """The text where the code is applied to the left table first: both tables are tested, then the code, then the lattice, then its composition."""
+    left, right, code = left[:MOST_READ], right[:MOST_READ], code[:MOST_READ]
+    for held in (byte_conditions(left), byte_conditions(right)):
+        if held:
+            return f"refused {min(held)}\n"
+    string = struct.unpack(f"<{len(code) // 2}H", code[: len(code) // 2 * 2])
+    if len(code) % 2 or string_wrong(string):
+        return "refused 9\n"
+    lattice = applied(string, left)[0]
+    if built_conditions(lattice):
+        return f"refused {min(built_conditions(lattice))}\n"
+    joined = composed(encode(trimmed(lattice)[0]), right)[0]
+    if built_conditions(joined):
+        return f"refused {min(built_conditions(joined))}\n"
+    return text(trimmed(joined)[0])

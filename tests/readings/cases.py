@@ -24,9 +24,15 @@ ANY = one_state((1, 65535, 65535, 0))
 DEAR = one_state((1, 2, 2, WEIGHT))
 DEARER = one_state((1, 2, 2, 1))
 REBATE, MORE_REBATE = one_state((1, 2, 2, -WEIGHT)), one_state((1, 2, 2, -1))
-LADDER = sound(n=9, start=0, finals=((8, 0),), arcs=[x for s in range(9) for x in ((s, 2, 2, s, 0), (s, 0, 7, s + 1, 0))][:-1])
 ONE = b"\1\0"
 BOTH = "composing left.tab and right.tab"
+APPLYING, BEHIND = "applying code.lab to left.tab", "composing what code.lab makes of left.tab with right.tab"
+
+
+def rungs(n):
+    """A line of n states, the last one final, that hands 2 on in each and writes 7 from each to the next."""
+    return sound(n=n, start=0, finals=((n - 1, 0),), arcs=[x for s in range(n) for x in ((s, 2, 2, s, 0), (s, 0, 7, s + 1, 0))][:-1])
+
 
 
 def words_of(number):
@@ -56,9 +62,29 @@ CASES = [
     ("a weight below, in the right table", (8, "in right.tab"), COPY, one_state((1, 2, 2, -WEIGHT - 1)), ONE),
     ("a rebate", None, COPY, REBATE, b"\2\0"),
     ("the code", (9, "in code.lab"), COPY, COPY, b"\0\0"),
-    ("too many states, applying", (11, "applying code.lab"), TURN, LADDER, ONE * 64),
+    ("too many states, applying", (11, "applying code.lab"), TURN, rungs(9), ONE * 64),
     ("too many arcs, applying", (12, "applying code.lab"), one_state((49, 1, 2, 0)), COPY, ONE * 64),
     ("a code that is read in part", (9, "in code.lab"), COPY, COPY, ONE * 40000),
+]
+
+
+# The same of the cascade, `--cascade`.
+CASCADES = [
+    ("paper 01's last case", None, LAST_LEFT, LAST_RIGHT, b"\1\0\3\0"),
+    ("a missing code", None, COPY, COPY, None),
+    ("the left table", (6, "in left.tab"), FALLING, HEAVY, ONE),
+    ("an arc for any symbol in the left table", None, ANY, COPY, b"\2\0"),
+    ("the right table behind an arc for any symbol", (6, "in right.tab"), ANY, FALLING, ONE),
+    ("the right table before the code", (6, "in right.tab"), COPY, FALLING, b"\1"),
+    ("a left table that is missing", (2, "in left.tab"), None, COPY, ONE),
+    ("the code before the tables' sizes", (9, "in code.lab"), line(513), REST, b"\1"),
+    ("states that the code does not reach", None, line(513), REST, ONE),
+    ("too many states, applying", (11, APPLYING), rungs(17), COPY, b"\2\0" * 64),
+    ("too many arcs, applying", (12, APPLYING), one_state((49, 1, 2, 0)), COPY, ONE * 64),
+    ("too many states, composing", (11, BEHIND), line(65), rungs(17), ONE * 64),
+    ("too many arcs, composing", (12, BEHIND), one_state((56, 1, 2, 0)), one_state((55, 2, 3, 0)), ONE),
+    ("weights, composing", (13, BEHIND), DEAR, DEARER, b"\2\0"),
+    ("weights that the code does not reach", None, DEAR, DEARER, ONE),
 ]
 
 
@@ -87,8 +113,8 @@ def wrong(got, status, first, said):
 
 def tried():
     """Each case with what is wrong about it, if anything."""
-    run()  # where something is still to be proved, this tells of it
-    for name, refused, *data in CASES:
+    run(), run("--cascade")  # where something is still to be proved, these tell of it
+    for words, name, refused, *data in [((), *x) for x in CASES] + [(("--cascade",), *x) for x in CASCADES]:
         with tempfile.TemporaryDirectory() as folder:
             folder = Path(folder).resolve()
             files = dict(zip(("left.tab", "right.tab", "code.lab"), data))
@@ -96,8 +122,10 @@ def tried():
                 if content is not None:
                     (folder / file).write_bytes(content)
             first = f"refused {refused[0]}" if refused else None
-            yield name, wrong(run(folder), 3 if refused else 0, first, told(folder, refused, files))
+            yield " ".join([*words, name]), wrong(run(*words, folder), 3 if refused else 0, first, told(folder, refused, files))
     yield "no folder named", wrong(run(), 0, "readings 2", "")
+    yield "--cascade, no folder named", wrong(run("--cascade"), 0, "readings 2", "")
+    yield "--cascade, no such folder", wrong(run("--cascade", "/nowhere"), 2, None, "readings: no folder /nowhere\n")
     yield "no such folder", wrong(run("/nowhere"), 2, None, "readings: no folder /nowhere\n")
     yield "an option", wrong(run("-x"), 2, None, "readings: no option -x; ./readings --help tells how it is used\n")
 

@@ -1,10 +1,11 @@
 #!/usr/bin/env python3
-"""Plants faults, one at a time, and runs the driver of tests/triples: each must be found.
+"""Plants faults, one at a time, and runs the driver of tests/triples, or of tests/cascade: each must be found.
 
     python3 -B tests/triples/faults.py [--cases N] [--only TEXT]
 
 The model of tests/second stands in the place of the library (shim.rs), so nothing needs to be proved. A fault is planted in that model, or in the driver:
-then the driver does, or expects, what Point 14 rules out. Exit code 1 if a fault is not found or cannot be planted, or if the copy without a fault fails.
+then the driver does, or expects, what Point 14 rules out, or what is claimed of the cascade. Exit code 1 if a fault is not found or cannot be planted, or if
+a copy without a fault fails.
 """
 import argparse
 import os
@@ -37,6 +38,18 @@ FAULTS = [
     ("count capped at 98", "second/model.rs", "pub fn count", "MANY", "(MANY - 1)"),
 ]
 
+# The same for the driver of tests/cascade.
+CASCADES = [
+    ("cascade: right origins read as left ones", "second/model.rs", "pub fn cascade(", "|o| [o.0, o.1]", "|o| [o.1, o.1]"),
+    ("cascade: left origins are arcs of the lattice", "second/model.rs", "pub fn cascaded", "from[kept[l as usize]] as u16", "l"),
+    ("cascade: left origins before trimming", "second/model.rs", "pub fn cascaded", "from[kept[l as usize]] as u16", "from[l as usize] as u16"),
+    ("cascade: a left side that stood still has arc 0", "second/model.rs", "pub fn cascaded", "if l == STILL { STILL }", "if l == STILL { 0 }"),
+    ("cascade: the string's end not asked for", "second/model.rs", "pub fn lattice", "place == code.len()", "place <= code.len()"),
+    ("cascade: a hidden any arc still fits", "second/model.rs", "fn fits", " && !named(t, a.source, symbol)", ""),
+    ("cascade: any symbol not passed on", "second/model.rs", "pub fn lattice", "passed(a.output, code[place])", "a.output"),
+    ("cascade: the listing of the first chain", "second/model.rs", "pub fn cascade_list", "cascade_listed(left, right, code)", "listed(left, right, code)"),
+]
+
 
 def rustc(work, *words):
     made = subprocess.run(["rustc", "-O", "--edition", "2021", "--cap-lints", "allow", *words], cwd=work, capture_output=True, text=True)
@@ -46,7 +59,7 @@ def rustc(work, *words):
 
 def planted(work, fault):
     """The two folders of tests with the fault in them, or an error."""
-    for folder in ("second", "triples"):
+    for folder in ("second", "triples", "cascade"):
         shutil.copytree(TESTS / folder, work / folder, dirs_exist_ok=True)
     name, file, after, old, new = fault
     if not file:
@@ -58,11 +71,11 @@ def planted(work, fault):
     (work / file).write_text(text[:at] + new + text[at + len(old):])
 
 
-def outcome(work, fault, cases):
+def outcome(work, driver, fault, cases):
     try:
         planted(work, fault)
         rustc(work, "--crate-type", "cdylib", "--crate-name", "forthwn", "second/shim.rs")
-        rustc(work, "--cfg", "have_all", "triples/main.rs", "-L", f"native={work}", "-l", "dylib=forthwn", "-o", "driver")
+        rustc(work, "--cfg", "have_all", f"{driver}/main.rs", "-L", f"native={work}", "-l", "dylib=forthwn", "-o", "driver")
     except RuntimeError as error:
         return f"NOT PLANTED: {error}"
     run = subprocess.run(["./driver", "--cases", str(cases)], cwd=work, env={**os.environ, "LD_LIBRARY_PATH": str(work)}, capture_output=True, text=True)
@@ -77,18 +90,19 @@ def main():
     parser.add_argument("--cases", type=int, default=2000)
     parser.add_argument("--only", default="", help="plant the faults whose name has this text")
     options = parser.parse_args()
-    faults = [f for f in FAULTS if options.only in f[0]]
+    none = ("none", "", "", "", "")
+    faults = [(driver, f) for driver, planted in (("triples", FAULTS), ("cascade", CASCADES)) for f in [none] + planted if options.only in f[0] or f is none]
     work, missed, began = Path(tempfile.mkdtemp(prefix="triples-")), [], time.time()
     try:
         # Without a fault all must agree, or a found fault says nothing.
-        for number, fault in enumerate([("none", "", "", "", "")] + faults):
-            result = outcome(work, fault, options.cases)
-            if not (result == "agrees" if number == 0 else result.startswith("found")):
+        for driver, fault in faults:
+            result = outcome(work, driver, fault, options.cases)
+            if not (result == "agrees" if fault is none else result.startswith("found")):
                 missed.append(fault[0])
-            print(f"{number:2} {fault[0]}: {result}", flush=True)
+            print(f"{driver}, {fault[0]}: {result}", flush=True)
     finally:
         shutil.rmtree(work)
-    print(f"{len(faults)} faults planted, {len(missed)} not as wanted, {time.time() - began:.0f} seconds")
+    print(f"{len(faults) - 2} faults planted, {len(missed)} not as wanted, {time.time() - began:.0f} seconds")
     return 1 if missed else 0
 
 
