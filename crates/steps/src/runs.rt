@@ -99,7 +99,7 @@ pub fn next_run(
     right: &[u8],
     rfirst: usize,
     heads: &[u16; lookup::LABEL_BUCKETS],
-    chain: &[u16; MAX_ARCS],
+    chain: &[u16],
     q: u16,
     only: u32,
     wild: usize,
