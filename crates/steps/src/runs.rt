@@ -18,7 +18,6 @@ use crate::Step;
 use crate::keys;
 use crate::lookup;
 use transducer::ARC_BYTES;
-use transducer::MAX_ARCS;
 
 // Stands for the arc of a side that stands still.
 const STILL: u16 = transducer::BARRED;
