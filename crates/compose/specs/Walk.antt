@@ -25,12 +25,16 @@ key-steps t u key = map keyed-step (map coded (steps t u (unpacked key)))
 abbrev pub key-walk : (t u : Transducer) → Sofar
 key-walk t u = explored (key-steps t u) (pack (first-state t u))
 
--- Two accepted transducers with their first-arc indexes, and the look-up of the right one's arcs; `exact` where none of these is for any symbol.
-pub record Walkable (left : List ℕ) (lfirst : ℕ) (lindex right : List ℕ) (rfirst : ℕ) (rindex : List ℕ)
-    (heads chain again : List ℕ) (exact : Bool) : Type 0 where
+-- Two accepted transducers with their first-arc indexes; `exact` where none of the right one's arcs is for any symbol.
+pub record Both-indexed (left : List ℕ) (lfirst : ℕ) (lindex right : List ℕ) (rfirst : ℕ) (rindex : List ℕ) (exact : Bool) : Type 0 where
   pub left-open : Opened left lfirst
   pub left-index : Indexed (decode left) lindex
   pub right-open : Opened right rfirst
   pub right-index : Indexed (decode right) rindex
-  pub right-lookup : Lookup (decode right) heads chain again
   pub right-named : exact ≡ true → named (decode right) ≡ true
+
+-- And the look-up of the right one's arcs.
+pub record Walkable (left : List ℕ) (lfirst : ℕ) (lindex right : List ℕ) (rfirst : ℕ) (rindex : List ℕ)
+    (heads chain again : List ℕ) (exact : Bool) : Type 0 where
+  pub both : Both-indexed left lfirst lindex right rfirst rindex exact
+  pub right-lookup : Lookup (decode right) heads chain again

@@ -3,14 +3,16 @@ ghost use mathlib.Core.Path.{_≡_};
 ghost use mathlib.Core.Bool.{true, false};
 ghost use Prim.Native.Nat.{_+_, _≤_};
 ghost use lib.ListN.{length, drop};
-ghost use Rattle.transducer.specs.Format.{max-states, max-origins, arcs-at, refusal, decode};
+ghost use Rattle.transducer.specs.Format.{max-states, max-arcs, max-origins, arcs-at, refusal, decode};
 ghost use Rattle.transducer.specs.Each.{named};
 ghost use Rattle.transducer.specs.Leaf.{Opened, Finals-by-state};
+ghost use Rattle.explore.specs.Explore.{built-refusal};
 ghost use Rattle.explore.specs.Walk.{max-arc-bytes, Walk-says};
 ghost use Rattle.steps.specs.Steps.{first-state};
 ghost use Rattle.steps.specs.Packing.{pack};
+ghost use Rattle.compose.specs.Compose.{composed};
 ghost use Rattle.compose.specs.Entry.{Compose-says, compose-refusal};
-ghost use Rattle.compose.specs.Walk.{key-walk, Walkable};
+ghost use Rattle.compose.specs.Walk.{key-walk, Both-indexed, Walkable};
 ghost use Rattle.compose.specs.Finished.{Composable, Walked-through, Attempted};
 use crate::finish;
 use crate::walking;
@@ -25,6 +27,9 @@ use transducer::MAX_BYTES;
 use transducer::MAX_ORIGINS;
 use transducer::MAX_STATES;
 use transducer::Written;
+
+// So many right arcs are few: their chains stand in small arrays.
+const FEW_ARCS: usize = 128;
 
 // What an attempt to compose has come to: an answer, or that it is to be done again, with room for more finals.
 struct Attempt {
@@ -68,11 +73,30 @@ pub fn compose(
         return transducer::refused(10);
     }
     let exact = transducer::all_named(right, r.named);
+    compose_into(left, right, exact, table, origins, states)
+}
+
+// Composes two accepted transducers, of which the left one has no arc for any symbol, into buffers that are long enough; `exact` may be true only if no
+// right arc is for any symbol.
+pub fn compose_into(
+    left: &[u8],
+    right: &[u8],
+    exact: bool,
+    table: &mut [u8],
+    origins: &mut [u16],
+    states: &mut [u32],
+) -> Written
+    requires { ⌜ Composable (now left) (now right) (length (now table)) (length (now origins)) (length (now states))
+        × (exact ≡ true → named (decode (now right)) ≡ true) ⌝ }
+    ensures { λ r. ⌜ Compose-says (now (left .entry)) (now (right .entry))
+        (built-refusal (composed (decode (now (left .entry))) (decode (now (right .entry))) .result))
+        r (now (table .entry)) (now (table .exit)) (now (origins .entry)) (now (origins .exit)) (now (states .entry)) (now (states .exit)) ⌝ }
+{
     let room = room_for(left, right);
-    let made = compose_into(left, right, exact, room, table, origins, states);
+    let made = compose_with_room(left, right, exact, room, table, origins, states);
     if made.again {
         // There are never more finals than `room_for` says; that is not proved, so they are composed once more with room for 1,024.
-        let whole = compose_into(left, right, exact, MAX_STATES, table, origins, states);
+        let whole = compose_with_room(left, right, exact, MAX_STATES, table, origins, states);
         return whole.written;
     }
     made.written
@@ -125,8 +149,8 @@ fn walk_behind(
     rfirst: usize,
     rindex: &[u16; INDEX_LEN],
     rheads: &[u16; LABEL_BUCKETS],
-    chain: &[u16; MAX_ARCS],
-    again: &[u16; MAX_ARCS],
+    chain: &[u16],
+    again: &[u16],
     exact: bool,
     first: u32,
     from: usize,
@@ -160,9 +184,121 @@ fn walk_behind(
     )
 }
 
-// Composes two accepted transducers into buffers that are long enough, with the arcs written behind room for so many finals; `exact` only where no right arc
-// is for any symbol.
-fn compose_into(
+// Puts the right arcs in chains, which takes arrays of as many cells, and walks.
+fn walk_chained(
+    left: &[u8],
+    lfirst: usize,
+    lindex: &[u16; INDEX_LEN],
+    right: &[u8],
+    rfirst: usize,
+    rindex: &[u16; INDEX_LEN],
+    arcs: usize,
+    chain: &mut [u16],
+    again: &mut [u16],
+    exact: bool,
+    first: u32,
+    from: usize,
+    table: &mut [u8],
+    origins: &mut [u16],
+    states: &mut [u32],
+) -> Walk
+    requires { ⌜ Both-indexed (now left) lfirst (now lindex) (now right) rfirst (now rindex) exact ⌝ }
+    requires { ⌜ (arcs ≡ length (decode (now right) .arcs)) × (arcs ≤ length (now chain)) × (arcs ≤ length (now again)) ⌝ }
+    requires { ⌜ first ≡ pack (first-state (decode (now left)) (decode (now right))) ⌝ }
+    requires { ⌜ (from + max-arc-bytes ≤ length (now table)) × (max-origins ≤ length (now origins)) × (max-states ≤ length (now states)) ⌝ }
+    ensures { λ r. ⌜ Walk-says 2 (key-walk (decode (now (left .entry))) (decode (now (right .entry)))) r
+        (drop from (now (table .entry))) (drop from (now (table .exit)))
+        (now (origins .entry)) (now (origins .exit)) (now (states .entry)) (now (states .exit)) ⌝ }
+{
+    let mut rheads = [0u16; LABEL_BUCKETS];
+    steps::put_chains(right, rfirst, arcs, &mut rheads, chain, again);
+    walk_behind(
+        left,
+        lfirst,
+        lindex,
+        right,
+        rfirst,
+        rindex,
+        &rheads,
+        chain,
+        again,
+        exact,
+        first,
+        from,
+        table,
+        origins,
+        states,
+    )
+}
+
+// Walks with chains in small arrays if there are few right arcs: to clear the large ones takes longer than all else that small tables ask for.
+fn walk_indexed(
+    left: &[u8],
+    lfirst: usize,
+    lindex: &[u16; INDEX_LEN],
+    right: &[u8],
+    rfirst: usize,
+    rindex: &[u16; INDEX_LEN],
+    arcs: usize,
+    exact: bool,
+    first: u32,
+    from: usize,
+    table: &mut [u8],
+    origins: &mut [u16],
+    states: &mut [u32],
+) -> Walk
+    requires { ⌜ Both-indexed (now left) lfirst (now lindex) (now right) rfirst (now rindex) exact ⌝ }
+    requires { ⌜ (arcs ≡ length (decode (now right) .arcs)) × (arcs ≤ max-arcs) ⌝ }
+    requires { ⌜ first ≡ pack (first-state (decode (now left)) (decode (now right))) ⌝ }
+    requires { ⌜ (from + max-arc-bytes ≤ length (now table)) × (max-origins ≤ length (now origins)) × (max-states ≤ length (now states)) ⌝ }
+    ensures { λ r. ⌜ Walk-says 2 (key-walk (decode (now (left .entry))) (decode (now (right .entry)))) r
+        (drop from (now (table .entry))) (drop from (now (table .exit)))
+        (now (origins .entry)) (now (origins .exit)) (now (states .entry)) (now (states .exit)) ⌝ }
+{
+    if arcs <= FEW_ARCS {
+        let mut chain = [0u16; FEW_ARCS];
+        let mut again = [0u16; FEW_ARCS];
+        return walk_chained(
+            left,
+            lfirst,
+            lindex,
+            right,
+            rfirst,
+            rindex,
+            arcs,
+            &mut chain,
+            &mut again,
+            exact,
+            first,
+            from,
+            table,
+            origins,
+            states,
+        );
+    }
+    let mut chain = [0u16; MAX_ARCS];
+    let mut again = [0u16; MAX_ARCS];
+    walk_chained(
+        left,
+        lfirst,
+        lindex,
+        right,
+        rfirst,
+        rindex,
+        arcs,
+        &mut chain,
+        &mut again,
+        exact,
+        first,
+        from,
+        table,
+        origins,
+        states,
+    )
+}
+
+// Composes two accepted transducers, with the arcs written behind room for some finals.
+fn compose_with_room(
     left: &[u8],
     right: &[u8],
     exact: bool,
@@ -180,31 +316,33 @@ fn compose_into(
     let r = transducer::head_of(right);
     let lfirst = HEAD_BYTES + FINAL_BYTES * (l.finals as usize);
     let rfirst = HEAD_BYTES + FINAL_BYTES * (r.finals as usize);
-    let lindex = transducer::first_arcs(left, lfirst, l.states as usize, l.arcs as usize);
-    let rindex = transducer::first_arcs(right, rfirst, r.states as usize, r.arcs as usize);
-    let mut rheads = [0u16; LABEL_BUCKETS];
-    let mut chain = [0u16; MAX_ARCS];
-    let mut again = [0u16; MAX_ARCS];
-    steps::put_chains(
+    // Arrays that a call hands back are copied, and to copy them takes longer than most of what small tables ask for.
+    let mut lindex = [0u16; INDEX_LEN];
+    let mut rindex = [0u16; INDEX_LEN];
+    transducer::put_index(
+        left,
+        lfirst,
+        l.states as usize,
+        l.arcs as usize,
+        &mut lindex,
+    );
+    transducer::put_index(
         right,
         rfirst,
+        r.states as usize,
         r.arcs as usize,
-        &mut rheads,
-        &mut chain,
-        &mut again,
+        &mut rindex,
     );
     let first = steps::pack(l.start, r.start, 0);
     let from = HEAD_BYTES + FINAL_BYTES * room;
-    let w = walk_behind(
+    let w = walk_indexed(
         left,
         lfirst,
         &lindex,
         right,
         rfirst,
         &rindex,
-        &rheads,
-        &chain,
-        &again,
+        r.arcs as usize,
         exact,
         first,
         from,
@@ -219,8 +357,10 @@ fn compose_into(
     if MAX_ARCS < arcs {
         return finished(explore::refuse(table, origins, states, 12));
     }
-    let lcodes = transducer::final_codes(left, l.finals as usize);
-    let rcodes = transducer::final_codes(right, r.finals as usize);
+    let mut lcodes = [0u32; MAX_STATES];
+    let mut rcodes = [0u32; MAX_STATES];
+    transducer::put_codes(left, l.finals as usize, &mut lcodes);
+    transducer::put_codes(right, r.finals as usize, &mut rcodes);
     write_out(
         left,
         right,

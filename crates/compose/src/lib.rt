@@ -4,3 +4,4 @@ mod finish;
 mod walking;
 
 pub use entry::compose;
+pub use entry::compose_into;

@@ -8,11 +8,11 @@ use lib.ListN.{length, getD, take}
 use Rattle.transducer.specs.Format.{max-states}
 
 abbrev pub buckets : ℕ
-buckets = 4096
+buckets = 2048
 
--- The bucket of a key: the top twelve bits of its product with 2^32 over the golden ratio.
+-- The bucket of a key: the top eleven bits of its product with 2^32 over the golden ratio.
 unfoldable pub bucket-of : ℕ → ℕ
-bucket-of key = key * 2654435761 / 1048576 % buckets
+bucket-of key = key * 2654435761 / 2097152 % buckets
 
 -- One more than the place of the last of the first n keys that is in a bucket; 0 where none is.
 unfoldable pub last-in : (b n : ℕ) → List ℕ → ℕ

@@ -16,7 +16,7 @@ use transducer::MAX_STATES;
 use transducer::Written;
 
 // Stored states stand in chains by bucket.
-pub const BUCKETS: usize = 4096;
+pub const BUCKETS: usize = 2048;
 
 const BUCKET_MASK: usize = BUCKETS - 1;
 
@@ -24,7 +24,7 @@ const BUCKET_MASK: usize = BUCKETS - 1;
 pub fn bucket(key: u32) -> usize
     ensures { λ r. ⌜ (r ≡ bucket-of key) × (r < buckets) ⌝ }
 {
-    (((key as u64) * 2654435761) >> 20) as usize & BUCKET_MASK
+    (((key as u64) * 2654435761) >> 21) as usize & BUCKET_MASK
 }
 
 // Stores a new key under the next number, in front of the chain of its bucket.

@@ -70,11 +70,11 @@ module _ (cs bs : List ℕ) (bytes : Bytes bs) (ok : refusal bs ≡ 0) (string :
   unfolding applied
   z-start = built-start same-state (steps cs t) (final-state cs t) (state-weight t) (first-state t)
 
-  pub says-11 : {r : Written} {a a' b b' c c₀ c' : List ℕ} → max-states < length (found cs t .keys) → length c ≡ length c₀
-      → Refused-with 11 r a a' b b' c c' → Says r a a' b b' c₀ c'
-  says-11 {r} {a} {a'} {b} {b'} {c} {c₀} {c'} over long zeroed =
+  pub says-11 : {r : Written} {a a₀ a' b b' c c₀ c' : List ℕ} → max-states < length (found cs t .keys) → length a ≡ length a₀ → length c ≡ length c₀
+      → Refused-with 11 r a a' b b' c c' → Says r a₀ a' b b' c₀ c'
+  says-11 {r} {a} {a₀} {a'} {b} {b'} {c} {c₀} {c'} over wide long zeroed =
       let is : built-refusal z ≡ 11 = over-11 z .1 (omega (arith, found-length cs t good, z-states)) in
-      says-zeroed _ _ (built-refusal z) 11 r a a a' b b b' c c₀ c' is (omega arith) (omega arith) refl refl long zeroed
+      says-zeroed _ _ (built-refusal z) 11 r a a₀ a' b b b' c c₀ c' is (omega arith) (omega arith) wide refl long zeroed
 
   module _ {w : Walk} {table arcs states : List ℕ} (told : Walk-told 1 (found cs t) w table arcs states) where
     few : length (applied cs t .states) ≤ max-states
@@ -86,11 +86,11 @@ module _ (cs bs : List ℕ) (bytes : Bytes bs) (ok : refusal bs ≡ 0) (string :
     arcs-are : w .arcs ≡ min (length (z .arcs)) (max-arcs + 1)
     arcs-are = told .recorded .arcs-held .arcs-are ∙ ap (λ (as' : List Arc). min (length as') (max-arcs + 1)) (found-arcs cs t good few)
 
-    pub says-12 : {r : Written} {a a' b b' c₀ c' : List ℕ} → max-arcs < w .arcs → length states ≡ length c₀
-        → Refused-with 12 r a a' b b' states c' → Says r a a' b b' c₀ c'
-    says-12 {r} {a} {a'} {b} {b'} {c₀} {c'} over long zeroed =
+    pub says-12 : {r : Written} {a a₀ a' b b' c₀ c' : List ℕ} → max-arcs < w .arcs → length a ≡ length a₀ → length states ≡ length c₀
+        → Refused-with 12 r a a' b b' states c' → Says r a₀ a' b b' c₀ c'
+    says-12 {r} {a} {a₀} {a'} {b} {b'} {c₀} {c'} over wide long zeroed =
         let is : built-refusal z ≡ 12 = built-12 z few-states (omega (arith, arcs-are)) in
-        says-zeroed _ _ (built-refusal z) 12 r a a a' b b b' states c₀ c' is (omega arith) (omega arith) refl refl long zeroed
+        says-zeroed _ _ (built-refusal z) 12 r a a₀ a' b b b' states c₀ c' is (omega arith) (omega arith) wide refl long zeroed
 
 -- The lattice before trimming is made: of a good string and accepted bytes, by what the walk has told, with at most 3,072 arcs; `codes` are the final
 -- codes, its arcs stand in `table`, and its bytes in `table'` from `from` on.
@@ -235,11 +235,11 @@ module _ {cs bs : List ℕ} {w : Walk} {table arcs states codes : List ℕ} {fro
             ∙ getD-take n (found cs given .origins) i 0 below
             ∙ ap (λ (l : List ℕ). getD l i 0) (found-origins cs given given-good few-found)
 
-        pub says-lattice : {b' c₀ c' : List ℕ} → length states ≡ length c₀
+        pub says-lattice : {out₀ b' c₀ c' : List ℕ} → length out ≡ length out₀ → length states ≡ length c₀
             → b' ≡ sets origins' 0 (map (λ i. getD arcs i 0) (take kept origins')) → c' ≡ cleared 0 states
-            → Apply-says cs bs (built-refusal untrimmed) (record { refusal = 0; len = len }) out out' origins b' c₀ c'
+            → Apply-says cs bs (built-refusal untrimmed) (record { refusal = 0; len = len }) out₀ out' origins b' c₀ c'
         unfolding lattice lattice-origins
-        says-lattice {b'} {c₀} {c'} long traced clear =
+        says-lattice {out₀} {b'} {c₀} {c'} wide long traced clear =
             let on : ℕ → ℕ = λ i. getD arcs i 0 in
             let same : map on ks ≡ lattice-origins cs given =
             map-same on (λ i. getD (map (λ s. s .origin) (applied cs given .steps)) i 0) ks (λ j l. origin-at (getD ks j 0) (kept-below j l)) in
@@ -249,5 +249,5 @@ module _ {cs bs : List ℕ} {w : Walk} {table arcs states codes : List ℕ} {fro
             ∙ ap (λ (l : List ℕ). sets l 0 (map on ks)) (trims .origins-are)
             ∙ refilled (length origins) ks (map on ks) (length-map ks on)
             ∙ ap (λ (l : List ℕ). filled (length origins) l) same in
-            says-written cs bs (built-refusal untrimmed) len out out' origins b' states c₀ c' fine long (trims .len-is) (trims .table) origins-are
-            (filled-front [] states c' 0 refl refl clear)
+            says-written cs bs (built-refusal untrimmed) len out₀ out' origins b' states c₀ c' fine long (trims .len-is)
+            (trims .table ∙ ap (λ (n : ℕ). filled n (encode (trimmed untrimmed))) wide) origins-are (filled-front [] states c' 0 refl refl clear)

@@ -13,6 +13,7 @@ use Rattle.transducer.specs.Encode.{encode}
 use Rattle.transducer.specs.Each.{named}
 use Rattle.transducer.specs.Leaf.{Opened, Indexed, max-code}
 use Rattle.transducer.specs.Weight.{weight-of}
+use Rattle.reach.specs.Reach.{All-accessible}
 use Rattle.explore.specs.Explore.{finals-from}
 use Rattle.explore.specs.Walk.{Keyed, Sofar, keyed, explored}
 use Rattle.lattice.specs.declared.State.{State}
@@ -80,3 +81,11 @@ pub record Apply-asks (cs bs : List ℕ) (exact : Bool) (lattice origins pairs :
   pub lattice-long : max-bytes ≤ lattice
   pub origins-long : max-arcs ≤ origins
   pub pairs-long : max-states ≤ pairs
+
+-- Accepted bytes of a transducer whose states are all accessible stand in a buffer from a place on, and there is room for what trimming leaves.
+pub record Trimmable (lattice : List ℕ) (from count origins : ℕ) : Type 0 where
+  pub inside : from + count ≤ length lattice
+  pub accepted : refusal (take count (drop from lattice)) ≡ 0
+  pub accessible : All-accessible (decode (take count (drop from lattice)))
+  pub lattice-long : max-bytes ≤ length lattice
+  pub origins-long : max-arcs ≤ origins

@@ -16,6 +16,7 @@ ghost use Rattle.lattice.specs.Pack.{unpacked};
 ghost use Rattle.lattice.specs.Applying.{next, arc-keyed, found, Applicable, State-in, key-code, key-finals, Small-codes, closed, Closes};
 ghost use Rattle.lattice.specs.Applying.{arcs-place, Apply-asks};
 use crate::packing;
+use crate::trimming;
 use explore::BUCKETS;
 use explore::Walk;
 use transducer::ARC_BYTES;
@@ -340,7 +341,8 @@ fn trace(origins: &mut [u16], count: usize, arcs: &[u16; MAX_ARCS])
     }
 }
 
-// Applies a good string to an accepted transducer, into buffers that are long enough; `exact` only where no arc is for any symbol.
+// Applies a good string to an accepted transducer, into buffers that are long enough; `exact` may be true only if no arc is for any symbol. The lattice is
+// written behind room for head and finals, and trimmed from there.
 pub fn apply_into(
     string: &[u16],
     bytes: &[u8],
@@ -356,13 +358,14 @@ pub fn apply_into(
     let head = transducer::head_of(bytes);
     let f = head.finals as usize;
     let first = transducer::arcs_at(f);
-    let index = transducer::first_arcs_by_blocks(
+    let mut index = [0u16; MAX_STATES + 1];
+    transducer::put_index(
         bytes,
         first,
         head.states as usize,
         head.arcs as usize,
+        &mut index,
     );
-    let mut table = [0u8; MAX_BYTES];
     let mut arcs = [0u16; MAX_ARCS];
     let w = walk_behind(
         string,
@@ -371,7 +374,7 @@ pub fn apply_into(
         first,
         &index,
         head.start,
-        &mut table,
+        lattice,
         &mut arcs,
         pairs,
     );
@@ -382,10 +385,11 @@ pub fn apply_into(
     if MAX_ARCS < m {
         return explore::refuse(lattice, origins, pairs, 12);
     }
-    let codes = transducer::final_codes(bytes, f);
-    let from = close(&codes, string.len() as u32, pairs, w, &mut table);
+    let mut codes = [0u32; MAX_STATES];
+    transducer::put_codes(bytes, f, &mut codes);
+    let from = close(&codes, string.len() as u32, pairs, w, lattice);
     let end = ARCS_PLACE + ARC_BYTES * m;
-    let len = trim::trim_into(&table[from..end], true, lattice, origins);
+    let len = trimming::trim_behind(lattice, from, end - from, origins);
     let kept = wire::u16_at(lattice, 6) as usize;
     trace(origins, kept, &arcs);
     wire::clear32(pairs, 0);

@@ -1,6 +1,7 @@
 // Applying an input string to a transducer.
 mod applying;
 mod packing;
+mod trimming;
 
 pub use applying::apply;
 pub use applying::apply_into;

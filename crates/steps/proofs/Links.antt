@@ -18,7 +18,7 @@ use Rattle.transducer.specs.Leaf.{Opened, Rest, Leaving}
 use Rattle.transducer.specs.Path.{arc}
 use Rattle.transducer.specs.Each.{unnamed, fits, named}
 use Rattle.transducer.proofs.Fits.{named-input, label-at, label-none, label-named, label-any, fits-label}
-use Rattle.steps.specs.Lookup.{label-bucket, reads, in-bucket, first-of, first-from, Heads, Chain, Again, Lookup, Leads}
+use Rattle.steps.specs.Lookup.{label-buckets, label-bucket, reads, in-bucket, first-of, first-from, Heads, Chain, Again, Lookup, Leads}
 use Rattle.steps.specs.declared.Run.{Run}
 use Rattle.steps.specs.Runs.{fitting-from, reading-from, Takeable}
 use Rattle.transducer.proofs.Leaving.{rest-from, leaving-unnamed}
@@ -243,7 +243,7 @@ pub record Filling (u : Transducer) (from : ℕ) (heads chain again : List ℕ) 
   pub repeated : Again u from again
 
 pub filling-first : (u : Transducer) (from : ℕ) (heads chain again : List ℕ) → from ≡ length (u .arcs) → length (u .arcs) ≤ max-arcs
-    → heads ≡ replicate 4096 0 → length chain ≡ max-arcs → length again ≡ max-arcs → Filling u from heads chain again
+    → heads ≡ replicate label-buckets 0 → length (u .arcs) ≤ length chain → length (u .arcs) ≤ length again → Filling u from heads chain again
 filling-first u from heads chain again is few zeros c-long a-long =
     rw is
     (record {
@@ -251,15 +251,15 @@ filling-first u from heads chain again is few zeros c-long a-long =
       few = few;
       headed =
           record {
-            long = ap length zeros ∙ length-replicate {A = ℕ} 4096 0;
-            are = λ b l. ap (λ (xs : List ℕ). getD xs b 0) zeros ∙ getD-replicate 4096 b 0 0 l ∙ sym (first-end (in-bucket u b) (length (u .arcs)));
+            long = ap length zeros ∙ length-replicate {A = ℕ} label-buckets 0;
+            are = λ b l. ap (λ (xs : List ℕ). getD xs b 0) zeros ∙ getD-replicate label-buckets b 0 0 l ∙ sym (first-end (in-bucket u b) (length (u .arcs)));
           };
       chained = record { long = c-long; are = λ j l h. absurd (omega arith) };
       repeated = record { long = a-long; are = λ j l h. absurd (omega arith) };
     })
 
 -- All arcs are in the chains, and a bucket's head leads to its chain.
-pub chains-lead : {u : Transducer} {heads chain : List ℕ} (q label b : ℕ) → Heads u 0 heads → Chain u 0 chain → b ≡ label-bucket q label → b < 4096
+pub chains-lead : {u : Transducer} {heads chain : List ℕ} (q label b : ℕ) → Heads u 0 heads → Chain u 0 chain → b ≡ label-bucket q label → b < label-buckets
     → Leads u q label 0 chain (getD heads b 0)
 chains-lead q label b h c is l = record { within = omega arith; chained = c; head-is = rw (← is) (h .are b l) }
 
@@ -267,10 +267,10 @@ pub filling-done : {u : Transducer} {from : ℕ} {heads chain again : List ℕ} 
 filling-done is f = let g = rw is at f in record { headed = g .headed; chained = g .chained; repeated = g .repeated }
 
 module _ {u : Transducer} {j : ℕ} {heads chain again : List ℕ} (f : Filling u (suc j) heads chain again) where
-  pub filling-leads : (q label b : ℕ) → b ≡ label-bucket q label → b < 4096 → Leads u q label (suc j) chain (getD heads b 0)
+  pub filling-leads : (q label b : ℕ) → b ≡ label-bucket q label → b < label-buckets → Leads u q label (suc j) chain (getD heads b 0)
   filling-leads q label b is l = record { within = f .within; chained = f .chained; head-is = rw (← is) (f .headed .are b l) }
 
-  pub filling-next : (b link next : ℕ) → b ≡ label-bucket (arc u j .source) (arc u j .input) → b < 4096 → link ≡ suc j
+  pub filling-next : (b link next : ℕ) → b ≡ label-bucket (arc u j .source) (arc u j .input) → b < label-buckets → link ≡ suc j
       → next ≡ first-from u (reads u (arc u j .source) (arc u j .input)) (suc j)
       → Filling u j (set heads b link) (set chain j (getD heads b 0)) (set again j next)
   unfolding in-bucket
@@ -280,11 +280,11 @@ module _ {u : Transducer} {j : ℕ} {heads chain again : List ℕ} (f : Filling 
         few = f .few;
         headed = record { long = length-set heads b link ∙ f .headed .long; are = λ k l. head-at k l (ℕ-discrete k b) };
         chained =
-            record { long = length-set chain j (getD heads b 0) ∙ f .chained .long; are = λ i l h. chain-at i l h (ℕ-discrete i j) };
-        repeated = record { long = length-set again j next ∙ f .repeated .long; are = λ i l h. again-at i l h (ℕ-discrete i j) };
+            record { long = omega (arith, length-set chain j (getD heads b 0), f .chained .long); are = λ i l h. chain-at i l h (ℕ-discrete i j) };
+        repeated = record { long = omega (arith, length-set again j next, f .repeated .long); are = λ i l h. again-at i l h (ℕ-discrete i j) };
       }
     where
-      head-at : (k : ℕ) → k < 4096 → Dec (k ≡ b) → getD (set heads b link) k 0 ≡ first-from u (in-bucket u k) j
+      head-at : (k : ℕ) → k < label-buckets → Dec (k ≡ b) → getD (set heads b link) k 0 ≡ first-from u (in-bucket u k) j
       head-at k l (yes y) =
           let t : in-bucket u k j ≡ true = eq-eqb (label-bucket (arc u j .source) (arc u j .input)) k (sym b-is ∙ sym y) in
           rw (first-here (in-bucket u k) (length (u .arcs)) j (f .within) t, y)
@@ -297,12 +297,12 @@ module _ {u : Transducer} {j : ℕ} {heads chain again : List ℕ} (f : Filling 
           → getD (set chain j (getD heads b 0)) i 0 ≡ first-from u (in-bucket u (label-bucket (arc u i .source) (arc u i .input))) (suc i)
       chain-at i l h (yes y) =
           rw y
-          (getD-set-same chain j (getD heads b 0) 0 (omega (arith, f .chained .long, f .within, f .few)) ∙ (rw (← b-is) (f .headed .are b small)))
+          (getD-set-same chain j (getD heads b 0) 0 (omega (arith, f .chained .long, f .within)) ∙ (rw (← b-is) (f .headed .are b small)))
       chain-at i l h (no o) = getD-set-other chain j i (getD heads b 0) 0 o ∙ f .chained .are i (omega arith) h
 
       again-at : (i : ℕ) → j ≤ i → i < length (u .arcs) → Dec (i ≡ j)
           → getD (set again j next) i 0 ≡ first-from u (reads u (arc u i .source) (arc u i .input)) (suc i)
-      again-at i l h (yes y) = rw y (getD-set-same again j next 0 (omega (arith, f .repeated .long, f .within, f .few)) ∙ next-is)
+      again-at i l h (yes y) = rw y (getD-set-same again j next 0 (omega (arith, f .repeated .long, f .within)) ∙ next-is)
       again-at i l h (no o) = getD-set-other again j i next 0 o ∙ f .repeated .are i (omega arith) h
 
 -- What links say of `reading-from`

@@ -6,12 +6,12 @@ use mathlib.Core.List.{List}
 use Prim.Native.Nat.{ℕ, zero, suc, _+_, _*_, _-_, _%_, _≤_, _<_}
 use lib.Dec.{eqb}
 use lib.ListN.{length, getD}
-use Rattle.transducer.specs.Format.{max-arcs, Transducer}
+use Rattle.transducer.specs.Format.{Transducer}
 use Rattle.transducer.specs.Path.{arc}
 
 -- How many buckets there are, and the bucket of a state and a label.
 abbrev pub label-buckets : ℕ
-label-buckets = 4096
+label-buckets = 2048
 
 unfoldable pub label-bucket : (state label : ℕ) → ℕ
 label-bucket q label = (q * 61 + label) % label-buckets
@@ -38,12 +38,12 @@ pub record Heads (u : Transducer) (from : ℕ) (heads : List ℕ) : Type 0 where
   pub are : (b : ℕ) → b < label-buckets → getD heads b 0 ≡ first-from u (in-bucket u b) from
 
 pub record Chain (u : Transducer) (from : ℕ) (chain : List ℕ) : Type 0 where
-  pub long : length chain ≡ max-arcs
+  pub long : length (u .arcs) ≤ length chain
   pub are : (j : ℕ) → from ≤ j → j < length (u .arcs)
       → getD chain j 0 ≡ first-from u (in-bucket u (label-bucket (arc u j .source) (arc u j .input))) (suc j)
 
 pub record Again (u : Transducer) (from : ℕ) (again : List ℕ) : Type 0 where
-  pub long : length again ≡ max-arcs
+  pub long : length (u .arcs) ≤ length again
   pub are : (j : ℕ) → from ≤ j → j < length (u .arcs) → getD again j 0 ≡ first-from u (reads u (arc u j .source) (arc u j .input)) (suc j)
 
 -- All arcs are in the chains.

@@ -2,18 +2,17 @@
 // one more, 0 for none.
 ghost use mathlib.Core.Path.{_≡_};
 ghost use mathlib.Core.Bool.{true};
-ghost use Prim.Native.Nat.{ℕ, _+_, _*_, _-_, _<_};
+ghost use Prim.Native.Nat.{ℕ, _+_, _*_, _-_, _≤_, _<_};
 ghost use lib.ListN.{length, replicate};
-ghost use Rattle.transducer.specs.Format.{any, max-arcs, decode};
+ghost use Rattle.transducer.specs.Format.{any, decode};
 ghost use Rattle.transducer.specs.Each.{named};
 ghost use Rattle.transducer.specs.Leaf.{Opened, Leaving};
 ghost use Rattle.steps.specs.Lookup.{label-buckets, label-bucket, reads, first-from, Leads, Heads, Chain, Lookup};
 ghost use Rattle.steps.specs.Runs.{reading-from};
 use transducer::ARC_BYTES;
-use transducer::MAX_ARCS;
 
 // Arcs stand in chains by the bucket of their state and label.
-pub const LABEL_BUCKETS: usize = 4096;
+pub const LABEL_BUCKETS: usize = 2048;
 
 const BUCKET_MASK: usize = LABEL_BUCKETS - 1;
 
@@ -26,7 +25,7 @@ fn label_bucket(state: u16, label: u16) -> usize
 
 // The link to the first arc that leaves state `q` and reads `label`, along the chain that `head` leads to. An arc's source and label stand side
 // by side and are compared as one number.
-fn along(right: &[u8], rfirst: usize, chain: &[u16; MAX_ARCS], head: u16, q: u16, label: u16) -> u16
+fn along(right: &[u8], rfirst: usize, chain: &[u16], head: u16, q: u16, label: u16) -> u16
     requires { ⌜ Opened (now right) rfirst × ((from : ℕ) × Leads (decode (now right)) q label from (now chain) head) ⌝ }
     ensures { λ r. ⌜ ((from : ℕ) → Leads (decode (now (right .entry))) q label from (now (chain .entry)) head →
         r ≡ first-from (decode (now (right .entry))) (reads (decode (now (right .entry))) q label) from) ⌝ }
@@ -50,11 +49,11 @@ pub fn put_chains(
     rfirst: usize,
     arcs: usize,
     heads: &mut [u16; LABEL_BUCKETS],
-    chain: &mut [u16; MAX_ARCS],
-    again: &mut [u16; MAX_ARCS],
+    chain: &mut [u16],
+    again: &mut [u16],
 )
     requires { ⌜ Opened (now right) rfirst × (arcs ≡ length (decode (now right) .arcs)) × (now heads ≡ replicate label-buckets 0)
-        × (length (now chain) ≡ max-arcs) × (length (now again) ≡ max-arcs) ⌝ }
+        × (arcs ≤ length (now chain)) × (arcs ≤ length (now again)) ⌝ }
     ensures { λ _. ⌜ Lookup (decode (now (right .entry))) (now (heads .exit)) (now (chain .exit)) (now (again .exit)) ⌝ }
 {
     let mut left = arcs;
@@ -78,7 +77,7 @@ pub fn first_reading(
     right: &[u8],
     rfirst: usize,
     heads: &[u16; LABEL_BUCKETS],
-    chain: &[u16; MAX_ARCS],
+    chain: &[u16],
     q: u16,
     label: u16,
     to: usize,
@@ -103,7 +102,7 @@ pub fn first_any(
     right: &[u8],
     rfirst: usize,
     heads: &[u16; LABEL_BUCKETS],
-    chain: &[u16; MAX_ARCS],
+    chain: &[u16],
     exact: bool,
     q: u16,
     to: usize,

@@ -18,7 +18,6 @@ use crate::Step;
 use crate::keys;
 use crate::lookup;
 use transducer::ARC_BYTES;
-use transducer::MAX_ARCS;
 
 // Stands for the arc of a side that stands still.
 const STILL: u16 = transducer::BARRED;
@@ -99,7 +98,7 @@ pub fn next_run(
     right: &[u8],
     rfirst: usize,
     heads: &[u16; lookup::LABEL_BUCKETS],
-    chain: &[u16; MAX_ARCS],
+    chain: &[u16],
     q: u16,
     only: u32,
     wild: usize,

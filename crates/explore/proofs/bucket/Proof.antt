@@ -11,7 +11,7 @@ mul-result c = search needs
 
 returns : tie.Need-returns
 unfolding bucket-of
-returns c = let high = c .args .key * 2654435761 / 1048576 in (and-mask high 12, mask-lt high 12)
+returns c = let high = c .args .key * 2654435761 / 2097152 in (and-mask high 11, mask-lt high 11)
 
 pub bucket-spec : {M : Type 1} → statement M
 bucket-spec = tie.close (tie.spec mul-result returns)

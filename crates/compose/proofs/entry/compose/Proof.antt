@@ -16,7 +16,6 @@ use Rattle.compose.proofs.ComposeSays.{
   says-states,
   composable,
   says-into,
-  says-same,
 }
 use Rattle.compose.proofs.entry.compose.Statement.{statement}
 use Rattle.compose.proofs.entry.compose.Tie as tie
@@ -35,13 +34,10 @@ abbrev passed : tie.Else6 → tie.Else3
 passed c = c .before .before .before
 
 abbrev all-tested : tie.After-compose-into → tie.Else6
-all-tested c = c .before .before .before .before .before .before
+all-tested c = c .before .before .before .before .before
 
 abbrev composed-into : tie.After-slice-known6 → tie.After-compose-into
 composed-into c = c .before .before .before .before .before .before
-
-abbrev made-again : tie.After-result → tie.After-compose-into2
-made-again c = c .before .before .before .before .before .before .before
 
 -- The bytes are bytes.
 left-bytes : (c : tie.After-look) → Bytes (entry c .args .left .now)
@@ -127,15 +123,9 @@ returns-6 c =
 all-named-requires-2 : tie.Need-all-named-requires-2
 all-named-requires-2 c κs = let both = passed c in (right-ok both, both .before .look2 .ensures .by-name (right-ok both))
 
-room-for-requires : tie.Need-room-for-requires
-room-for-requires c κs =
-    let both = passed (c .before) in
-    let right = both .before in
-    (left-ok (left-asked right .before), right-ok both)
-
 compose-into-requires : tie.Need-compose-into-requires
 compose-into-requires c κs =
-    let exact = c .before .before .before .before in
+    let exact = c .before .before .before in
     let else6 = exact .before in
     let both = passed else6 in
     let right = both .before in
@@ -143,24 +133,6 @@ compose-into-requires c κs =
       composable (x .left .now) (x .right .now) (x .table .now) (x .origins .now) (x .states .now) (left-ok (left-asked right .before))
           (all-ok (right .before)) (right-ok both) (else6 .before .before .if4 .left) (else6 .before .if5 .left) (else6 .if6 .left),
       λ e. sym (exact .all-named2 .ensures) ∙ e,
-      c .before .before .before .room-for .ensures,
-    )
-
--- The second attempt, should there be one: the buffers are as long as before.
-compose-into-requires-2 : tie.Need-compose-into-requires-2
-compose-into-requires-2 c κs =
-    let into = composed-into (c .before .before .before .before) in
-    let else6 = all-tested into in
-    let both = passed else6 in
-    let right = both .before in
-    let x = entry (first (left-asked right)) .args in
-    let out = into .compose-into .last .1 .1 .1 .1 in
-    let kept = into .compose-into .kept .1 .1 .1 .1 in (
-      composable (x .left .now) (x .right .now) (out .0) (out .1 .0) (out .1 .1 .0) (left-ok (left-asked right .before))
-          (all-ok (right .before)) (right-ok both) (omega (arith, kept .0, else6 .before .before .if4 .left))
-          (omega (arith, kept .1 .0, else6 .before .if5 .left)) (omega (arith, kept .1 .1 .0, else6 .if6 .left)),
-      λ e. sym (into .before .before .before .before .before .all-named2 .ensures) ∙ e,
-      omega arith,
     )
 
 same-length : tie.Need-same-length
@@ -174,36 +146,12 @@ same-length-3 c = search needs
 
 returns-7 : tie.Need-returns-7
 returns-7 c =
-    let whole = made-again c in
-    let into = composed-into (whole .before .before .before .before .before) in
-    let else6 = all-tested into in
-    let both = passed else6 in
-    let right = both .before in
-    let look = first (left-asked right) in
-    let kept = into .compose-into .kept .1 .1 .1 .1 in
-    let said = whole .compose-into2 .ensures in
-    says-into _ _ _ _ _ (left-ok (left-asked right .before)) (all-ok (right .before)) (right-ok both) (else6 .before .before .if4 .left)
-    (else6 .before .if5 .left) (else6 .if6 .left) _ _ _ _
-    (says-same _ _ (left-bytes look) (right-bytes look) (left-ok (left-asked right .before)) (all-ok (right .before)) (right-ok both) _ _ _ _ _ _ _ _ _ _
-    (kept .0) (kept .1 .0) (kept .1 .1 .0) (said .says (said .enough (omega arith))))
-
-same-length-4 : tie.Need-same-length-4
-same-length-4 c = search needs
-
-same-length-5 : tie.Need-same-length-5
-same-length-5 c = search needs
-
-same-length-6 : tie.Need-same-length-6
-same-length-6 c = search needs
-
-returns-8 : tie.Need-returns-8
-returns-8 c =
-    let into = composed-into (c .before .before) in
+    let into = composed-into c in
     let else6 = all-tested into in
     let both = passed else6 in
     let right = both .before in
     says-into _ _ _ _ _ (left-ok (left-asked right .before)) (all-ok (right .before)) (right-ok both) (else6 .before .before .if4 .left)
-    (else6 .before .if5 .left) (else6 .if6 .left) _ _ _ _ (into .compose-into .ensures .says (c .before .if7 .left))
+    (else6 .before .if5 .left) (else6 .if6 .left) _ _ _ _ (into .compose-into .ensures)
 
 pub compose-spec : {M : Type 1} → statement M
 compose-spec =
@@ -225,14 +173,8 @@ compose-spec =
     refused-requires-6
     returns-6
     all-named-requires-2
-    room-for-requires
     compose-into-requires
-    compose-into-requires-2
     same-length
     same-length-2
     same-length-3
-    returns-7
-    same-length-4
-    same-length-5
-    same-length-6
-    returns-8)
+    returns-7)

@@ -10,7 +10,7 @@ use Rattle.compose.proofs.entry.walk_behind.Tie as tie
 
 -- Places to look back to.
 abbrev entry : tie.After-walk-all-arg2 → tie.Start
-entry c = c .before .before .before .before .before .before .before .before
+entry c = c .before .before .before .before .before .before .before .before .before .before
 
 abbrev walked : tie.After-slice-known6 → tie.After-walk-all
 walked c = c .before .before .before .before .before .before

@@ -50,7 +50,7 @@ abbrev start : tie.After-shared-slice-known2 Inv-loop μ-loop → tie.Start Inv-
 start c = c .before .before
 
 abbrev lent : tie.After-unpack Inv-loop μ-loop → tie.After-shared-slice-known2 Inv-loop μ-loop
-lent c = c .before .before .before .before .before
+lent c = c .before .before .before .before .before .before .before
 
 abbrev entry : tie.After-unpack Inv-loop μ-loop → tie.Start Inv-loop μ-loop
 entry c = start (lent c)
@@ -101,22 +101,22 @@ to-of c = getD (entry c .args .rindex .now) (both c .right + 1) 0
 -- Both transducers are good ones.
 left-good : (c : tie.After-shared-slice-known2 Inv-loop μ-loop) → Good (decode (start c .args .left .now))
 left-good c =
-    accepted-good (start c .args .left .now) (λ i. omega (arith, c .before .shared-slice-known .given i)) (start c .pre .0 .0 .left-open .accepted)
+    accepted-good (start c .args .left .now) (λ i. omega (arith, c .before .shared-slice-known .given i)) (start c .pre .0 .0 .both .left-open .accepted)
 
 right-good : (c : tie.After-shared-slice-known2 Inv-loop μ-loop) → Good (decode (start c .args .right .now))
 right-good c =
-    accepted-good (start c .args .right .now) (λ i. omega (arith, c .shared-slice-known2 .given i)) (start c .pre .0 .0 .right-open .accepted)
+    accepted-good (start c .args .right .now) (λ i. omega (arith, c .shared-slice-known2 .given i)) (start c .pre .0 .0 .both .right-open .accepted)
 
 -- The state's number is that of a stored one.
 source-lt : (c : tie.After-shared-slice-known2 Inv-loop μ-loop) → start c .args .source < max-states
 source-lt c = let k = start c .pre .1 .1 .1 in omega (arith, start c .pre .0 .1, k .states-are, k .chained .few)
 
 mul-unpack : tie.Need-mul-unpack Inv-loop μ-loop
-mul-unpack c = omega (arith, source-lt (c .before .before .before))
+mul-unpack c = omega (arith, source-lt (c .before .before .before .before .before))
 
 slice-read-unpack : tie.Need-slice-read-unpack Inv-loop μ-loop
 slice-read-unpack c =
-    let k = c .before .before .before .before in
+    let k = c .before .before .before .before .before .before in
     omega (arith, source-lt k, start k .pre .1 .1 .1 .chained .room)
 
 unpack-requires : tie.Need-unpack-requires Inv-loop μ-loop
@@ -142,8 +142,8 @@ bounds : (c : tie.After-unpack Inv-loop μ-loop)
 bounds c =
     let a = entry c .args in
     let walkable = entry c .pre .0 .0 in
-    placed (decode (a .left .now)) (decode (a .right .now)) (both c) (a .lindex .now) (a .rindex .now) (walkable .left-index)
-    (walkable .right-index) (inside c)
+    placed (decode (a .left .now)) (decode (a .right .now)) (both c) (a .lindex .now) (a .rindex .now) (walkable .both .left-index)
+    (walkable .both .right-index) (inside c)
 
 left-most : (c : tie.After-unpack Inv-loop μ-loop) → (first-of c ≤ max-arcs) × (last-of c ≤ max-arcs)
 left-most c =
@@ -155,7 +155,7 @@ right-most : (c : tie.After-unpack Inv-loop μ-loop) → to-of c ≤ max-arcs
 right-most c = omega (arith, placed-right (bounds c), good-range (decode (entry c .args .right .now)) (right-good (lent c)) .arcs)
 
 from-is : (c : tie.After-unpack Inv-loop μ-loop) → from-of c ≡ right-from (decode (entry c .args .right .now)) (both c)
-from-is c = entry c .pre .0 .0 .right-index .at-state (both c .right) (omega (arith, inside c .right-in))
+from-is c = entry c .pre .0 .0 .both .right-index .at-state (both c .right) (omega (arith, inside c .right-in))
 
 -- The arcs of the right one.
 leaving : (c : tie.After-unpack Inv-loop μ-loop) → Leaving (decode (entry c .args .right .now)) (both c .right) (from-of c) (to-of c)
@@ -210,7 +210,7 @@ cast-first-any c = omega (arith, parts (placing (c .before)) .1)
 first-any-requires : tie.Need-first-any-requires Inv-loop μ-loop
 first-any-requires c κs =
     let walkable = entry (placing (c .before)) .pre .0 .0 in
-    (walkable .right-open, walkable .right-lookup .headed, walkable .right-lookup .chained, walkable .right-named)
+    (walkable .both .right-open, walkable .right-lookup .headed, walkable .right-lookup .chained, walkable .both .right-named)
 
 mul-i : tie.Need-mul-i Inv-loop μ-loop
 mul-i c = omega (arith, parts (unpacked c) .0)
@@ -225,7 +225,7 @@ only-label-requires : tie.Need-only-label-requires Inv-loop μ-loop
 only-label-requires c κs =
     let k = unpacked (c .before) in
     let p = bounds k in (
-      entry k .pre .0 .0 .right-open,
+      entry k .pre .0 .0 .both .right-open,
       leaving k .rest .order,
       placed-right p,
       placed-left p .0,
@@ -253,8 +253,8 @@ cast-next-run c = omega (arith, parts (state (c .before)) .1)
 next-run-requires : tie.Need-next-run-requires Inv-loop μ-loop
 next-run-requires c κs =
     let walkable = entry (state (c .before)) .pre .0 .0 in (
-      (walkable .left-open, c .loop-test .taken, placed-left (c .before .loop .inv .1) .1),
-      (walkable .right-open, walkable .right-lookup .headed, walkable .right-lookup .chained),
+      (walkable .both .left-open, c .loop-test .taken, placed-left (c .before .loop .inv .1) .1),
+      (walkable .both .right-open, walkable .right-lookup .headed, walkable .right-lookup .chained),
     )
 
 -- The run that begins at the place that `next_run` gave is the next one.
@@ -279,7 +279,7 @@ run-of-requires : tie.Need-run-of-requires Inv-loop μ-loop
 run-of-requires c κs =
     let k = state (head c) in
     let here = begins c (run-at (decode (entry k .args .left .now)) (last-of k) (both k) (c .next-run .result)) refl in
-    (entry k .pre .0 .0 .left-open, here .at-most, here .alone-before, placed-left (bounds k) .1)
+    (entry k .pre .0 .0 .both .left-open, here .at-most, here .alone-before, placed-left (bounds k) .1)
 
 end-of-requires : tie.Need-end-of-requires Inv-loop μ-loop
 end-of-requires c κs = search needs
@@ -300,7 +300,7 @@ take-run-requires c κs =
     let t = head (ended .before .before) in
     let pre = entry (state t) .pre in
     let g = t .loop .inv .0 (pre .1 .1 .0) (pre .1 .1 .1) in (
-      (pre .0 .0 .right-open, pre .0 .0 .right-lookup .repeated, rw (ended .end-of .ensures) (here (ended .before) .ready)),
+      (pre .0 .0 .both .right-open, pre .0 .0 .right-lookup .repeated, rw (ended .end-of .ensures) (here (ended .before) .ready)),
       (g .taking .sofar, g .taking .walked),
     )
 

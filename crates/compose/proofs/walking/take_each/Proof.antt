@@ -45,7 +45,7 @@ abbrev μ-loop : tie.MeasureT-loop
 -- Places to look back to: from the loop's head to the start; from the search to its step and to the loop's head; from a key stored to where there was
 -- room for it; from the step recorded to where the search has ended and to the loop's head; and from the link to the step recorded.
 abbrev start : tie.At-loop Inv-loop2 μ-loop2 Inv-loop μ-loop → tie.Start Inv-loop2 μ-loop2 Inv-loop μ-loop
-start c = c .before .before .before .before .before
+start c = c .before .before .before .before .before .before
 
 abbrev head : tie.After-step-of Inv-loop2 μ-loop2 Inv-loop μ-loop → tie.At-loop Inv-loop2 μ-loop2 Inv-loop μ-loop
 head c = c .before .before
@@ -65,12 +65,12 @@ found c = c .before .before .before
 abbrev turn : tie.After-record-step Inv-loop2 μ-loop2 Inv-loop μ-loop → tie.At-loop Inv-loop2 μ-loop2 Inv-loop μ-loop
 turn c = outer (found c .before)
 
-abbrev put : tie.After-link Inv-loop2 μ-loop2 Inv-loop μ-loop → tie.After-record-step Inv-loop2 μ-loop2 Inv-loop μ-loop
+abbrev put : tie.After-shared-slice-known3 Inv-loop2 μ-loop2 Inv-loop μ-loop → tie.After-record-step Inv-loop2 μ-loop2 Inv-loop μ-loop
 put c = c .before .before .before .before .before
 
 loop-holds : tie.Need-loop-holds Inv-loop2 μ-loop2 Inv-loop μ-loop
 loop-holds c =
-    let s = c .before .before .before .before in
+    let s = c .before .before .before .before .before in
     let a = s .args in (
       λ b k. taking-first (a .source) (run-left (decode (a .right .now)) (a .r) (a .to) (a .from)) k,
       s .pre .0 .2,
@@ -266,7 +266,7 @@ gone-on c k next b was =
 few : (c : tie.At-loop Inv-loop2 μ-loop2 Inv-loop μ-loop) → length (decode (start c .args .right .now) .arcs) ≤ max-arcs
 few c =
     let s = start c in
-    let bytes : Bytes (s .args .right .now) = λ i. omega (arith, c .before .before .before .before .shared-slice-known .given i) in
+    let bytes : Bytes (s .args .right .now) = λ i. omega (arith, c .before .before .before .before .before .shared-slice-known .given i) in
     opened-few (s .args .right .now) bytes (s .args .rfirst) (s .pre .0 .0)
 
 -- There is a right arc at hand.
@@ -281,8 +281,11 @@ in-links c =
 mul-link : tie.Need-mul-link Inv-loop2 μ-loop2 Inv-loop μ-loop
 mul-link c = omega (arith, in-links (c .before .before .before .before))
 
-element-copy-out-link : tie.Need-element-copy-out-link Inv-loop2 μ-loop2 Inv-loop μ-loop
-element-copy-out-link c = in-links (c .before .before .before .before)
+shared-slice-read-link : tie.Need-shared-slice-read-link Inv-loop2 μ-loop2 Inv-loop μ-loop
+shared-slice-read-link c =
+    let w = c .before .before .before .before .before in
+    let t = turn w in
+    omega (arith, below w, t .loop .inv .1 .inside (start t .pre .0 .3), start t .pre .0 .1 .long)
 
 -- The next step is with the arc that the link leads to, and there is none where it leads nowhere.
 last-step : (c : tie.Then4 Inv-loop2 μ-loop2 Inv-loop μ-loop) → let t = turn (put (c .before)) in
@@ -382,7 +385,7 @@ take-each-spec =
     loop2-again
     record-step-requires
     mul-link
-    element-copy-out-link
+    shared-slice-read-link
     cast-link
     same-length-4
     same-length-5

@@ -5,7 +5,7 @@ use Rattle.compose.proofs.walking.take_run.Tie as tie
 
 -- The way back from a place to an earlier one.
 abbrev start : tie.After-slice-known3 → tie.Start
-start c = c .before .before .before .before
+start c = c .before .before .before .before .before
 
 abbrev alone : tie.After-take-one-arg5 → tie.Then1
 alone c = c .before .before .before .before .before

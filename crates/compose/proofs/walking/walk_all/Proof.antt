@@ -36,7 +36,7 @@ abbrev start : tie.After-shared-slice-known2 Inv-loop μ-loop → tie.Start Inv-
 start c = c .before .before
 
 abbrev storing : tie.After-links Inv-loop μ-loop → tie.After-shared-slice-known2 Inv-loop μ-loop
-storing c = c .before .before .before .before .before .before
+storing c = c .before .before .before .before .before .before .before .before
 
 abbrev lent : tie.After-insert Inv-loop μ-loop → tie.After-shared-slice-known2 Inv-loop μ-loop
 lent c = storing (c .before)
@@ -59,11 +59,11 @@ served c = c .before .before .before .before .before .before .before
 -- Both transducers are good ones.
 left-good : (c : tie.After-shared-slice-known2 Inv-loop μ-loop) → Good (decode (start c .args .left .now))
 left-good c =
-    accepted-good (start c .args .left .now) (λ i. omega (arith, c .before .shared-slice-known .given i)) (start c .pre .0 .left-open .accepted)
+    accepted-good (start c .args .left .now) (λ i. omega (arith, c .before .shared-slice-known .given i)) (start c .pre .0 .both .left-open .accepted)
 
 right-good : (c : tie.After-shared-slice-known2 Inv-loop μ-loop) → Good (decode (start c .args .right .now))
 right-good c =
-    accepted-good (start c .args .right .now) (λ i. omega (arith, c .shared-slice-known2 .given i)) (start c .pre .0 .right-open .accepted)
+    accepted-good (start c .args .right .now) (λ i. omega (arith, c .shared-slice-known2 .given i)) (start c .pre .0 .both .right-open .accepted)
 
 -- Keys stand for the states of the composition.
 keying : (c : tie.After-shared-slice-known2 Inv-loop μ-loop)

@@ -21,7 +21,7 @@ abbrev μ-loop : tie.MeasureT-loop
 
 -- Places to look back to.
 abbrev start : tie.In-loop Inv-loop μ-loop → tie.Start Inv-loop μ-loop
-start c = c .before .before .before
+start c = c .before .before .before .before
 
 mul-both : tie.Need-mul-both Inv-loop μ-loop
 mul-both c = search needs
@@ -34,7 +34,7 @@ loop-holds c = λ from leads. along-first leads
 
 -- In a turn: `next` leads to an arc, and its record lies within the bytes.
 is-bytes : (c : tie.In-loop Inv-loop μ-loop) → Bytes (start c .args .right .now)
-is-bytes c = λ i. omega (arith, c .before .before .shared-slice-known .given i)
+is-bytes c = λ i. omega (arith, c .before .before .before .shared-slice-known .given i)
 
 is-arc : (c : tie.In-loop Inv-loop μ-loop) → c .before .loop .next - 1 < length (decode (start c .args .right .now) .arcs)
 is-arc c =
@@ -78,8 +78,11 @@ returns c = λ from leads.
 mul-next : tie.Need-mul-next Inv-loop μ-loop
 mul-next c = omega (arith, few (c .before .before))
 
-element-copy-out-next : tie.Need-element-copy-out-next Inv-loop μ-loop
-element-copy-out-next c = few (c .before .before)
+shared-slice-read-next : tie.Need-shared-slice-read-next Inv-loop μ-loop
+shared-slice-read-next c =
+    let turn = c .before .before .before in
+    let leads = start turn .pre .1 in
+    omega (arith, is-arc turn, leads .1 .chained .long)
 
 loop-less : tie.Need-loop-less Inv-loop μ-loop
 loop-less c =
@@ -115,7 +118,7 @@ along-spec =
     u32-at-requires
     returns
     mul-next
-    element-copy-out-next
+    shared-slice-read-next
     loop-less
     loop-again
     returns-2)

@@ -4,10 +4,10 @@ use Rattle.steps.proofs.lookup.first_any.Statement.{statement}
 use Rattle.steps.proofs.lookup.first_any.Tie as tie
 
 returns : tie.Need-returns
-returns c = λ from leaving. exact-any (c .before .before .pre .3 (c .if1 .taken)) leaving
+returns c = λ from leaving. exact-any (c .before .before .before .pre .3 (c .if1 .taken)) leaving
 
 first-reading-requires : tie.Need-first-reading-requires
-first-reading-requires c κs = let pre = c .before .before .pre in (pre .0, pre .1, pre .2)
+first-reading-requires c κs = let pre = c .before .before .before .pre in (pre .0, pre .1, pre .2)
 
 returns-2 : tie.Need-returns-2
 returns-2 c = c .first-reading .ensures

@@ -10,7 +10,7 @@ use Rattle.steps.proofs.lookup.first_reading.Tie as tie
 
 -- Places to look back to.
 abbrev start : tie.After-label-bucket → tie.Start
-start c = c .before .before
+start c = c .before .before .before
 
 -- The head leads to the chain of the bucket.
 leads : (c : tie.After-label-bucket)

@@ -14,7 +14,7 @@ add-result c = search needs
 
 returns : tie.Need-returns
 unfolding label-bucket
-returns c = let sum = c .args .state * 61 + c .args .label in (and-mask sum 12, mask-lt sum 12)
+returns c = let sum = c .args .state * 61 + c .args .label in (and-mask sum 11, mask-lt sum 11)
 
 pub label-bucket-spec : {M : Type 1} → statement M
 label-bucket-spec = tie.close (tie.spec mul-result add-result returns)

@@ -1,9 +1,10 @@
--- A store loop over the right arcs, from the last to the first. The invariant, `Filling`: the arcs from number `left` on are in the chains.
+-- A store loop over the right arcs, from the last to the first. The invariant, `Filling`: the arcs from number `left` on are in the chains; the arrays
+-- stay as long as they are.
 use borrow.Author.Needs.{needs}
-use mathlib.Core.Path.{_≡_, sym, ap, _∙_}
+use mathlib.Core.Path.{_≡_, refl, sym, ap, _∙_}
 use Prim.Native.Nat.{suc, _-_, _+_, _*_, _≤_, _<_}
 use native.Mathlib.Omega.{arith}
-use lib.ListN.{length, getD}
+use lib.ListN.{length, getD, length-set}
 use Rattle.wire.specs.Bytes.{Bytes, two}
 use Rattle.transducer.specs.Format.{max-arcs, decode}
 use Rattle.transducer.specs.Path.{arc}
@@ -14,45 +15,49 @@ use Rattle.steps.proofs.lookup.put_chains.Statement.{statement}
 use Rattle.steps.proofs.lookup.put_chains.Tie as tie
 
 abbrev Inv-loop : tie.InvT-loop
-Inv-loop right rfirst arcs heads₀ chain₀ again₀ left₀ heads chain again left = Filling (decode right) left heads chain again
+Inv-loop right rfirst arcs heads₀ chain₀ again₀ left₀ heads chain again left =
+    Filling (decode right) left heads chain again × (length chain ≡ length chain₀) × (length again ≡ length again₀)
 
 abbrev μ-loop : tie.MeasureT-loop
 μ-loop right rfirst arcs heads₀ chain₀ again₀ left₀ heads chain again left = left
 
 -- Places to look back to.
 abbrev start : tie.In-loop Inv-loop μ-loop → tie.Start Inv-loop μ-loop
-start c = c .before .before .before
+start c = c .before .before .before .before .before
 
 abbrev turn : tie.After-label-bucket Inv-loop μ-loop → tie.In-loop Inv-loop μ-loop
 turn c = c .before .before .before
 
 -- In a turn: there is an arc of this number, and its record lies within the bytes.
 is-bytes : (c : tie.In-loop Inv-loop μ-loop) → Bytes (start c .args .right .now)
-is-bytes c = λ i. omega (arith, c .before .before .shared-slice-known .given i)
+is-bytes c = λ i. omega (arith, c .before .before .before .before .shared-slice-known .given i)
 
 filled : (c : tie.In-loop Inv-loop μ-loop)
     → Filling (decode (start c .args .right .now)) (suc (c .before .loop .left - 1)) (c .before .loop .heads) (c .before .loop .chain) (c .before .loop .again)
 filled c =
     let is : suc (c .before .loop .left - 1) ≡ c .before .loop .left = omega (arith, c .loop-test .taken) in
-    rw is (c .before .loop .inv)
+    rw is (c .before .loop .inv .0)
 
 is-arc : (c : tie.In-loop Inv-loop μ-loop) → c .before .loop .left - 1 < length (decode (start c .args .right .now) .arcs)
 is-arc c = filled c .within
 
 few : (c : tie.In-loop Inv-loop μ-loop) → c .before .loop .left ≤ max-arcs
-few c = omega (arith, c .before .loop .inv .within, c .before .loop .inv .few)
+few c = omega (arith, c .before .loop .inv .0 .within, c .before .loop .inv .0 .few)
 
 inside : (c : tie.In-loop Inv-loop μ-loop) → start c .args .rfirst + 16 * c .before .loop .left ≤ length (start c .args .right .now)
 inside c =
-    opened-inside (start c .args .right .now) (is-bytes c) (start c .args .rfirst) (start c .pre .0) (c .before .loop .left) (c .before .loop .inv .within)
+    opened-inside (start c .args .right .now) (is-bytes c) (start c .args .rfirst) (start c .pre .0) (c .before .loop .left) (c .before .loop .inv .0 .within)
 
 loop-holds : tie.Need-loop-holds Inv-loop μ-loop
 loop-holds c =
-    let s = c .before in
+    let s = c .before .before .before in
     let a = s .args in
-    let bytes : Bytes (a .right .now) = λ i. omega (arith, c .shared-slice-known .given i) in
-    filling-first (decode (a .right .now)) (a .arcs) (a .heads .now) (a .chain .now) (a .again .now) (s .pre .1)
-    (opened-few (a .right .now) bytes (a .rfirst) (s .pre .0)) (s .pre .2) (s .pre .3) (s .pre .4)
+    let bytes : Bytes (a .right .now) = λ i. omega (arith, c .before .before .shared-slice-known .given i) in (
+      filling-first (decode (a .right .now)) (a .arcs) (a .heads .now) (a .chain .now) (a .again .now) (s .pre .1)
+          (opened-few (a .right .now) bytes (a .rfirst) (s .pre .0)) (s .pre .2) (omega (arith, s .pre .1, s .pre .3)) (omega (arith, s .pre .1, s .pre .4)),
+      refl,
+      refl,
+    )
 
 sub-j : tie.Need-sub-j Inv-loop μ-loop
 sub-j c = omega (arith, c .loop-test .taken)
@@ -119,14 +124,14 @@ along-requires c κs = let k = c .before .before in (start (turn k) .pre .0, (su
 mul-again : tie.Need-mul-again Inv-loop μ-loop
 mul-again c = omega (arith, few (turn (c .before .before .before)))
 
-element-write-again : tie.Need-element-write-again Inv-loop μ-loop
-element-write-again c = omega (arith, few (turn (c .before .before .before)), turn (c .before .before .before) .loop-test .taken)
+slice-write-again : tie.Need-slice-write-again Inv-loop μ-loop
+slice-write-again c = omega (arith, few (turn (c .before .before .before)), turn (c .before .before .before) .loop-test .taken)
 
 mul-chain : tie.Need-mul-chain Inv-loop μ-loop
 mul-chain c = omega (arith, few (turn (c .before .before .before)))
 
-element-write-chain : tie.Need-element-write-chain Inv-loop μ-loop
-element-write-chain c = omega (arith, few (turn (c .before .before .before)), turn (c .before .before .before) .loop-test .taken)
+slice-write-chain : tie.Need-slice-write-chain Inv-loop μ-loop
+slice-write-chain c = omega (arith, few (turn (c .before .before .before)), turn (c .before .before .before) .loop-test .taken)
 
 mul-heads : tie.Need-mul-heads Inv-loop μ-loop
 mul-heads c = omega (arith, c .before .before .before .label-bucket .ensures .1)
@@ -144,12 +149,21 @@ loop-again c =
     let u = decode (start t .args .right .now) in
     let j = t .before .loop .left - 1 in
     let source : arc u j .source ≡ k .before .before .u16-at .result = source-is (k .before .before) in
-    let label : arc u j .input ≡ k .before .u16-at2 .result = label-is (k .before) in
-    filling-next (filled t) (k .label-bucket .result) (t .before .loop .left) (c .along .result) (rw (source, label) (k .label-bucket .ensures .0))
-    (k .label-bucket .ensures .1) (omega (arith, t .loop-test .taken)) (rw (source, label) (c .along .ensures (suc j) (leads k)))
+    let label : arc u j .input ≡ k .before .u16-at2 .result = label-is (k .before) in (
+      filling-next (filled t) (k .label-bucket .result) (t .before .loop .left) (c .along .result) (rw (source, label) (k .label-bucket .ensures .0))
+          (k .label-bucket .ensures .1) (omega (arith, t .loop-test .taken)) (rw (source, label) (c .along .ensures (suc j) (leads k))),
+      length-set (t .before .loop .chain) j _ ∙ t .before .loop .inv .1,
+      length-set (t .before .loop .again) j _ ∙ t .before .loop .inv .2,
+    )
+
+same-length : tie.Need-same-length Inv-loop μ-loop
+same-length c = c .before .loop .inv .1
+
+same-length-2 : tie.Need-same-length-2 Inv-loop μ-loop
+same-length-2 c = c .before .loop .inv .2
 
 returns : tie.Need-returns Inv-loop μ-loop
-returns c = filling-done (omega (arith, c .loop-test .left)) (c .before .loop .inv)
+returns c = filling-done (omega (arith, c .loop-test .left)) (c .before .loop .inv .0)
 
 pub put-chains-spec : {M : Type 1} → statement M
 put-chains-spec =
@@ -171,11 +185,13 @@ put-chains-spec =
     element-copy-out-head
     along-requires
     mul-again
-    element-write-again
+    slice-write-again
     mul-chain
-    element-write-chain
+    slice-write-chain
     mul-heads
     element-write-heads
     loop-less
     loop-again
+    same-length
+    same-length-2
     returns)

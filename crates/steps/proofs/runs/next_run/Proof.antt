@@ -25,7 +25,7 @@ abbrev μ-loop : tie.MeasureT-loop
 
 -- Places to look back to.
 abbrev entry : tie.At-loop Inv-loop μ-loop → tie.Start Inv-loop μ-loop
-entry c = c .before .before .before .before
+entry c = c .before .before .before .before .before
 
 abbrev start : tie.In-loop Inv-loop μ-loop → tie.Start Inv-loop μ-loop
 start c = entry (c .before)
@@ -34,7 +34,7 @@ abbrev turn : tie.After-first-reading Inv-loop μ-loop → tie.In-loop Inv-loop 
 turn c = c .before .before .before
 
 pass-over-requires : tie.Need-pass-over-requires Inv-loop μ-loop
-pass-over-requires c κs = let pre = c .before .before .pre .0 in (pre .0, omega (arith, pre .1), pre .2)
+pass-over-requires c κs = let pre = c .before .before .before .pre .0 in (pre .0, omega (arith, pre .1), pre .2)
 
 loop-holds : tie.Need-loop-holds Inv-loop μ-loop
 loop-holds c = λ from leaving is fit.
@@ -43,7 +43,7 @@ loop-holds c = λ from leaving is fit.
 
 -- In a turn: there is a left arc of this number, and its record lies within the bytes.
 is-bytes : (c : tie.In-loop Inv-loop μ-loop) → Bytes (start c .args .left .now)
-is-bytes c = λ i. omega (arith, c .before .before .before .before .shared-slice-known .given i)
+is-bytes c = λ i. omega (arith, c .before .before .before .before .before .shared-slice-known .given i)
 
 is-arc : (c : tie.In-loop Inv-loop μ-loop) → c .before .loop .k < length (decode (start c .args .left .now) .arcs)
 is-arc c = omega (arith, c .loop-test .taken, start c .pre .0 .2)
