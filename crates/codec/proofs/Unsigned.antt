@@ -17,7 +17,7 @@ use Rattle.transducer.specs.Format.{finals-in, arcs-in, decode, head-good, stat
 use Rattle.transducer.specs.Format.{all-labels-good, weight-good, weight-at, weights-good, first-of, content-refusal, refusal}
 use Rattle.transducer.specs.Weight.{Weight, amount, at-most}
 use Rattle.transducer.proofs.Weights.{weight-as-before}
-use Rattle.codec.specs.Unsigned.{unsigned-at, unsigned-finals, unsigned-arcs, unsigned-decode, unsigned-weights-good, unsigned-refusal, As-before}
+use Rattle.codec.specs.Unsigned.{unsigned-at, unsigned-finals, unsigned-arcs, unsigned-decode, unsigned-weights-good, unsigned-refusal, As-before, Always-as-before}
 
 -- What does not look at weights
 
@@ -261,3 +261,6 @@ module _ (bs : List ℕ) where
         refused = refused;
         refused-by-8 = refused-by-8;
       }
+
+pub always-as-before : Always-as-before
+always-as-before bs = as-before bs

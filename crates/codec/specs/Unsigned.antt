@@ -56,3 +56,7 @@ pub record As-before (bs : List ℕ) : Type 0 where
   pub same : unsigned-refusal bs ≡ 0 → decode bs ≡ unsigned-decode bs
   pub refused : (unsigned-refusal bs ≡ 8 → ⊥) → refusal bs ≡ unsigned-refusal bs
   pub refused-by-8 : unsigned-refusal bs ≡ 8 → refusal bs ≡ cond (weights-good (decode bs)) 0 8
+
+-- What is claimed: this holds of every list of numbers, so of whatever bytes a call is handed. Nothing is assumed.
+abbrev pub Always-as-before : Type 0
+Always-as-before = (bs : List ℕ) → As-before bs
