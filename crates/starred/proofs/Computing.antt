@@ -38,7 +38,7 @@ use Rattle.shortest.specs.Shortest.{nearer-path, better, best-of, best, shortes
 use Rattle.shortest.specs.Entry.{shortest-refusal}
 use Rattle.listing.specs.Code.{labels-in}
 use Rattle.listing.specs.Text.{digits, decimal, cost-text, readings-word, labels-text, line, line-of, lines, counted-text, listing-text}
-use Rattle.listing.specs.Entry.{code-refusal, applied-refusal, text-unless, listing-refusal, text-of}
+use Rattle.listing.specs.Entry.{applied-refusal, text-unless, listing-refusal, text-of}
 use Rattle.starred.specs.Answer.{Case, All-hold, or-refused, built-or-refused, read-answer, write-answer, path-answer, defined}
 
 -- All of them under one name: a proof that says `unfolding definitions` computes with each. The number that it is has no meaning.
@@ -46,15 +46,15 @@ unfoldable pub definitions : ℕ
 unfolding two four low signed-four signed-low places every framed-from framed records-from records kind-good in-order kinds-good weight-at weight-good
     labels-good finals-in arcs-in head-states head-arcs head-finals head-start decode head-good states-good finals-rise sources-stay order-good
     all-labels-good weights-good first-of content-refusal refusal weight-bytes head-record final-record arc-record final-records arc-records encode
-    is-final final-weight arc ends non-empty written-by arcs-cost path-cost by-number each-arc unnamed fits passed named any-refusal or-else
-    arc-fields read-room read-refusal there place met served numbered targets arcs-here arcs-from finals-from steps-from built built-refusal
-    all-origins same-state left-alone right-alone both-step left-steps right-steps steps first-state final-state state-weight composed left-origin
-    right-origin origin-pair origin-pairs compose-room compose-refusal composition-refusal string-good step arc-steps applied same-position applied-steps final-position
-    entered some-arc accessible coaccessible useful arc-useful renumbered moved passing passing-numbers kept-finals trimmed origins-kept lattice
-    lattice-origins apply-room apply-refusal application-refusal before paths-from paths goes-on endless path-count nth-path count-refusal nth-refusal size-of nearer
+    is-final final-weight arc ends non-empty written-by arcs-cost path-cost by-number each-arc unnamed fits passed named any-refusal or-else arc-fields
+    read-room read-refusal there place met served numbered targets arcs-here arcs-from finals-from steps-from built built-refusal all-origins same-state
+    left-alone right-alone both-step left-steps right-steps steps first-state final-state state-weight composed left-origin right-origin origin-pair
+    origin-pairs compose-room compose-refusal composition-refusal string-good step arc-steps applied same-position applied-steps final-position entered
+    some-arc accessible coaccessible useful arc-useful renumbered moved passing passing-numbers kept-finals trimmed origins-kept lattice lattice-origins
+    apply-room apply-refusal application-refusal before paths-from paths goes-on endless path-count nth-path count-refusal nth-refusal size-of nearer
     nearer-path better best-of best shortest some-leaving falls-to falls-round some-below falling-among falling shortest-refusal labels-in digits
-    decimal cost-text readings-word labels-text line line-of lines counted-text listing-text code-refusal applied-refusal text-unless listing-refusal
-    text-of or-refused built-or-refused keeps read-answer write-answer path-answer defined falling-anywhere cost-from lesser least-of least-to-come
+    decimal cost-text readings-word labels-text line line-of lines counted-text listing-text applied-refusal text-unless listing-refusal text-of
+    or-refused built-or-refused keeps read-answer write-answer path-answer defined falling-anywhere cost-from lesser least-of least-to-come
     costs-refusal costs-to-come
 definitions = 0
 
