@@ -20,8 +20,8 @@ COLUMNS = ("the contracts cite", "claims", "only inner")
 # The files that say what is claimed of the calls, by crate; or one definition of a file.
 CLAIMS = {
     "codec": ["RoundTrip", "Unsigned"],
-    "compose": ["Claim"],
-    "lattice": ["Lattice"],
+    "compose": ["Claim", "Composition"],
+    "lattice": ["Lattice", "Application"],
     "least": ["Cycles.Falls"],
     "distance": ["Claim"],
     "shortest": ["Claim", "Agree"],

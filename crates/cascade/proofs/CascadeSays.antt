@@ -13,7 +13,7 @@ use Rattle.wire.proofs.Bool.{by-test}
 use Rattle.wire.proofs.Places.{take-told}
 use Rattle.transducer.specs.declared.Header.{Header}
 use Rattle.transducer.specs.declared.Written.{Written}
-use Rattle.transducer.specs.Format.{max-bytes, max-origins, max-states, head-bytes, Transducer, Good, refusal, decode}
+use Rattle.transducer.specs.Format.{max-arcs, max-bytes, max-origins, max-states, head-bytes, Transducer, Good, refusal, decode}
 use Rattle.transducer.specs.Encode.{encode}
 use Rattle.transducer.specs.Leaf.{header-of}
 use Rattle.transducer.specs.Each.{named, any-refusal}
@@ -33,15 +33,16 @@ use Rattle.steps.specs.declared.State.{State}
 use Rattle.steps.specs.Steps.{same-state, steps, first-state, origin-pair}
 use Rattle.compose.specs.Compose.{final-state, state-weight, composed}
 use Rattle.compose.specs.Entry.{origin-pairs, compose-room, compose-refusal, Compose-says}
+use Rattle.compose.specs.Composition.{Composition}
+use Rattle.compose.proofs.Called.{composable, composed-bytes-are, composed-fits, composition-read, composition-accepted}
 use Rattle.lattice.specs.Apply.{string-good, applied}
-use Rattle.lattice.specs.ApplyEntry.{apply-room, apply-refusal}
+use Rattle.lattice.specs.ApplyEntry.{apply-room, apply-refusal, application-refusal}
+use Rattle.lattice.specs.Application.{Application}
 use Rattle.lattice.specs.Lattice.{lattice, lattice-origins}
+use Rattle.lattice.proofs.Called.{Applied-call, application-of, table-good, appliable, lattice-origins-are}
+use Rattle.lattice.proofs.Called.{applied-fits, applied-read, applied-good, applied-accepted}
 use Rattle.lattice.proofs.LatticeGood.{lattice-plain}
 use Rattle.lattice.proofs.Tracing.{refilled}
-use Rattle.claim.specs.Entry.{application-refusal}
-use Rattle.claim.proofs.Answers.{Composed-well, composed-well, composed-fits, Applied-well, applied-well, applied-fits}
-use Rattle.claim.proofs.HandedOn.{composition-read, composition-accepted, applied-read, applied-good, applied-accepted}
-use Rattle.claim.proofs.ReadingsSays.{Applied-call}
 use Rattle.cascade.specs.Entry.{cascade, cascade-origins, tables-refusal, cascade-refusal, Cascade-says}
 use Rattle.cascade.specs.Tracing.{left-traced, Unapplied}
 use Rattle.cascade.proofs.Tracing.{length-left-traced, left-traced-filled}
@@ -179,8 +180,8 @@ module _ (xs ys cs a b c : List ℕ) (n : ℕ) (unapplied : Unapplied xs cs n) w
           says-zeroed (encode (cascade xs ys cs)) (cascade-origins xs ys cs) number n r a a a' b b b' c c c' is (l .high) (l .low) refl refl refl cleared
 
 -- What is not written does not matter to a refusal.
-refused-alike : (bytes traced bytes' traced' : List ℕ) (n : ℕ) (r : Written) (a a' b b' c c' : List ℕ) → (n ≡ 0 → ⊥) → Built-says bytes traced n r a a' b b' c c'
-    → Built-says bytes' traced' n r a a' b b' c c'
+refused-alike : (bytes traced bytes' traced' : List ℕ) (n : ℕ) (r : Written) (a a' b b' c c' : List ℕ) → (n ≡ 0 → ⊥)
+    → Built-says bytes traced n r a a' b b' c c' → Built-says bytes' traced' n r a a' b b' c c'
 unfolding left-behind
 refused-alike bytes traced bytes' traced' n r a a' b b' c c' bad says =
     record {
@@ -209,7 +210,13 @@ module _ {xs cs : List ℕ} (bytes-xs : Bytes xs) {put : Written} {d d' e e' f f
     (applying : Applied-call cs xs put d d' e e' f f') where
   put-number : put .refusal ≡ or-else (refusal xs) (application-refusal cs (decode xs))
   unfolding apply-refusal apply-room application-refusal or-else
-  put-number = applying .says .refusal-is ∙ (rw (applying .lattice-room, applying .origins-room, applying .pairs-room))
+  put-number =
+      applying .says .refusal-is
+      ∙ (rw (
+        le-ltb (length d) max-bytes (applying .lattice-room),
+        le-ltb (length e) max-arcs (applying .origins-room),
+        le-ltb (length f) max-states (applying .pairs-room),
+      ))
 
   pub not-applied : (put .refusal ≡ 0 → ⊥) → Unapplied xs cs (put .refusal)
   not-applied bad = record { is = put-number; some = bad }
@@ -218,21 +225,21 @@ module _ {xs cs : List ℕ} (bytes-xs : Bytes xs) {put : Written} {d d' e e' f f
     abbrev ws : List ℕ
     ws = take (put .len) d'
 
-    put-well : Applied-well cs xs ws e'
-    put-well = applied-well cs xs put d d' e e' f f' (applying .says) fine
+    abbrev put-well : Application cs xs
+    put-well = application-of applying fine
 
     pub put-fits : put .len ≤ length d'
-    put-fits = applied-fits cs xs put d d' e e' f f' (applying .says) fine
+    put-fits = applied-fits put-well
 
     good-xs : Good (decode xs)
-    good-xs = accepted-good xs bytes-xs (put-well .table-good)
+    good-xs = accepted-good xs bytes-xs (table-good put-well)
 
     read : decode ws ≡ lattice cs (decode xs)
     read = applied-read good-xs put-well
 
     -- 18 never holds of a lattice.
     all-named : named (lattice cs (decode xs)) ≡ true
-    all-named = plain-named (lattice cs (decode xs)) (lattice-plain cs (decode xs) good-xs (put-well .string))
+    all-named = plain-named (lattice cs (decode xs)) (lattice-plain cs (decode xs) good-xs (appliable put-well .string))
 
     module _ (ys : List ℕ) (bytes-ys : Bytes ys) {made : Written} {a a' b b' c c' : List ℕ}
         (composing : Compose-says ws ys (compose-refusal ws ys (length a) (length b) (length c)) made a a' b b' c c') where
@@ -242,7 +249,7 @@ module _ {xs cs : List ℕ} (bytes-xs : Bytes xs) {put : Written} {d d' e e' f f
       -- The refusals left are those of composing.
       same-number : compose-refusal ws ys (length a) (length b) (length c) ≡ told
       unfolding compose-refusal cascade-refusal tables-refusal any-refusal or-else
-      same-number = rw (applied-accepted good-xs put-well, read, all-named, put-well .table-good, put-well .string, put-well .fine)
+      same-number = rw (applied-accepted good-xs put-well, read, all-named, table-good put-well, appliable put-well .string, appliable put-well .fine)
 
       abbrev os : List ℕ
       os = origin-pairs (composed (lattice cs (decode xs)) (decode ys) .steps)
@@ -259,20 +266,31 @@ module _ {xs cs : List ℕ} (bytes-xs : Bytes xs) {put : Written} {d d' e e' f f
         abbrev zs : List ℕ
         zs = take (made .len) a'
 
-        pub made-fits : made .len ≤ length a'
-        made-fits = composed-fits ws ys made a a' b b' c c' composing well
+        abbrev made-well : Composition ws ys
+        made-well =
+            record {
+              answer = made;
+              table = a;
+              table-left = a';
+              origins = b;
+              origins-left = b';
+              states = c;
+              states-left = c';
+              says = composing;
+              well = well;
+            }
 
-        made-well : Composed-well ws ys zs b'
-        made-well = composed-well ws ys made a a' b b' c c' composing well
+        pub made-fits : made .len ≤ length a'
+        made-fits = composed-fits made-well
 
         good-ys : Good (decode ys)
-        good-ys = accepted-good ys bytes-ys (made-well .right-good)
+        good-ys = accepted-good ys bytes-ys (composable made-well .right-good)
 
         accepted : refusal zs ≡ 0
         accepted = composition-accepted (applied-good good-xs put-well) good-ys made-well
 
         bytes-zs : Bytes zs
-        bytes-zs = rw (made-well .bytes) (bytes-encode (composed (decode ws) (decode ys) .result))
+        bytes-zs = rw (composed-bytes-are made-well) (bytes-encode (composed (decode ws) (decode ys) .result))
 
         in-bytes : decode zs ≡ cascade xs ys cs
         in-bytes = composition-read (applied-good good-xs put-well) good-ys made-well ∙ ap (λ (t : Transducer). composed t (decode ys) .result) read
@@ -304,8 +322,8 @@ module _ {xs cs : List ℕ} (bytes-xs : Bytes xs) {put : Written} {d d' e e' f f
               let origins-are : b'' ≡ filled (length b) (left-traced ls os) =
               traced
               ∙ ap (λ (l : List ℕ). sets b' 0 (left-traced e' l)) (take-told (2 * head .arcs) (length b) os b' many left)
-              ∙ ap (λ (l : List ℕ). sets b' 0 (left-traced l os)) (put-well .origins)
-              ∙ ap (λ (l : List ℕ). sets b' 0 l) (left-traced-filled (put-well .room) ls os)
+              ∙ ap (λ (l : List ℕ). sets b' 0 (left-traced l os)) (lattice-origins-are put-well)
+              ∙ ap (λ (l : List ℕ). sets b' 0 l) (left-traced-filled (length e) ls os)
               ∙ ap (λ (l : List ℕ). sets l 0 (left-traced ls os)) left
               ∙ refilled (length b) os (left-traced ls os) (length-left-traced ls os) in
               record {

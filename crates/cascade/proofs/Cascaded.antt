@@ -1,18 +1,18 @@
 -- What is claimed of a cascade holds of the call with the table, and of applying and composing called one after the other; and if composing first is not
 -- refused either, both orders agree. Assumes nothing.
-use mathlib.Core.Path.{_≡_, refl, sym, ap, _∙_}
+use mathlib.Core.Path.{_≡_, refl, sym, ap, subst, _∙_}
 use mathlib.Core.Bool.{true, cond}
-use mathlib.Core.List.{List, append-nil}
+use mathlib.Core.List.{List}
 use Prim.Native.Nat.{ℕ, _-_, _*_, _≤_}
 use native.Mathlib.Omega.{arith}
-use lib.ListN.{length, replicate, length-append}
+use lib.ListN.{length, replicate, length-append, length-replicate}
 use Rattle.wire.specs.Bytes.{Bytes, filled}
 use Rattle.wire.proofs.Bool.{passed-last}
 use Rattle.wire.proofs.Places.{take-told}
-use Rattle.transducer.specs.Format.{Transducer, Good, max-arcs, barred, refusal, decode}
+use Rattle.transducer.specs.Format.{Transducer, Good, max-states, max-arcs, max-bytes, max-origins, barred, refusal, decode}
 use Rattle.transducer.specs.Encode.{encode}
 use Rattle.transducer.specs.Path.{accepts}
-use Rattle.transducer.specs.Each.{named, plain}
+use Rattle.transducer.specs.Each.{named, any-refusal, plain}
 use Rattle.transducer.specs.Entry.{or-else}
 use Rattle.transducer.proofs.Answers.{or-else-none, unless-none}
 use Rattle.transducer.proofs.Fits.{named-plain, plain-named}
@@ -23,24 +23,25 @@ use Rattle.explore.specs.Explore.{built-refusal}
 use Rattle.explore.proofs.LeftBehind.{behind-written}
 use Rattle.compose.specs.Claim.{Two-paths, met-at}
 use Rattle.compose.specs.Compose.{composed}
-use Rattle.compose.specs.Entry.{origin-pairs, compose-room}
+use Rattle.compose.specs.Entry.{origin-pairs, compose-room, composition-refusal}
+use Rattle.compose.specs.Composition.{composed-bytes}
+use Rattle.compose.proofs.Called.{composable, composed-bytes-are, composed-origins-are, some-composition}
+use Rattle.compose.proofs.Called.{composition-read, composition-good, composition-plain, composition-accepted, composition-pairs}
 use Rattle.compose.proofs.MetPaths.{met-filled}
 use Rattle.trim.specs.Trim.{through}
 use Rattle.lattice.specs.Apply.{string-good, applied}
+use Rattle.lattice.specs.ApplyEntry.{application-refusal}
+use Rattle.lattice.specs.Application.{Application, lattice-bytes}
 use Rattle.lattice.specs.Lattice.{lattice, lattice-origins}
-use Rattle.lattice.proofs.LatticeGood.{lattice-plain, refusal-lattice, decode-lattice}
-use Rattle.claim.specs.Kind.{Paths-are}
-use Rattle.claim.specs.Claim.{Pairs}
-use Rattle.claim.proofs.Answers.{Composed-well, Applied-well}
-use Rattle.claim.proofs.Chain.{chain-pairs}
-use Rattle.claim.proofs.HandedOn.{composition-read, composition-good, composition-plain, composition-accepted, composition-pairs}
-use Rattle.claim.proofs.HandedOn.{applied-good, applied-accepted, applied-reads}
-use Rattle.claim.proofs.Listing.{lists}
-use Rattle.compose.specs.Composition.{composed-bytes}
-use Rattle.lattice.specs.Application.{lattice-bytes}
+use Rattle.lattice.proofs.Called.{Appliable, table-good, lattice-origins-are, some-application, applied-read, applied-good, applied-accepted, applied-reads}
+use Rattle.lattice.proofs.LatticeGood.{lattice-plain}
+use Rattle.lattice.proofs.LatticeLaw.{through-filled}
 use Rattle.claim.specs.Agree.{Holds}
-use Rattle.associate.proofs.Associated.{composing, applying}
+use Rattle.claim.specs.Claim.{Pairs}
+use Rattle.claim.specs.Kind.{Paths-are}
 use Rattle.claim.proofs.Agreeing.{holds, agree}
+use Rattle.claim.proofs.Chain.{chain-pairs}
+use Rattle.claim.proofs.Listing.{lists}
 use Rattle.cascade.specs.Pairs.{Fitting-pairs, Same-pairs}
 use Rattle.cascade.specs.Tracing.{left-traced}
 use Rattle.cascade.specs.Entry.{cascade, cascade-origins, tables-refusal, cascade-refusal}
@@ -50,11 +51,6 @@ use Rattle.cascade.proofs.Pairs.{fitting-paths, same-pairs, paths-pairs
 use Rattle.cascade.proofs.Tracing.{path-below, met-traced-left, met-traced-right}
 use Rattle.cascade.proofs.CascadeSays.{length-composed-origins}
 
--- A buffer of length 0 is filled with all that is written.
-filled-none : (l : List ℕ) → l ≡ filled 0 l
-unfolding filled
-filled-none l = let e : 0 - length l ≡ 0 = omega arith in rw e (sym (append-nil l))
-
 -- If the left transducer was accepted and has no arc for any symbol, the pairs are those of `claim`.
 plain-left : (xs : List ℕ) → Bytes xs → refusal xs ≡ 0 → named (decode xs) ≡ true → plain (decode xs) ≡ true
 plain-left xs bytes ok all = named-plain (decode xs) (good-tests (decode xs) (accepted-good xs bytes ok) .labels) all
@@ -63,80 +59,125 @@ pub pairs-same : (left right string : List ℕ) → Bytes left → refusal left 
     → Same-pairs left right string x
 pairs-same left right string bytes ok all = same-pairs left right string (plain-left left bytes ok all)
 
--- A string applied and the lattice composed: ws are the bytes of the lattice and ls its origins, zs the bytes of the result and os its origins.
-module _ {left right string ws ls zs os : List ℕ} (left-bytes : Bytes left) (right-bytes : Bytes right) (put : Applied-well string left ws ls)
-    (made : Composed-well ws right zs os) where
-  good-left : Good (decode left)
-  good-left = accepted-good left left-bytes (put .table-good)
-
-  good-right : Good (decode right)
-  good-right = accepted-good right right-bytes (made .right-good)
-
-  good-lattice : Good (decode ws)
-  good-lattice = applied-good good-left put
-
-  pub good-result : Good (decode zs)
-  good-result = composition-good good-lattice good-right made
-
-  pub plain-result : plain (decode zs) ≡ true
-  plain-result = composition-plain good-lattice good-right made
-
-  pub accepted-result : refusal zs ≡ 0
-  accepted-result = composition-accepted good-lattice good-right made
-
-  paths : Paths-are (Fitting-pairs left right string) (decode zs) (to-fitting ls os)
-  paths =
-      fitting-paths left right string (decode ws) (decode zs) ls os (applied-reads good-left put) (composition-pairs good-lattice good-right made)
-
-  -- Where each path leads, told in any other way.
-  module _ (to : List ℕ → Two-paths) (same : (p : List ℕ) → accepts (decode zs) p ≡ true → to p ≡ to-fitting ls os p) where
-    pub paths-by : Paths-are (Fitting-pairs left right string) (decode zs) to
-    paths-by = paths-same (Fitting-pairs left right string) (decode zs) (to-fitting ls os) to paths same
-
-    claim-by : Claim left right string zs to
-    claim-by =
-        record {
-          holds = holds (Fitting-pairs left right string) zs to accepted-result good-result paths-by;
-          lists = λ n t.
-              lists (Fitting-pairs left right string) zs to accepted-result (good-within (decode zs) good-result) paths-by (n .answer) (n .says) t;
-        }
-
-    -- Both orders
-    agree-by : (d : Chained left right string) → Agrees zs to d
-    agree-by d =
-        let first : Composed-well left right (composed-bytes (d .composing)) (d .composing .origins-left) = composing (d .composing) in
-        let good-composed : Good (decode (composed-bytes (d .composing))) = composition-good good-left good-right first in
-        let none : plain (decode left) ≡ true = plain-left left left-bytes (first .left-good) (first .left-named) in
-        let chained : Holds (Pairs left right string) (chained-bytes d) (chained-leads d) =
-        holds (Pairs left right string) (chained-bytes d) (chained-leads d) (applied-accepted good-composed (applying (d .applying)))
-        (applied-good good-composed (applying (d .applying)))
-        (chain-pairs left right string (decode (composed-bytes (d .composing))) (decode (chained-bytes d)) (d .composing .origins-left)
-        (d .applying .origins-left) (composition-pairs good-left good-right first) (composition-plain good-left good-right first)
-        (applied-reads good-composed (applying (d .applying)))) in
-        agree (Pairs left right string) zs (chained-bytes d) to (chained-leads d)
-        (holds (Pairs left right string) zs to accepted-result good-result (paths-pairs left right string none (decode zs) to paths-by)) chained
-
-  -- By the left origins traced to the left transducer.
-  traced-same : (p : List ℕ) → accepts (decode zs) p ≡ true → length os ≡ 2 * length (decode zs .arcs)
-      → _≡_ {A = Two-paths} (record { left = met-at (left-traced ls os) 0 p; right = met-at (left-traced ls os) 1 p }) (to-fitting ls os p)
-  unfolding to-fitting
-  traced-same p h long =
-      let met = composition-pairs good-lattice good-right made .leads p h .pair .left-accepts in
-      let reads = applied-reads good-left put .leads (met-at os 0 p) met in
-      same-two (record { left = met-at (left-traced ls os) 0 p; right = met-at (left-traced ls os) 1 p }) (to-fitting ls os p)
-      (met-traced-left ls os (length (decode zs .arcs)) p (omega (arith, long)) (path-below (decode zs) (length (decode zs .arcs)) p h (omega arith))
-      (path-below (decode ws) max-arcs (met-at os 0 p) met (good-range (decode ws) good-lattice .arcs))
-      (path-below (decode left) barred (through ls (met-at os 0 p)) (reads .accepting) (omega (arith, good-range (decode left) good-left .arcs))))
-      (met-traced-right ls os p)
+-- Where a path leads by two origins for each arc.
+abbrev pub by-origins : (origins path : List ℕ) → Two-paths
+by-origins origins p = record { left = met-at origins 0 p; right = met-at origins 1 p }
 
 -- Applying and composing, called one after the other
 
 module _ {left right string : List ℕ} (c : Two-calls left right string) where
+  abbrev ws : List ℕ
+  ws = lattice-bytes (c .applying)
+
+  good-left : Good (decode left)
+  good-left = accepted-good left (c .left-bytes) (table-good (c .applying))
+
+  good-right : Good (decode right)
+  good-right = accepted-good right (c .right-bytes) (composable (c .composing) .right-good)
+
+  good-lattice : Good (decode ws)
+  good-lattice = applied-good good-left (c .applying)
+
+  read-lattice : decode ws ≡ lattice string (decode left)
+  read-lattice = applied-read good-left (c .applying)
+
+  read-composed : decode (two-calls-bytes c) ≡ composed (decode ws) (decode right) .result
+  read-composed = composition-read good-lattice good-right (c .composing)
+
+  read-result : decode (two-calls-bytes c) ≡ cascade left right string
+  read-result = read-composed ∙ ap (λ (t : Transducer). composed t (decode right) .result) read-lattice
+
+  bytes-result : two-calls-bytes c ≡ encode (cascade left right string)
+  bytes-result =
+      composed-bytes-are (c .composing) ∙ ap (λ (t : Transducer). encode (composed t (decode right) .result)) read-lattice
+
+  good-result : Good (decode (two-calls-bytes c))
+  good-result = composition-good good-lattice good-right (c .composing)
+
+  plain-result : plain (decode (two-calls-bytes c)) ≡ true
+  plain-result = composition-plain good-lattice good-right (c .composing)
+
+  accepted-result : refusal (two-calls-bytes c) ≡ 0
+  accepted-result = composition-accepted good-lattice good-right (c .composing)
+
+  paths : Paths-are (Fitting-pairs left right string) (decode (two-calls-bytes c)) (two-calls-leads c)
+  paths =
+      fitting-paths left right string (decode ws) (decode (two-calls-bytes c)) (c .applying .origins-left) (c .composing .origins-left)
+      (applied-reads good-left (c .applying)) (composition-pairs good-lattice good-right (c .composing))
+
+  -- Where each path leads, told in any other way.
+  module _ (to : List ℕ → Two-paths) (same : (p : List ℕ) → accepts (decode (two-calls-bytes c)) p ≡ true → to p ≡ two-calls-leads c p) where
+    paths-by : Paths-are (Fitting-pairs left right string) (decode (two-calls-bytes c)) to
+    paths-by = paths-same (Fitting-pairs left right string) (decode (two-calls-bytes c)) (two-calls-leads c) to paths same
+
+    claim-by : Claim left right string (two-calls-bytes c) to
+    claim-by =
+        record {
+          holds = holds (Fitting-pairs left right string) (two-calls-bytes c) to accepted-result good-result paths-by;
+          lists = λ n t.
+              lists (Fitting-pairs left right string) (two-calls-bytes c) to accepted-result (good-within (decode (two-calls-bytes c)) good-result) paths-by
+              (n .answer) (n .says) t;
+        }
+
+    -- Both orders
+    agree-by : (d : Chained left right string) → Agrees (two-calls-bytes c) to d
+    agree-by d =
+        let first = composable (d .composing) in
+        let good-composed : Good (decode (composed-bytes (d .composing))) = composition-good good-left good-right (d .composing) in
+        let none : plain (decode left) ≡ true = plain-left left (c .left-bytes) (first .left-good) (first .left-named) in
+        let chained : Holds (Pairs left right string) (chained-bytes d) (chained-leads d) =
+        holds (Pairs left right string) (chained-bytes d) (chained-leads d) (applied-accepted good-composed (d .applying))
+        (applied-good good-composed (d .applying))
+        (chain-pairs left right string (decode (composed-bytes (d .composing))) (decode (chained-bytes d)) (d .composing .origins-left)
+        (d .applying .origins-left) (composition-pairs good-left good-right (d .composing)) (composition-plain good-left good-right (d .composing))
+        (applied-reads good-composed (d .applying))) in
+        agree (Pairs left right string) (two-calls-bytes c) (chained-bytes d) to (chained-leads d)
+        (holds (Pairs left right string) (two-calls-bytes c) to accepted-result good-result
+        (paths-pairs left right string none (decode (two-calls-bytes c)) to paths-by)) chained
+
   pub two-calls-claim : Claim left right string (two-calls-bytes c) (two-calls-leads c)
-  two-calls-claim = claim-by (c .left-bytes) (c .right-bytes) (applying (c .applying)) (composing (c .composing)) (two-calls-leads c) (λ p h. refl)
+  two-calls-claim = claim-by (two-calls-leads c) (λ p h. refl)
 
   pub two-calls-agree : (d : Chained left right string) → Agrees (two-calls-bytes c) (two-calls-leads c) d
-  two-calls-agree = agree-by (c .left-bytes) (c .right-bytes) (applying (c .applying)) (composing (c .composing)) (two-calls-leads c) (λ p h. refl)
+  two-calls-agree = agree-by (two-calls-leads c) (λ p h. refl)
+
+  -- By the left origins traced to the left transducer: ls and os are the origins without the zeros behind them.
+  abbrev ls : List ℕ
+  ls = lattice-origins string (decode left)
+
+  abbrev os : List ℕ
+  os = origin-pairs (composed (decode ws) (decode right) .steps)
+
+  through-same : (p : List ℕ) → through (c .applying .origins-left) p ≡ through ls p
+  through-same p = ap (λ (l : List ℕ). through l p) (lattice-origins-are (c .applying)) ∙ through-filled (length (c .applying .origins)) ls p
+
+  met-same : (side : ℕ) (p : List ℕ) → met-at (c .composing .origins-left) side p ≡ met-at os side p
+  met-same side p =
+      ap (λ (l : List ℕ). met-at l side p) (composed-origins-are (c .composing)) ∙ met-filled (length (c .composing .origins)) os side p
+
+  traced-is : cascade-origins left right string ≡ left-traced ls os
+  unfolding cascade-origins
+  traced-is = ap (λ (t : Transducer). left-traced ls (origin-pairs (composed t (decode right) .steps))) (sym read-lattice)
+
+  traced-same : (p : List ℕ) → accepts (decode (two-calls-bytes c)) p ≡ true → by-origins (cascade-origins left right string) p ≡ two-calls-leads c p
+  unfolding to-fitting
+  traced-same p h =
+      let n : ℕ = length (decode (two-calls-bytes c) .arcs) in
+      let long : length os ≡ 2 * n =
+      length-composed-origins (decode ws) (decode right) ∙ ap (λ (t : Transducer). 2 * length (t .arcs)) (sym read-composed) in
+      let met : accepts (decode ws) (met-at os 0 p) ≡ true =
+      rw (met-same 0 p) at (composition-pairs good-lattice good-right (c .composing) .leads p h .pair .left-accepts) in
+      let reads : accepts (decode left) (through ls (met-at os 0 p)) ≡ true =
+      rw (through-same (met-at os 0 p)) at (applied-reads good-left (c .applying) .leads (met-at os 0 p) met .accepting) in
+      let traced : (side : ℕ) → met-at (cascade-origins left right string) side p ≡ met-at (left-traced ls os) side p =
+      λ side. ap (λ (l : List ℕ). met-at l side p) traced-is in
+      same-two (by-origins (cascade-origins left right string) p) (two-calls-leads c p)
+      (traced 0
+      ∙ met-traced-left ls os n p (omega (arith, long)) (path-below (decode (two-calls-bytes c)) n p h (omega arith))
+      (path-below (decode ws) max-arcs (met-at os 0 p) met (good-range (decode ws) good-lattice .arcs))
+      (path-below (decode left) barred (through ls (met-at os 0 p)) reads (omega (arith, good-range (decode left) good-left .arcs)))
+      ∙ sym (through-same (met-at os 0 p)) ∙ ap (through (c .applying .origins-left)) (sym (met-same 0 p)))
+      (traced 1 ∙ met-traced-right ls os p ∙ sym (met-same 1 p))
 
 -- The result
 
@@ -144,8 +185,7 @@ module _ {left right string : List ℕ} (c : Two-calls left right string) where
 pub record Passed (left right string : List ℕ) : Type 0 where
   pub left-accepted : refusal left ≡ 0
   pub right-accepted : refusal right ≡ 0
-  pub string-fine : string-good string ≡ true
-  pub lattice-fine : built-refusal (applied string (decode left) .result) ≡ 0
+  pub appliable : Appliable string (decode left)
   pub result-fine : built-refusal (cascade left right string) ≡ 0
 
 pub passed : (left right string : List ℕ) (a b c : ℕ) → cascade-refusal left right string a b c ≡ 0 → Passed left right string
@@ -161,92 +201,71 @@ passed left right string a b c none =
     record {
       left-accepted = both .0;
       right-accepted = both .1;
-      string-fine = passed-last (string-good string) 8 (two .0);
-      lattice-fine = four .0;
+      appliable = record { string = passed-last (string-good string) 8 (two .0); fine = four .0 };
       result-fine = four .1;
     }
 
--- Where a path leads by two origins for each arc.
-abbrev pub by-origins : (origins path : List ℕ) → Two-paths
-by-origins origins p = record { left = met-at origins 0 p; right = met-at origins 1 p }
-
--- The bytes of the result are zs, and os' leads where its origins do.
-module _ {left right string : List ℕ} (left-bytes : Bytes left) (right-bytes : Bytes right) (fine : Passed left right string) (zs os' : List ℕ)
-    (bytes-are : zs ≡ encode (cascade left right string))
-    (leads-as : (side : ℕ) (p : List ℕ) → met-at os' side p ≡ met-at (cascade-origins left right string) side p) where
-  abbrev ws : List ℕ
-  ws = encode (lattice string (decode left))
-
-  abbrev ls : List ℕ
-  ls = lattice-origins string (decode left)
-
-  abbrev os : List ℕ
-  os = origin-pairs (composed (decode ws) (decode right) .steps)
-
-  left-good : Good (decode left)
-  left-good = accepted-good left left-bytes (fine .left-accepted)
-
-  -- The lattice reads back as itself.
-  same : decode ws ≡ lattice string (decode left)
-  same = decode-lattice string (decode left) left-good (fine .string-fine) (fine .lattice-fine)
-
-  put : Applied-well string left ws ls
+-- Applying and composing are then not refused either, in buffers of the least lengths.
+module _ {left right string : List ℕ} (left-bytes : Bytes left) (right-bytes : Bytes right) (fine : Passed left right string) where
+  put : Application string left
+  unfolding application-refusal or-else
   put =
+      some-application (replicate max-bytes 0) (replicate max-arcs 0) (replicate max-states 0) (omega (arith, length-replicate {A = ℕ} max-bytes 0))
+      (omega (arith, length-replicate {A = ℕ} max-arcs 0)) (omega (arith, length-replicate {A = ℕ} max-states 0)) string left (fine .left-accepted)
+      (rw (fine .appliable .string, fine .appliable .fine))
+
+  composes : composition-refusal (lattice-bytes put) right ≡ 0
+  unfolding composition-refusal any-refusal or-else
+  composes =
+      let good : Good (decode left) = accepted-good left left-bytes (fine .left-accepted) in
+      let all : named (lattice string (decode left)) ≡ true =
+      plain-named (lattice string (decode left)) (lattice-plain string (decode left) good (fine .appliable .string)) in
+      rw (applied-accepted good put, applied-read good put, all, fine .right-accepted)
+      (ap (λ (t : Transducer). built-refusal (composed t (decode right) .result)) (applied-read good put) ∙ fine .result-fine)
+
+  call : Two-calls left right string
+  call =
       record {
-        table-good = fine .left-accepted;
-        string = fine .string-fine;
-        fine = fine .lattice-fine;
-        bytes = refl;
-        room = 0;
-        origins = filled-none ls;
+        left-bytes = left-bytes;
+        right-bytes = right-bytes;
+        applying = put;
+        composing =
+            some-composition (replicate max-bytes 0) (replicate max-origins 0) (replicate max-states 0) (omega (arith, length-replicate {A = ℕ} max-bytes 0))
+            (omega (arith, length-replicate {A = ℕ} max-origins 0)) (omega (arith, length-replicate {A = ℕ} max-states 0)) (lattice-bytes put) right composes;
       }
 
-  made : Composed-well ws right zs os
-  made =
-      record {
-        left-good = refusal-lattice string (decode left) left-good (fine .string-fine) (fine .lattice-fine);
-        left-named = rw same (plain-named (lattice string (decode left)) (lattice-plain string (decode left) left-good (fine .string-fine)));
-        right-good = fine .right-accepted;
-        fine = rw same (fine .result-fine);
-        bytes = bytes-are ∙ ap (λ (t : Transducer). encode (composed t (decode right) .result)) (sym same);
-        room = 0;
-        origins = filled-none os;
-      }
+  -- The bytes of the result are zs, and os' leads where its origins do.
+  module _ (zs os' : List ℕ) (bytes-are : zs ≡ encode (cascade left right string))
+      (leads-as : (side : ℕ) (p : List ℕ) → met-at os' side p ≡ met-at (cascade-origins left right string) side p) where
+    are : two-calls-bytes call ≡ zs
+    are = bytes-result call ∙ sym bytes-are
 
-  composed-read : decode zs ≡ composed (decode ws) (decode right) .result
-  composed-read = composition-read (applied-good left-good put) (accepted-good right right-bytes (fine .right-accepted)) made
+    leads-same : (p : List ℕ) → accepts (decode (two-calls-bytes call)) p ≡ true → by-origins os' p ≡ two-calls-leads call p
+    leads-same p h =
+        same-two (by-origins os' p) (by-origins (cascade-origins left right string) p) (leads-as 0 p) (leads-as 1 p) ∙ traced-same call p h
 
-  result-read : decode zs ≡ cascade left right string
-  result-read = composed-read ∙ ap (λ (t : Transducer). composed t (decode right) .result) same
+    by-claim : Claim left right string zs (by-origins os')
+    by-claim = subst (λ (bs : List ℕ). Claim left right string bs (by-origins os')) are (claim-by call (by-origins os') leads-same)
 
-  origins-are : cascade-origins left right string ≡ left-traced ls os
-  unfolding cascade-origins
-  origins-are = ap (λ (t : Transducer). left-traced ls (origin-pairs (composed t (decode right) .steps))) (sym same)
+    by-agree : (d : Chained left right string) → Agrees zs (by-origins os') d
+    by-agree d = subst (λ (bs : List ℕ). Agrees bs (by-origins os') d) are (agree-by call (by-origins os') leads-same d)
 
-  leads-same : (p : List ℕ) → accepts (decode zs) p ≡ true → by-origins os' p ≡ to-fitting ls os p
-  leads-same p h =
-      let met : (side : ℕ) → met-at os' side p ≡ met-at (left-traced ls os) side p = λ side. leads-as side p ∙ ap (λ (l : List ℕ). met-at l side p) origins-are in
-      let long : length os ≡ 2 * length (decode zs .arcs) =
-      length-composed-origins (decode ws) (decode right) ∙ ap (λ (t : Transducer). 2 * length (t .arcs)) (sym composed-read) in
-      same-two (by-origins os' p) (by-origins (left-traced ls os) p) (met 0) (met 1) ∙ traced-same left-bytes right-bytes put made p h long
+    by-paths : Paths-are (Fitting-pairs left right string) (decode zs) (by-origins os')
+    by-paths =
+        subst (λ (bs : List ℕ). Paths-are (Fitting-pairs left right string) (decode bs) (by-origins os')) are
+        (paths-by call (by-origins os') leads-same)
 
-  by-claim : Claim left right string zs (by-origins os')
-  by-claim = claim-by left-bytes right-bytes put made (by-origins os') leads-same
+    by-good : Good (decode zs)
+    by-good = subst (λ (bs : List ℕ). Good (decode bs)) are (good-result call)
 
-  by-agree : (d : Chained left right string) → Agrees zs (by-origins os') d
-  by-agree = agree-by left-bytes right-bytes put made (by-origins os') leads-same
+    by-plain : plain (decode zs) ≡ true
+    by-plain = subst (λ (bs : List ℕ). plain (decode bs) ≡ true) are (plain-result call)
 
-  by-paths : Paths-are (Fitting-pairs left right string) (decode zs) (by-origins os')
-  by-paths = paths-by left-bytes right-bytes put made (by-origins os') leads-same
+    by-accepted : refusal zs ≡ 0
+    by-accepted = subst (λ (bs : List ℕ). refusal bs ≡ 0) are (accepted-result call)
 
-  by-good : Good (decode zs)
-  by-good = good-result left-bytes right-bytes put made
-
-  by-plain : plain (decode zs) ≡ true
-  by-plain = plain-result left-bytes right-bytes put made
-
-  by-accepted : refusal zs ≡ 0
-  by-accepted = accepted-result left-bytes right-bytes put made
+    result-read : decode zs ≡ cascade left right string
+    result-read = subst (λ (bs : List ℕ). decode bs ≡ cascade left right string) are (read-result call)
 
 -- The result by its definition
 module _ {left right string : List ℕ} (left-bytes : Bytes left) (right-bytes : Bytes right) (fine : Passed left right string) where

@@ -14,17 +14,17 @@ use Rattle.transducer.proofs.Fits.{plain-named}
 use Rattle.transducer.proofs.RoundTrip.{accepted-good}
 use Rattle.explore.specs.Explore.{built-refusal}
 use Rattle.compose.specs.Compose.{composed}
-use Rattle.compose.specs.Entry.{compose-room, compose-refusal}
-use Rattle.lattice.specs.ApplyEntry.{apply-room, apply-refusal}
+use Rattle.compose.specs.Entry.{composition-refusal}
+use Rattle.compose.specs.Composition.{Composition}
+use Rattle.compose.proofs.Called.{Composed-call, composed-number, composition-of, composed-fits, composition-read, composition-accepted}
+use Rattle.lattice.specs.ApplyEntry.{application-refusal}
+use Rattle.lattice.specs.Application.{Application}
 use Rattle.lattice.specs.Lattice.{lattice}
+use Rattle.lattice.proofs.Called.{Applied-call, applied-number, application-of, appliable, applied-fits, applied-read, applied-good, applied-accepted}
 use Rattle.lattice.proofs.LatticeGood.{lattice-plain}
 use Rattle.paths.specs.declared.Counted.{Counted}
 use Rattle.paths.specs.Count.{endless, path-count}
 use Rattle.paths.specs.Entry.{count-refusal, Count-says}
-use Rattle.claim.specs.Entry.{application-refusal}
-use Rattle.claim.proofs.Answers.{composed-well, composed-fits, Applied-well, applied-well, applied-fits}
-use Rattle.claim.proofs.HandedOn.{composition-read, composition-accepted, applied-read, applied-good, applied-accepted}
-use Rattle.claim.proofs.ReadingsSays.{Composed-call, Applied-call}
 use Rattle.cascade.specs.Cascade.{Two-calls}
 use Rattle.cascade.specs.Entry.{cascade, tables-refusal, result-refusal, cascade-count-refusal, Cascade-count-says}
 use Rattle.cascade.proofs.Cascaded.{two-calls-claim}
@@ -75,8 +75,7 @@ module _ (xs ys cs : List ℕ) where
       ws = take (put .len) d'
 
       put-number : put .refusal ≡ application-refusal cs (decode xs)
-      unfolding apply-refusal apply-room application-refusal or-else
-      put-number = applying .says .refusal-is ∙ (rw (applying .lattice-room, applying .origins-room, applying .pairs-room, both .0))
+      put-number = applied-number applying (both .0)
 
       pub says-unapplied : (put .refusal ≡ 0 → ⊥) → Cascade-count-says xs ys cs (record { refusal = put .refusal; count = 0 })
       says-unapplied bad =
@@ -86,11 +85,11 @@ module _ (xs ys cs : List ℕ) where
           bad
 
       module _ (fine : put .refusal ≡ 0) where
-        put-well : Applied-well cs xs ws e'
-        put-well = applied-well cs xs put d d' e e' f f' (applying .says) fine
+        abbrev put-well : Application cs xs
+        put-well = application-of applying fine
 
         pub put-fits : put .len ≤ length d'
-        put-fits = applied-fits cs xs put d d' e e' f f' (applying .says) fine
+        put-fits = applied-fits put-well
 
         good-ws : Good (decode ws)
         good-ws = applied-good good-xs put-well
@@ -100,16 +99,17 @@ module _ (xs ys cs : List ℕ) where
 
         -- 18 never holds of a lattice.
         all-named : named (lattice cs (decode xs)) ≡ true
-        all-named = plain-named (lattice cs (decode xs)) (lattice-plain cs (decode xs) good-xs (put-well .string))
+        all-named = plain-named (lattice cs (decode xs)) (lattice-plain cs (decode xs) good-xs (appliable put-well .string))
 
         -- The composition's answer
 
         module _ {made : Written} {a a' b b' c c' : List ℕ} (composing : Composed-call ws ys made a a' b b' c c') where
           made-number : made .refusal ≡ built-refusal (cascade xs ys cs)
-          unfolding compose-refusal compose-room any-refusal or-else
+          unfolding composition-refusal any-refusal or-else
           made-number =
-              composing .says .refusal-is
-              ∙ (rw (composing .table-room, composing .origins-room, composing .states-room, applied-accepted good-xs put-well, both .1, read, all-named))
+              composed-number composing
+              ∙ (rw (applied-accepted good-xs put-well, both .1, read, all-named)
+              (ap (λ (t : Transducer). built-refusal (composed t (decode ys) .result)) read))
 
           number-last : result-refusal xs ys cs ≡ built-refusal (cascade xs ys cs)
           number-last =
@@ -119,47 +119,21 @@ module _ (xs ys cs : List ℕ) where
           says-uncomposed bad = says-refused xs ys cs (made .refusal) (number-last ∙ sym made-number) bad
 
           module _ (well : made .refusal ≡ 0) where
+            abbrev made-well : Composition ws ys
+            made-well = composition-of composing well
+
             pub made-fits : made .len ≤ length a'
-            made-fits = composed-fits ws ys made a a' b b' c c' (composing .says) well
+            made-fits = composed-fits made-well
 
             -- The count's answer
 
             called : Two-calls xs ys cs
-            called =
-                record {
-                  left-bytes = bytes-xs;
-                  right-bytes = bytes-ys;
-                  applying =
-                      record {
-                        answer = put;
-                        lattice = d;
-                        lattice-left = d';
-                        origins = e;
-                        origins-left = e';
-                        pairs = f;
-                        pairs-left = f';
-                        says = applying .says;
-                        well = fine;
-                      };
-                  composing =
-                      record {
-                        answer = made;
-                        table = a;
-                        table-left = a';
-                        origins = b;
-                        origins-left = b';
-                        states = c;
-                        states-left = c';
-                        says = composing .says;
-                        well = well;
-                      };
-                }
+            called = record { left-bytes = bytes-xs; right-bytes = bytes-ys; applying = put-well; composing = made-well }
 
             pub says-counted : (r : Counted) → Count-says (take (made .len) a') (count-refusal (take (made .len) a')) r → Cascade-count-says xs ys cs r
             unfolding count-refusal cascade-count-refusal called
             says-counted r counting =
                 let zs : List ℕ = take (made .len) a' in
-                let made-well = composed-well ws ys made a a' b b' c c' (composing .says) well in
                 let in-bytes : decode zs ≡ cascade xs ys cs =
                 composition-read good-ws good-ys made-well ∙ ap (λ (t : Transducer). composed t (decode ys) .result) read in
                 let number : count-refusal zs ≡ cascade-count-refusal xs ys cs =

@@ -18,14 +18,15 @@ use Rattle.compose.specs.Claim.{met-at, Two-paths, One-to-one}
 use Rattle.compose.specs.Claim.{Stands-for as Composed-stands}
 use Rattle.claim.specs.Kind.{Stands-for, Paths-are}
 use Rattle.claim.proofs.Chain.{lattice-paths}
-use Rattle.claim.proofs.HandedOn.{composition-good, composition-plain, composition-accepted, composition-pairs, applied-good, applied-accepted, applied-reads}
 use Rattle.claim.proofs.Listing.{lists}
 use Rattle.compose.specs.Composition.{composed-bytes}
+use Rattle.compose.proofs.Called.{composable, composition-good, composition-plain, composition-accepted, composition-pairs}
 use Rattle.lattice.specs.Application.{Application, lattice-bytes}
+use Rattle.lattice.proofs.Called.{applied-good, applied-accepted, applied-reads}
 use Rattle.claim.specs.Agree.{Holds}
 use Rattle.associate.specs.Associate.{Three-paths, Triple-of, Triples, Triples-of, to-triple-left}
 use Rattle.associate.specs.Associate.{Brackets, left-result, right-result, left-leads, right-leads}
-use Rattle.associate.proofs.Associated.{composing, applying, associates}
+use Rattle.associate.proofs.Associated.{associates}
 use Rattle.claim.proofs.Agreeing.{holds, agree}
 use Rattle.cascade.specs.Pairs.{Fitting-pairs}
 use Rattle.cascade.specs.Cascade.{cascaded-bytes}
@@ -148,18 +149,18 @@ module _ {left middle right string : List ℕ} (c : Three-cascaded left middle r
   good-inner = cascaded-good (c .cascading)
 
   good-right : Good (decode right)
-  good-right = accepted-good right (c .right-bytes) (composing (c .composing) .right-good)
+  good-right = accepted-good right (c .right-bytes) (composable (c .composing) .right-good)
 
   good-three : Good (decode (three-bytes c))
-  good-three = composition-good good-inner good-right (composing (c .composing))
+  good-three = composition-good good-inner good-right (c .composing)
 
   accepted : refusal (three-bytes c) ≡ 0
-  accepted = composition-accepted good-inner good-right (composing (c .composing))
+  accepted = composition-accepted good-inner good-right (c .composing)
 
   paths : Paths-are (Fitting-triples left middle right string) (decode (three-bytes c)) (three-leads c)
   paths =
       triple-paths left middle right string (decode (cascaded-bytes (c .cascading))) (decode (three-bytes c)) (c .cascading .origins-left)
-      (c .composing .origins-left) (cascaded-paths (c .cascading)) (composition-pairs good-inner good-right (composing (c .composing)))
+      (c .composing .origins-left) (cascaded-paths (c .cascading)) (composition-pairs good-inner good-right (c .composing))
 
   pub three-claim : Three-claim c
   three-claim =
@@ -173,25 +174,26 @@ module _ {left middle right string : List ℕ} (c : Three-cascaded left middle r
   -- Either bracket
   module _ (r : Brackets left middle right) where
     good-a : Good (decode left)
-    good-a = accepted-good left (r .a-bytes) (composing (r .ab) .left-good)
+    good-a = accepted-good left (r .a-bytes) (composable (r .ab) .left-good)
 
     good-b : Good (decode middle)
-    good-b = accepted-good middle (r .b-bytes) (composing (r .ab) .right-good)
+    good-b = accepted-good middle (r .b-bytes) (composable (r .ab) .right-good)
 
     good-c : Good (decode right)
-    good-c = accepted-good right (r .c-bytes) (composing (r .bc) .right-good)
+    good-c = accepted-good right (r .c-bytes) (composable (r .bc) .right-good)
 
     good-ab : Good (decode (composed-bytes (r .ab)))
-    good-ab = composition-good good-a good-b (composing (r .ab))
+    good-ab = composition-good good-a good-b (r .ab)
 
     good-bc : Good (decode (composed-bytes (r .bc)))
-    good-bc = composition-good good-b good-c (composing (r .bc))
+    good-bc = composition-good good-b good-c (r .bc)
 
     here : Holds (Triples-of (decode left) (decode middle) (decode right) string) (three-bytes c) (three-leads c)
     here =
         holds (Triples-of (decode left) (decode middle) (decode right) string) (three-bytes c) (three-leads c) accepted good-three
-        (paths-triples left middle right string (named-plain (decode left) (good-tests (decode left) good-a .labels) (composing (r .ab) .left-named))
-        (named-plain (decode middle) (good-tests (decode middle) good-b .labels) (composing (r .bc) .left-named)) (decode (three-bytes c)) (three-leads c) paths)
+        (paths-triples left middle right string (named-plain (decode left) (good-tests (decode left) good-a .labels) (composable (r .ab) .left-named))
+        (named-plain (decode middle) (good-tests (decode middle) good-b .labels) (composable (r .bc) .left-named))
+        (decode (three-bytes c)) (three-leads c) paths)
 
     -- The lattice of a bracket: its paths are the triples of the string.
     applied-holds : (zs : List ℕ) (x : Application string zs) (to : List ℕ → Three-paths) → Good (decode zs) → plain (decode zs) ≡ true
@@ -199,10 +201,10 @@ module _ {left middle right string : List ℕ} (c : Three-cascaded left middle r
         → Holds (Triples-of (decode left) (decode middle) (decode right) string) (lattice-bytes x) (λ p. to (through (x .origins-left) p))
     applied-holds zs x to good none are =
         holds (Triples-of (decode left) (decode middle) (decode right) string) (lattice-bytes x) (λ p. to (through (x .origins-left) p))
-        (applied-accepted good (applying x)) (applied-good good (applying x))
+        (applied-accepted good x) (applied-good good x)
         (lattice-paths (Triples (decode left) (decode middle) (decode right)) (Triple-of (decode left) (decode middle) (decode right) string) string
         (λ y t h. record { triple = t; reads = h }) (λ y t. (t .triple, t .reads)) (decode zs) (decode (lattice-bytes x)) (x .origins-left) to are none
-        (applied-reads good (applying x)))
+        (applied-reads good x))
 
     pub three-agree : Three-agree c r
     three-agree =
@@ -210,11 +212,11 @@ module _ {left middle right string : List ℕ} (c : Three-cascaded left middle r
           with-left = λ x.
               agree (Triples-of (decode left) (decode middle) (decode right) string) (three-bytes c) (lattice-bytes x) (three-leads c)
               (λ p. left-leads r (through (x .origins-left) p)) here
-              (applied-holds (left-result r) x (left-leads r) (composition-good good-ab good-c (composing (r .ab-c)))
-              (composition-plain good-ab good-c (composing (r .ab-c))) (associates r .left-holds .paths));
+              (applied-holds (left-result r) x (left-leads r) (composition-good good-ab good-c (r .ab-c))
+              (composition-plain good-ab good-c (r .ab-c)) (associates r .left-holds .paths));
           with-right = λ x.
               agree (Triples-of (decode left) (decode middle) (decode right) string) (three-bytes c) (lattice-bytes x) (three-leads c)
               (λ p. right-leads r (through (x .origins-left) p)) here
-              (applied-holds (right-result r) x (right-leads r) (composition-good good-a good-bc (composing (r .a-bc)))
-              (composition-plain good-a good-bc (composing (r .a-bc))) (associates r .right-holds .paths));
+              (applied-holds (right-result r) x (right-leads r) (composition-good good-a good-bc (r .a-bc))
+              (composition-plain good-a good-bc (r .a-bc)) (associates r .right-holds .paths));
         }

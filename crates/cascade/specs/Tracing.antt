@@ -7,7 +7,7 @@ use lib.Dec.{ltb}
 use lib.ListN.{getD}
 use Rattle.transducer.specs.Format.{max-arcs, refusal, decode}
 use Rattle.transducer.specs.Entry.{or-else}
-use Rattle.claim.specs.Entry.{application-refusal}
+use Rattle.lattice.specs.ApplyEntry.{application-refusal}
 
 -- The origin of an arc of the lattice. The number of an arc is below 3,072; 65,535, if the left side stood still, stays.
 unfoldable pub traced : (lattice-origins : List ℕ) → (origin : ℕ) → ℕ

@@ -1,45 +1,33 @@
 -- What is claimed of the printed text of a cascade holds of any call that was answered as its contract says. Assumes nothing.
 use mathlib.Core.Path.{_≡_, sym, _∙_}
-use mathlib.Core.Bool.{Bool, _&&_, cond}
 use mathlib.Core.List.{List}
-use Prim.Native.Nat.{ℕ, _%_}
-use lib.Dec.{eqb}
+use Prim.Native.Nat.{ℕ}
 use lib.ListN.{length}
-use Rattle.wire.proofs.Bool.{and-true, passed-last}
 use Rattle.wire.proofs.Places.{take-filled}
 use Rattle.transducer.specs.Format.{refusal, decode}
 use Rattle.transducer.specs.Entry.{or-else, unless, left-in}
 use Rattle.transducer.proofs.Answers.{or-else-none}
 use Rattle.transducer.proofs.Runs.{good-within}
 use Rattle.explore.specs.Explore.{built-refusal}
-use Rattle.lattice.specs.Apply.{string-good, applied}
 use Rattle.cascade.specs.Pairs.{Fitting-pairs}
 use Rattle.cascade.specs.Entry.{cascade, tables-refusal}
 use Rattle.cascade.proofs.Cascaded.{Passed, cascade-good, cascade-paths}
 use Rattle.listing.specs.Code.{labels-in}
-use Rattle.listing.specs.Entry.{code-refusal, text-room}
+use Rattle.listing.specs.Entry.{applied-refusal, text-room}
+use Rattle.listing.proofs.Steps.{applied-fine}
 use Rattle.printed.proofs.PrintedText.{printed-text}
 use Rattle.cascade_listing.specs.Entry.{cascade-listing-refusal, cascade-text, Cascade-listing-says}
 use Rattle.cascade_listing.specs.PrintedCascade.{Printing, printed, leads-to, Printed}
 
 -- Nothing was refused.
 listing-passed : (xs ys cs : List ℕ) → cascade-listing-refusal xs ys cs ≡ 0 → Passed xs ys (labels-in cs)
-unfolding cascade-listing-refusal tables-refusal code-refusal
+unfolding cascade-listing-refusal tables-refusal
 listing-passed xs ys cs none =
-    let good : Bool = eqb (length cs % 2) 0 && string-good (labels-in cs) in
-    let built : ℕ = built-refusal (applied (labels-in cs) (decode xs) .result) in
     let last : ℕ = built-refusal (cascade xs ys (labels-in cs)) in
-    let one = or-else-none (or-else (refusal xs) (refusal ys)) (or-else (cond good 0 9) (or-else built last)) none in
+    let one = or-else-none (or-else (refusal xs) (refusal ys)) (or-else (applied-refusal (decode xs) cs) last) none in
     let both = or-else-none (refusal xs) (refusal ys) (one .0) in
-    let two = or-else-none (cond good 0 9) (or-else built last) (one .1) in
-    let three = or-else-none built last (two .1) in
-    record {
-      left-accepted = both .0;
-      right-accepted = both .1;
-      string-fine = and-true (eqb (length cs % 2) 0) (string-good (labels-in cs)) (passed-last good 8 (two .0)) .1;
-      lattice-fine = three .0;
-      result-fine = three .1;
-    }
+    let two = or-else-none (applied-refusal (decode xs) cs) last (one .1) in
+    record { left-accepted = both .0; right-accepted = both .1; appliable = applied-fine (decode xs) cs (two .0); result-fine = two .1 }
 
 module _ {left right code : List ℕ} (c : Printing left right code) where
   -- What is printed is the text of the definitions.

@@ -15,13 +15,14 @@ use Rattle.transducer.specs.Entry.{or-else, unless, left-in}
 use Rattle.transducer.proofs.Answers.{some-or-else, none-or-else}
 use Rattle.compose.specs.Entry.{compose-room}
 use Rattle.lattice.specs.Apply.{string-good}
+use Rattle.lattice.specs.ApplyEntry.{application-refusal}
 use Rattle.cascade.specs.Entry.{cascade, tables-refusal, cascade-refusal, Cascade-says}
 use Rattle.cascade.specs.Cascade.{Cascaded}
 use Rattle.cascade.proofs.Cascaded.{passed, cascaded-fits, cascaded-accepted, cascaded-read}
 use Rattle.listing.specs.declared.Listed.{Listed}
 use Rattle.listing.specs.Code.{labels-in, most-loaded}
 use Rattle.listing.specs.Text.{listing-text, refused-text, least-room, Whole}
-use Rattle.listing.specs.Entry.{code-refusal, text-unless, text-room}
+use Rattle.listing.specs.Entry.{applied-refusal, text-unless, text-room}
 use Rattle.listing.proofs.Steps.{front, text-refused, text-kept, good-whole, taken-good}
 use Rattle.cascade_listing.specs.Entry.{cascade-listing-refusal, cascade-text, Cascade-listing-says}
 
@@ -49,7 +50,7 @@ nine-last a n is none p =
 pub odd-refused : {out out' : List ℕ} {w : Listed} (xs ys cs : List ℕ) → (length cs % 2 ≡ 0 → ⊥)
     → Whole out out' w (or-else (tables-refusal xs ys) 9) (refused-text (or-else (tables-refusal xs ys) 9))
     → Whole out out' w (cascade-listing-refusal xs ys cs) (cascade-text xs ys cs)
-unfolding cascade-text cascade-listing-refusal code-refusal or-else
+unfolding cascade-text cascade-listing-refusal applied-refusal or-else
 odd-refused xs ys cs odd p =
     text-refused (cascade-listing-refusal xs ys cs) (or-else (tables-refusal xs ys) 9) (listing-text (cascade xs ys (labels-in cs)))
     (rw (ne-eqb (length cs % 2) 0 odd)) (some-other (tables-refusal xs ys) 9 (λ z. omega arith)) p
@@ -69,7 +70,7 @@ pub record Calling (xs ys cs s : List ℕ) (r : Written) (a a' b b' c c' : List 
 
 same-number : (xs ys cs s : List ℕ) → length cs % 2 ≡ 0 → s ≡ take most-loaded (labels-in cs)
     → cascade-refusal xs ys s max-bytes max-origins max-states ≡ cascade-listing-refusal xs ys cs
-unfolding cascade-refusal cascade-listing-refusal code-refusal compose-room or-else
+unfolding cascade-refusal cascade-listing-refusal applied-refusal application-refusal compose-room or-else
 same-number xs ys cs s even e =
     by-test (string-good (labels-in cs)) (λ g. rw (e, good-whole (labels-in cs) g, g, eq-eqb (length cs % 2) 0 even))
     (λ g. rw (e, taken-good (labels-in cs), g, eq-eqb (length cs % 2) 0 even))
@@ -111,7 +112,7 @@ module _ {xs ys cs s : List ℕ} {r : Written} {a a' b b' c c' : List ℕ} (x : 
     whole : s ≡ labels-in cs
     whole =
         let good : string-good s ≡ true =
-        passed xs ys s (length a) (length b) (length c) (sym (x .says .refusal-is) ∙ fine) .string-fine in
+        passed xs ys s (length a) (length b) (length c) (sym (x .says .refusal-is) ∙ fine) .appliable .string in
         x .string ∙ good-whole (labels-in cs) (sym (taken-good (labels-in cs)) ∙ ap string-good (sym (x .string)) ∙ good)
 
     pub call-listed : {out out' : List ℕ} {w : Listed} → Whole out out' w 0 (listing-text (decode (take (r .len) a')))

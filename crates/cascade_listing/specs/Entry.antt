@@ -6,18 +6,16 @@ use lib.ListN.{length}
 use Rattle.transducer.specs.Format.{decode}
 use Rattle.transducer.specs.Entry.{or-else, unless, left-in}
 use Rattle.explore.specs.Explore.{built-refusal}
-use Rattle.lattice.specs.Apply.{applied}
 use Rattle.cascade.specs.Entry.{cascade, tables-refusal}
 use Rattle.listing.specs.declared.Listed.{Listed}
 use Rattle.listing.specs.Code.{labels-in}
 use Rattle.listing.specs.Text.{listing-text}
-use Rattle.listing.specs.Entry.{code-refusal, text-unless}
+use Rattle.listing.specs.Entry.{applied-refusal, text-unless}
 
 -- 1 to 8 of the left transducer, then of the right one, 9 for the code, 11 and 12 for the lattice, then 11 to 13 for the composition.
 unfoldable pub cascade-listing-refusal : (left right code : List ℕ) → ℕ
 cascade-listing-refusal xs ys cs =
-    or-else (tables-refusal xs ys)
-    (or-else (code-refusal cs) (or-else (built-refusal (applied (labels-in cs) (decode xs) .result)) (built-refusal (cascade xs ys (labels-in cs)))))
+    or-else (tables-refusal xs ys) (or-else (applied-refusal (decode xs) cs) (built-refusal (cascade xs ys (labels-in cs))))
 
 -- The text: the listing of the result, or the one line of a refusal.
 unfoldable pub cascade-text : (left right code : List ℕ) → List ℕ

@@ -8,7 +8,7 @@ use lib.ListN.{length, take, replicate, length-replicate}
 use lib.Seq.{length-take-le}
 use Rattle.wire.specs.Bytes.{Bytes}
 use Rattle.transducer.specs.Format.{max-arcs, max-bytes, max-states}
-use Rattle.claim.proofs.ReadingsSays.{Applied-call}
+use Rattle.lattice.proofs.Called.{Applied-call}
 use Rattle.cascade.proofs.CascadeSays.{not-applied, put-fits, says-uncomposed, made-fits, head-fits, origins-fit, says-traced}
 use Rattle.cascade.proofs.cascade.Statement.{statement}
 use Rattle.cascade.proofs.cascade.Tie as tie
@@ -74,9 +74,9 @@ apply-said : (c : tie.After-apply)
     (replicate max-states 0) (c .apply .last .1 .1 .1 .1 .0)
 apply-said c =
     record {
-      lattice-room = length-replicate {A = ℕ} max-bytes 0;
-      origins-room = length-replicate {A = ℕ} max-arcs 0;
-      pairs-room = length-replicate {A = ℕ} max-states 0;
+      lattice-room = omega (arith, length-replicate {A = ℕ} max-bytes 0);
+      origins-room = omega (arith, length-replicate {A = ℕ} max-arcs 0);
+      pairs-room = omega (arith, length-replicate {A = ℕ} max-states 0);
       says = c .apply .ensures;
     }
 
@@ -118,7 +118,8 @@ returns : tie.Need-returns
 returns c =
     let refused = at-refused c in
     let put = refused-by refused in
-    c .before .before .before .before .before .before .unapplied .ensures (left put) (string put) (not-applied (left-bytes put) (apply-said put) (refused .if1 .taken))
+    c .before .before .before .before .before .before .unapplied .ensures (left put) (string put)
+    (not-applied (left-bytes put) (apply-said put) (refused .if1 .taken))
 
 cast-len : tie.Need-cast-len
 cast-len c = search needs
@@ -176,8 +177,8 @@ trace-left-requires c κs =
     let fine = composed at in
     let made = composing fine in
     let put = applied (passed made) in
-    origins-fit (left-bytes put) (apply-said put) (passed made .if1 .left) (right put) (right-bytes put) (made .compose .ensures) (fine .if2 .left) (at .header .result)
-    (at .header .ensures)
+    origins-fit (left-bytes put) (apply-said put) (passed made .if1 .left) (right put) (right-bytes put) (made .compose .ensures) (fine .if2 .left)
+    (at .header .result) (at .header .ensures)
 
 same-length-7 : tie.Need-same-length-7
 same-length-7 c = search needs
@@ -195,8 +196,8 @@ returns-3 c =
     let fine = composed at in
     let made = composing fine in
     let put = applied (passed made) in
-    says-traced (left-bytes put) (apply-said put) (passed made .if1 .left) (right put) (right-bytes put) (made .compose .ensures) (fine .if2 .left) (at .header .result)
-    (at .header .ensures) _ (last .trace-left .ensures)
+    says-traced (left-bytes put) (apply-said put) (passed made .if1 .left) (right put) (right-bytes put) (made .compose .ensures) (fine .if2 .left)
+    (at .header .result) (at .header .ensures) _ (last .trace-left .ensures)
 
 pub cascade-spec : {M : Type 1} → statement M
 cascade-spec =

@@ -8,7 +8,8 @@ use lib.ListN.{length, take, replicate, length-replicate}
 use lib.Seq.{length-take-le}
 use Rattle.wire.specs.Bytes.{Bytes}
 use Rattle.transducer.specs.Format.{max-arcs, max-bytes, max-origins, max-states}
-use Rattle.claim.proofs.ReadingsSays.{Composed-call, Applied-call}
+use Rattle.compose.proofs.Called.{Composed-call}
+use Rattle.lattice.proofs.Called.{Applied-call}
 use Rattle.cascade.specs.Entry.{tables-refusal}
 use Rattle.cascade.proofs.ReadingsSays.{says-unaccepted, says-unapplied, put-fits, says-uncomposed, made-fits, says-counted}
 use Rattle.cascade.proofs.readings.Statement.{statement}
@@ -73,9 +74,9 @@ apply-said : (c : tie.After-apply)
     (c .apply .last .1 .1 .1 .0) (replicate max-states 0) (c .apply .last .1 .1 .1 .1 .0)
 apply-said c =
     record {
-      lattice-room = length-replicate {A = ℕ} max-bytes 0;
-      origins-room = length-replicate {A = ℕ} max-arcs 0;
-      pairs-room = length-replicate {A = ℕ} max-states 0;
+      lattice-room = omega (arith, length-replicate {A = ℕ} max-bytes 0);
+      origins-room = omega (arith, length-replicate {A = ℕ} max-arcs 0);
+      pairs-room = omega (arith, length-replicate {A = ℕ} max-states 0);
       says = c .apply .ensures;
     }
 
@@ -85,9 +86,9 @@ compose-said : (c : tie.After-compose)
     (c .compose .last .1 .1 .1 .0) (replicate max-states 0) (c .compose .last .1 .1 .1 .1 .0)
 compose-said c =
     record {
-      table-room = length-replicate {A = ℕ} max-bytes 0;
-      origins-room = length-replicate {A = ℕ} max-origins 0;
-      states-room = length-replicate {A = ℕ} max-states 0;
+      table-room = omega (arith, length-replicate {A = ℕ} max-bytes 0);
+      origins-room = omega (arith, length-replicate {A = ℕ} max-origins 0);
+      states-room = omega (arith, length-replicate {A = ℕ} max-states 0);
       says = c .compose .ensures;
     }
 
