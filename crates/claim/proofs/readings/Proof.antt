@@ -101,7 +101,7 @@ slice-aggregate-count-string-4 c = search needs
 
 count-string-requires : tie.Need-count-string-requires
 count-string-requires c κs =
-    let else1 = c .before .before in
+    let else1 = c .before .before .before .before .before in
     record {
       table = record { accepted = table-accepted else1; all-named = λ e. table-named else1 };
       lattice-long = omega (arith, length-replicate {A = ℕ} max-bytes 0);
