@@ -23,7 +23,7 @@ FAULTS = [
     ("the whole buffer handed on", "triples/main.rs", "fn written",
      "table[..length as usize].to_vec()", "{ let _ = length; table }"),
     ("the middle table's cost left out", "triples/brute.rs", "", "x.cost + y.cost + z.cost", "x.cost + z.cost"),
-    ("brackets' inner origins mixed up", "triples/main.rs", "fn brackets", "[x, y, origin(&ab_c.origins, i, 1)]", "[y, x, origin(&ab_c.origins, i, 1)]"),
+    ("brackets' inner origins mixed up", "triples/main.rs", "fn two_and_one", "[x, y, origin(&ab_c.origins, i, 1)]", "[y, x, origin(&ab_c.origins, i, 1)]"),
     ("both sides rest freely", "second/model.rs", "pub fn join", "if mark == 0 {", "if mark <= 1 {"),
     ("left steps barred after a step of both", "second/model.rs", "pub fn join",
      "let to = (a.target, b.target, 0);", "let to = (a.target, b.target, mark);"),
