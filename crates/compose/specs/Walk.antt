@@ -33,7 +33,7 @@ pub record Both-indexed (left : List ℕ) (lfirst : ℕ) (lindex right : List �
   pub right-index : Indexed (decode right) rindex
   pub right-named : exact ≡ true → named (decode right) ≡ true
 
--- And the look-up of the right one's arcs.
+-- Both of them with the look-up of the right one's arcs.
 pub record Walkable (left : List ℕ) (lfirst : ℕ) (lindex right : List ℕ) (rfirst : ℕ) (rindex : List ℕ)
     (heads chain again : List ℕ) (exact : Bool) : Type 0 where
   pub both : Both-indexed left lfirst lindex right rfirst rindex exact

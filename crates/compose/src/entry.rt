@@ -28,7 +28,7 @@ use transducer::MAX_ORIGINS;
 use transducer::MAX_STATES;
 use transducer::Written;
 
-// So many right arcs are few: their chains stand in small arrays.
+// The largest number of right arcs whose chains stand in small arrays.
 const FEW_ARCS: usize = 128;
 
 // What an attempt to compose has come to: an answer, or that it is to be done again, with room for more finals.
@@ -184,7 +184,7 @@ fn walk_behind(
     )
 }
 
-// Puts the right arcs in chains, which takes arrays of as many cells, and walks.
+// Puts the right arcs in chains, in arrays that have a cell for each of them, and walks.
 fn walk_chained(
     left: &[u8],
     lfirst: usize,
@@ -231,7 +231,7 @@ fn walk_chained(
     )
 }
 
-// Walks with chains in small arrays if there are few right arcs: to clear the large ones takes longer than all else that small tables ask for.
+// Walks with the chains in small arrays if there are few right arcs: clearing the large ones takes longer than everything else that small tables ask for.
 fn walk_indexed(
     left: &[u8],
     lfirst: usize,

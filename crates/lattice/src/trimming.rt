@@ -7,7 +7,7 @@ ghost use Rattle.trim.specs.Parts.{Trims};
 ghost use Rattle.lattice.specs.Applying.{Trimmable};
 use transducer::MAX_BYTES;
 
-// A lattice of so many bytes is small: it is copied into a small array, since to clear a large one takes longer than all else that it asks for.
+// The largest number of bytes that are copied into a small array: clearing a large one takes longer than everything else that a small lattice asks for.
 const FEW_BYTES: usize = 4096;
 
 // Copies the bytes that stand from a place on to the front of another buffer.

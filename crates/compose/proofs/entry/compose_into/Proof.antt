@@ -49,7 +49,8 @@ returns c =
     let pre = entry s .pre .0 in
     let kept = into .compose-with-room .kept .1 .1 .1 .1 in
     let said = whole .compose-with-room2 .ensures in
-    says-same _ _ (λ i. omega (arith, s .before .before .before .before .before .before .before .before .shared-slice-known .given i)) (λ i. omega (arith, s .before .before .before .before .before .before .before .shared-slice-known2 .given i))
+    let lent = s .before .before .before .before .before .before .before in
+    says-same _ _ (λ i. omega (arith, lent .before .shared-slice-known .given i)) (λ i. omega (arith, lent .shared-slice-known2 .given i))
     (pre .left-accepted) (pre .left-named) (pre .right-accepted) _ _ _ _ _ _ _ _ _ _ (kept .0) (kept .1 .0) (kept .1 .1 .0)
     (said .says (said .enough (omega arith)))
 

@@ -180,7 +180,9 @@ put-codes-requires : tie.Need-put-codes-requires
 put-codes-requires c κs = let o = opened (walked (c .before)) in (entry (lent o) .pre .accepted, head-is o .finals-are, refl)
 
 cast-close : tie.Need-cast-close
-cast-close c = let start = entry (lent (opened (walked (c .before .before .before)))) in omega (arith, string-short (start .args .string .now) (start .pre .good))
+cast-close c =
+    let start = entry (lent (opened (walked (c .before .before .before)))) in
+    omega (arith, string-short (start .args .string .now) (start .pre .good))
 
 close-requires : tie.Need-close-requires
 close-requires c κs =

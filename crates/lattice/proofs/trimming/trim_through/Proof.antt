@@ -23,7 +23,8 @@ trimmed c = c .before .before .before .before
 
 -- The copy is what stood there.
 same : (c : tie.After-copy-out)
-    → take (entry c .args .count - 0) (drop 0 (c .copy-out .last .1 .1 .1 .0)) ≡ take (entry c .args .count) (drop (entry c .args .from) (entry c .args .lattice .now))
+    → take (entry c .args .count - 0) (drop 0 (c .copy-out .last .1 .1 .1 .0))
+    ≡ take (entry c .args .count) (drop (entry c .args .from) (entry c .args .lattice .now))
 same c = front-copied (entry c .args .count) (c .copy-out .last .1 .1 .1 .0) _ (c .copy-out .ensures)
 
 copy-out-requires : tie.Need-copy-out-requires
