@@ -86,7 +86,7 @@ abbrev pub chained-leads : {left right string : List ℕ} → Chained left right
 chained-leads d = to-pair (d .composing .origins-left) (d .applying .origins-left)
 
 -- A result of the cascade agrees with the other order: accepting paths stand one to one, each two of them for the same pair; the counts are equal, 14 and
--- 99 included, and so are the least costs. Nothing is claimed of arc numbers and path order, which differ. (Composing the two was not refused by 18, so
+-- 99 included, and so are the least costs. Nothing is claimed of arc numbers and path order, which may differ. (Composing the two was not refused by 18, so
 -- that the left transducer has no arc for any symbol.)
 abbrev pub Agrees : {left right string : List ℕ} → (bytes : List ℕ) → (to : List ℕ → Two-paths) → Chained left right string → Type 0
 Agrees {left} {right} {string} bytes to d = Agree (Pairs left right string) bytes (chained-bytes d) to (chained-leads d)
