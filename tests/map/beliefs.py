@@ -22,7 +22,7 @@ CLAIMS = {
     "codec": ["RoundTrip", "Unsigned"],
     "compose": ["Claim", "Composition"],
     "lattice": ["Lattice", "Application"],
-    "least": ["Cycles.Falls"],
+    "cycles": ["Cycles.Some-negative-cycle"],
     "distance": ["Claim"],
     "shortest": ["Claim", "Agree"],
     "claim": ["Claim", "Kind", "Listed", "Agree"],

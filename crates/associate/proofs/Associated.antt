@@ -46,7 +46,7 @@ module _ {a b c : List ℕ} (r : Brackets a b c) where
 
   -- The second transducer has no arc for any symbol, by 18 of its composition with the third.
   plain-b : plain (decode b) ≡ true
-  plain-b = named-plain (decode b) (good-tests (decode b) good-b .labels) (composable (r .bc) .left-named)
+  plain-b = named-plain (decode b) (good-tests (decode b) good-b .labels) (composable (r .bc) .left-no-any)
 
   plain-bc : plain (decode (composed-bytes (r .bc))) ≡ true
   plain-bc = composition-plain good-b good-c (r .bc)

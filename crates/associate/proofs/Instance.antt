@@ -12,7 +12,7 @@ use Rattle.transducer.specs.Format.{head-states, head-arcs, head-finals, head-s
 use Rattle.transducer.specs.Format.{all-labels-good, weights-good, first-of, content-refusal, refusal}
 use Rattle.transducer.specs.Encode.{weight-bytes, head-record, final-record, arc-record, final-records, arc-records, encode}
 use Rattle.transducer.specs.Path.{is-final, final-weight, arc, ends}
-use Rattle.transducer.specs.Each.{by-number, each-arc, unnamed, fits, passed, named, any-refusal}
+use Rattle.transducer.specs.Each.{by-number, each-arc, unnamed, fits, passed, no-any-input, any-refusal}
 use Rattle.transducer.specs.Entry.{or-else}
 use Rattle.explore.specs.Explore.{there, place, met, served, numbered, targets, arcs-here, arcs-from, finals-from, steps-from}
 use Rattle.explore.specs.Explore.{built, built-refusal}
@@ -56,7 +56,7 @@ unfolding one-arc two four low signed-four signed-low places every framed-from f
     weight-good labels-good
     finals-in arcs-in head-states head-arcs head-finals head-start decode head-good states-good finals-rise sources-stay order-good all-labels-good
     weights-good first-of content-refusal refusal weight-bytes head-record final-record arc-record final-records arc-records encode is-final
-    final-weight arc ends by-number each-arc unnamed fits passed named any-refusal or-else there place met served numbered targets arcs-here arcs-from
+    final-weight arc ends by-number each-arc unnamed fits passed no-any-input any-refusal or-else there place met served numbered targets arcs-here arcs-from
     finals-from steps-from built built-refusal same-state left-alone right-alone both-step left-steps right-steps steps first-state final-state
     state-weight composed composition-refusal string-good step arc-steps applied same-position applied-steps final-position application-refusal
 computed =

@@ -2,7 +2,7 @@
 use crate::lent;
 use crate::load;
 use crate::show;
-use tell::Told;
+use report::Told;
 use transducer::MAX_PATH;
 
 // Counts the accepting paths of a transducer.

@@ -15,8 +15,8 @@ use Rattle.transducer.specs.declared.Header.{Header}
 use Rattle.transducer.specs.declared.Written.{Written}
 use Rattle.transducer.specs.Format.{max-arcs, max-bytes, max-origins, max-states, head-bytes, Transducer, Good, refusal, decode}
 use Rattle.transducer.specs.Encode.{encode}
-use Rattle.transducer.specs.Leaf.{header-of}
-use Rattle.transducer.specs.Each.{named, any-refusal}
+use Rattle.transducer.specs.Accepted.{header-of}
+use Rattle.transducer.specs.Each.{no-any-input, any-refusal}
 use Rattle.transducer.specs.Entry.{or-else, unless}
 use Rattle.transducer.proofs.Answers.{some-or-else, none-or-else, unless-some, unless-none}
 use Rattle.transducer.proofs.Fits.{plain-named}
@@ -238,8 +238,8 @@ module _ {xs cs : List ℕ} (bytes-xs : Bytes xs) {put : Written} {d d' e e' f f
     read = applied-read good-xs put-well
 
     -- 18 never holds of a lattice.
-    all-named : named (lattice cs (decode xs)) ≡ true
-    all-named = plain-named (lattice cs (decode xs)) (lattice-plain cs (decode xs) good-xs (appliable put-well .string))
+    no-any-says : no-any-input (lattice cs (decode xs)) ≡ true
+    no-any-says = plain-named (lattice cs (decode xs)) (lattice-plain cs (decode xs) good-xs (appliable put-well .string))
 
     module _ (ys : List ℕ) (bytes-ys : Bytes ys) {made : Written} {a a' b b' c c' : List ℕ}
         (composing : Compose-says ws ys (compose-refusal ws ys (length a) (length b) (length c)) made a a' b b' c c') where
@@ -249,7 +249,7 @@ module _ {xs cs : List ℕ} (bytes-xs : Bytes xs) {put : Written} {d d' e e' f f
       -- The refusals left are those of composing.
       same-number : compose-refusal ws ys (length a) (length b) (length c) ≡ told
       unfolding compose-refusal cascade-refusal tables-refusal any-refusal or-else
-      same-number = rw (applied-accepted good-xs put-well, read, all-named, table-good put-well, appliable put-well .string, appliable put-well .fine)
+      same-number = rw (applied-accepted good-xs put-well, read, no-any-says, table-good put-well, appliable put-well .string, appliable put-well .fine)
 
       abbrev os : List ℕ
       os = origin-pairs (composed (lattice cs (decode xs)) (decode ys) .steps)

@@ -12,7 +12,7 @@ use Rattle.wire.proofs.Places.{take-told}
 use Rattle.transducer.specs.Format.{Transducer, Good, max-states, max-arcs, max-bytes, max-origins, barred, refusal, decode}
 use Rattle.transducer.specs.Encode.{encode}
 use Rattle.transducer.specs.Path.{accepts}
-use Rattle.transducer.specs.Each.{named, any-refusal, plain}
+use Rattle.transducer.specs.Each.{no-any-input, any-refusal, plain}
 use Rattle.transducer.specs.Entry.{or-else}
 use Rattle.transducer.proofs.Answers.{or-else-none, unless-none}
 use Rattle.transducer.proofs.Fits.{named-plain, plain-named}
@@ -52,10 +52,10 @@ use Rattle.cascade.proofs.Tracing.{path-below, met-traced-left, met-tra
 use Rattle.cascade.proofs.CascadeSays.{length-composed-origins}
 
 -- If the left transducer was accepted and has no arc for any symbol, the pairs are those of `claim`.
-plain-left : (xs : List ℕ) → Bytes xs → refusal xs ≡ 0 → named (decode xs) ≡ true → plain (decode xs) ≡ true
+plain-left : (xs : List ℕ) → Bytes xs → refusal xs ≡ 0 → no-any-input (decode xs) ≡ true → plain (decode xs) ≡ true
 plain-left xs bytes ok all = named-plain (decode xs) (good-tests (decode xs) (accepted-good xs bytes ok) .labels) all
 
-pub pairs-same : (left right string : List ℕ) → Bytes left → refusal left ≡ 0 → named (decode left) ≡ true → (x : Two-paths)
+pub pairs-same : (left right string : List ℕ) → Bytes left → refusal left ≡ 0 → no-any-input (decode left) ≡ true → (x : Two-paths)
     → Same-pairs left right string x
 pairs-same left right string bytes ok all = same-pairs left right string (plain-left left bytes ok all)
 
@@ -124,7 +124,7 @@ module _ {left right string : List ℕ} (c : Two-calls left right string) where
     agree-by d =
         let first = composable (d .composing) in
         let good-composed : Good (decode (composed-bytes (d .composing))) = composition-good good-left good-right (d .composing) in
-        let none : plain (decode left) ≡ true = plain-left left (c .left-bytes) (first .left-good) (first .left-named) in
+        let none : plain (decode left) ≡ true = plain-left left (c .left-bytes) (first .left-good) (first .left-no-any) in
         let chained : Holds (Pairs left right string) (chained-bytes d) (chained-leads d) =
         holds (Pairs left right string) (chained-bytes d) (chained-leads d) (applied-accepted good-composed (d .applying))
         (applied-good good-composed (d .applying))
@@ -218,7 +218,7 @@ module _ {left right string : List ℕ} (left-bytes : Bytes left) (right-bytes :
   unfolding composition-refusal any-refusal or-else
   composes =
       let good : Good (decode left) = accepted-good left left-bytes (fine .left-accepted) in
-      let all : named (lattice string (decode left)) ≡ true =
+      let all : no-any-input (lattice string (decode left)) ≡ true =
       plain-named (lattice string (decode left)) (lattice-plain string (decode left) good (fine .appliable .string)) in
       rw (applied-accepted good put, applied-read good put, all, fine .right-accepted)
       (ap (λ (t : Transducer). built-refusal (composed t (decode right) .result)) (applied-read good put) ∙ fine .result-fine)

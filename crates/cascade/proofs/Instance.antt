@@ -13,7 +13,7 @@ use Rattle.transducer.specs.Format.{head-states, head-arcs, head-finals, head-s
 use Rattle.transducer.specs.Format.{all-labels-good, weights-good, first-of, content-refusal, refusal}
 use Rattle.transducer.specs.Encode.{weight-bytes, head-record, final-record, arc-record, final-records, arc-records, encode}
 use Rattle.transducer.specs.Path.{is-final, final-weight, arc, ends}
-use Rattle.transducer.specs.Each.{by-number, each-arc, unnamed, fits, passed, named, any-refusal}
+use Rattle.transducer.specs.Each.{by-number, each-arc, unnamed, fits, passed, no-any-input, any-refusal}
 use Rattle.transducer.specs.Entry.{or-else, unless}
 use Rattle.reach.specs.Reach.{entered, some-arc, accessible, coaccessible}
 use Rattle.trim.specs.Passing.{passing}
@@ -79,7 +79,7 @@ unfolding any-arc one-arc two four low signed-four signed-low places every frame
     weight-good labels-good
     finals-in arcs-in head-states head-arcs head-finals head-start decode head-good states-good finals-rise sources-stay order-good all-labels-good
     weights-good first-of content-refusal refusal weight-bytes head-record final-record arc-record final-records arc-records encode is-final
-    final-weight arc ends by-number each-arc unnamed fits passed named any-refusal or-else there place met served numbered targets arcs-here arcs-from
+    final-weight arc ends by-number each-arc unnamed fits passed no-any-input any-refusal or-else there place met served numbered targets arcs-here arcs-from
     finals-from steps-from built built-refusal same-state left-alone right-alone both-step left-steps right-steps steps first-state final-state
     state-weight composed compose-room composition-refusal string-good step arc-steps applied same-position applied-steps final-position application-refusal
     entered some-arc accessible coaccessible useful arc-useful renumbered moved passing kept-finals trimmed lattice

@@ -7,7 +7,7 @@ use lib.ListN.{length, take}
 use Rattle.wire.specs.Bytes.{Bytes}
 use Rattle.transducer.specs.declared.Written.{Written}
 use Rattle.transducer.specs.Format.{Transducer, Good, refusal, decode}
-use Rattle.transducer.specs.Each.{named, any-refusal}
+use Rattle.transducer.specs.Each.{no-any-input, any-refusal}
 use Rattle.transducer.specs.Entry.{or-else}
 use Rattle.transducer.proofs.Answers.{or-else-none, some-or-else, none-or-else, unless-some}
 use Rattle.transducer.proofs.Fits.{plain-named}
@@ -98,8 +98,8 @@ module _ (xs ys cs : List ℕ) where
         read = applied-read good-xs put-well
 
         -- 18 never holds of a lattice.
-        all-named : named (lattice cs (decode xs)) ≡ true
-        all-named = plain-named (lattice cs (decode xs)) (lattice-plain cs (decode xs) good-xs (appliable put-well .string))
+        no-any-says : no-any-input (lattice cs (decode xs)) ≡ true
+        no-any-says = plain-named (lattice cs (decode xs)) (lattice-plain cs (decode xs) good-xs (appliable put-well .string))
 
         -- The composition's answer
 
@@ -108,7 +108,7 @@ module _ (xs ys cs : List ℕ) where
           unfolding composition-refusal any-refusal or-else
           made-number =
               composed-number composing
-              ∙ (rw (applied-accepted good-xs put-well, both .1, read, all-named)
+              ∙ (rw (applied-accepted good-xs put-well, both .1, read, no-any-says)
               (ap (λ (t : Transducer). built-refusal (composed t (decode ys) .result)) read))
 
           number-last : result-refusal xs ys cs ≡ built-refusal (cascade xs ys cs)

@@ -191,8 +191,8 @@ module _ {left middle right string : List ℕ} (c : Three-cascaded left middle r
     here : Holds (Triples-of (decode left) (decode middle) (decode right) string) (three-bytes c) (three-leads c)
     here =
         holds (Triples-of (decode left) (decode middle) (decode right) string) (three-bytes c) (three-leads c) accepted good-three
-        (paths-triples left middle right string (named-plain (decode left) (good-tests (decode left) good-a .labels) (composable (r .ab) .left-named))
-        (named-plain (decode middle) (good-tests (decode middle) good-b .labels) (composable (r .bc) .left-named))
+        (paths-triples left middle right string (named-plain (decode left) (good-tests (decode left) good-a .labels) (composable (r .ab) .left-no-any))
+        (named-plain (decode middle) (good-tests (decode middle) good-b .labels) (composable (r .bc) .left-no-any))
         (decode (three-bytes c)) (three-leads c) paths)
 
     -- The lattice of a bracket: its paths are the triples of the string.

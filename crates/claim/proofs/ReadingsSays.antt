@@ -8,7 +8,7 @@ use lib.ListN.{length, take, replicate, length-replicate}
 use Rattle.wire.specs.Bytes.{Bytes}
 use Rattle.transducer.specs.declared.Written.{Written}
 use Rattle.transducer.specs.Format.{max-arcs, max-bytes, max-states, Transducer, Good, refusal, decode}
-use Rattle.transducer.specs.Each.{named}
+use Rattle.transducer.specs.Each.{no-any-input}
 use Rattle.transducer.specs.Entry.{or-else}
 use Rattle.transducer.proofs.Answers.{some-or-else, none-or-else, unless-some}
 use Rattle.transducer.proofs.Fits.{plain-named}
@@ -85,7 +85,7 @@ module _ {xs ys : List ℕ} {made : Written} {a a' b b' c c' : List ℕ} (bytes-
     good-ys = accepted-good ys bytes-ys (composable table .right-good)
 
     -- A composition has no arc for any symbol.
-    pub made-named : named (decode bs) ≡ true
+    pub made-named : no-any-input (decode bs) ≡ true
     made-named = plain-named (decode bs) (composition-plain good-xs good-ys table)
 
     -- The answer of applying and counting

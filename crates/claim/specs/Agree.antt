@@ -9,7 +9,7 @@ use Rattle.transducer.specs.Format.{Transducer, decode}
 use Rattle.transducer.specs.Path.{accepts, read-by, written-by, path-cost}
 use Rattle.transducer.specs.Weight.{Weight, Below}
 use Rattle.compose.specs.Claim.{Least}
-use Rattle.tell.specs.declared.Told.{Told}
+use Rattle.report.specs.declared.Told.{Told}
 use Rattle.paths.specs.Calls.{Counting}
 use Rattle.shortest.specs.Claim.{Shortest-path}
 use Rattle.claim.specs.Kind.{Kind, Paths-are, Counts}

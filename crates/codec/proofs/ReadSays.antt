@@ -16,7 +16,7 @@ use Rattle.transducer.specs.declared.Final.{Final}
 use Rattle.transducer.specs.declared.Header.{Header}
 use Rattle.transducer.specs.Format.{head-bytes, final-bytes, arc-bytes, max-arcs, max-fields, max-states, decode, refusal, head-arcs, head-finals}
 use Rattle.transducer.specs.Format.{weight-at, final-at, arc-at, arcs-at}
-use Rattle.transducer.specs.Leaf.{header-of}
+use Rattle.transducer.specs.Accepted.{header-of}
 use Rattle.codec.specs.Entry.{Read-says, read-refusal, read-room, arc-fields}
 use Rattle.codec.proofs.Copy.{places-shift}
 use Rattle.transducer.proofs.Offsets.{length-accepted, decode-states, decode-start, decode-finals, decode-arcs, length-finals, length-arcs, accepted-within}

@@ -17,7 +17,8 @@ use Rattle.transducer.specs.Format.{finals-in, arcs-in, decode, head-good, stat
 use Rattle.transducer.specs.Format.{all-labels-good, weight-good, weight-at, weights-good, first-of, content-refusal, refusal}
 use Rattle.transducer.specs.Weight.{Weight, amount, at-most}
 use Rattle.transducer.proofs.Weights.{weight-as-before}
-use Rattle.codec.specs.Unsigned.{unsigned-at, unsigned-finals, unsigned-arcs, unsigned-decode, unsigned-weights-good, unsigned-refusal, As-before, Always-as-before}
+use Rattle.codec.specs.Unsigned.{unsigned-at, unsigned-finals, unsigned-arcs, unsigned-decode}
+use Rattle.codec.specs.Unsigned.{unsigned-weights-good, unsigned-refusal, As-before, Always-as-before}
 
 -- What does not look at weights
 

@@ -14,7 +14,7 @@ use Rattle.transducer.specs.declared.Written.{Written}
 use Rattle.transducer.specs.Format.{max-states, max-bytes, max-origins, Transducer, Good, refusal, decode}
 use Rattle.transducer.specs.Encode.{encode}
 use Rattle.transducer.specs.Path.{accepts}
-use Rattle.transducer.specs.Each.{named, any-refusal, plain}
+use Rattle.transducer.specs.Each.{no-any-input, any-refusal, plain}
 use Rattle.transducer.specs.Entry.{or-else, unless}
 use Rattle.transducer.proofs.Answers.{or-else-none, unless-none}
 use Rattle.transducer.proofs.RoundTrip.{accepted-good}
@@ -33,7 +33,7 @@ use Rattle.compose.proofs.Written.{composed-plain, composed-good, refus
 -- Both transducers are accepted, no left arc is for any symbol, and the composition is within the bounds.
 pub record Composable (xs ys : List ℕ) : Type 0 where
   pub left-good : refusal xs ≡ 0
-  pub left-named : named (decode xs) ≡ true
+  pub left-no-any : no-any-input (decode xs) ≡ true
   pub right-good : refusal ys ≡ 0
   pub fine : built-refusal (composition xs ys) ≡ 0
 
@@ -46,11 +46,11 @@ module _ (xs ys : List ℕ) where
   unfolding compose-refusal any-refusal
   none-composable a b c none =
       let rest : ℕ = or-else (compose-room a b c) (built-refusal (composition xs ys)) in
-      let one = or-else-none (refusal xs) (or-else (cond (named (decode xs)) 0 18) (or-else (refusal ys) rest)) none in
-      let all = or-else-none (cond (named (decode xs)) 0 18) (or-else (refusal ys) rest) (one .1) in
+      let one = or-else-none (refusal xs) (or-else (cond (no-any-input (decode xs)) 0 18) (or-else (refusal ys) rest)) none in
+      let all = or-else-none (cond (no-any-input (decode xs)) 0 18) (or-else (refusal ys) rest) (one .1) in
       let two = or-else-none (refusal ys) rest (all .1) in
       let three = or-else-none (compose-room a b c) (built-refusal (composition xs ys)) (two .1) in
-      record { left-good = one .0; left-named = passed-last (named (decode xs)) 17 (all .0); right-good = two .0; fine = three .1 }
+      record { left-good = one .0; left-no-any = passed-last (no-any-input (decode xs)) 17 (all .0); right-good = two .0; fine = three .1 }
 
   pub unrefused-composable : composition-refusal xs ys ≡ 0 → Composable xs ys
   unrefused-composable none =
@@ -128,8 +128,8 @@ one-filled t u z os os' room is one = record { leads = leads; never-two = never-
 
 -- The transducer in what is handed on.
 module _ {xs ys : List ℕ} (good-xs : Good (decode xs)) (good-ys : Good (decode ys)) (c : Composition xs ys) where
-  abbrev named-xs : named (decode xs) ≡ true
-  named-xs = composable c .left-named
+  abbrev named-xs : no-any-input (decode xs) ≡ true
+  named-xs = composable c .left-no-any
 
   pub composition-read : decode (composed-bytes c) ≡ composition xs ys
   composition-read = ap decode (composed-bytes-are c) ∙ decode-composed (decode xs) (decode ys) good-xs named-xs good-ys (composable c .fine)

@@ -13,9 +13,9 @@ use Rattle.transducer.specs.declared.Final.{Final}
 use Rattle.transducer.specs.declared.Written.{Written}
 use Rattle.transducer.specs.Format.{arcs-at, max-arcs, max-bytes, max-origins, max-states, Transducer, Good, refusal, decode}
 use Rattle.transducer.specs.Encode.{head-record, final-records, encode}
-use Rattle.transducer.specs.Each.{named, any-refusal}
+use Rattle.transducer.specs.Each.{no-any-input, any-refusal}
 use Rattle.transducer.specs.Entry.{or-else, unless}
-use Rattle.transducer.specs.Leaf.{Finals-by-state}
+use Rattle.transducer.specs.Accepted.{Finals-by-state}
 use Rattle.transducer.proofs.Most.{refusal-most}
 use Rattle.transducer.proofs.RoundTrip.{accepted-good}
 use Rattle.explore.specs.declared.FinalsPut.{FinalsPut}
@@ -64,11 +64,11 @@ module _ (xs ys a b c : List ℕ) where
       says-kept _ _ number k a b c (rw (← is, ne-eqb k 0 bad)) bad (early-keeps k (omega (arith, refusal-most xs)))
 
   module _ (lok : refusal xs ≡ 0) where
-    pub says-any : named (decode xs) ≡ false → Refused 18
+    pub says-any : no-any-input (decode xs) ≡ false → Refused 18
     unfolding compose-refusal or-else any-refusal
     says-any some = says-kept _ _ number 18 a b c (rw (lok, some)) (omega arith) (late-keeps 18 (omega arith))
 
-    module _ (all : named (decode xs) ≡ true) where
+    module _ (all : no-any-input (decode xs) ≡ true) where
       pub says-right : (j : ℕ) → j ≡ refusal ys → (j ≡ 0 → ⊥) → Refused j
       unfolding compose-refusal or-else any-refusal
       says-right j is bad =
@@ -94,7 +94,7 @@ module _ (xs ys a b c : List ℕ) where
         module _ (p : max-bytes ≤ length a) (q : max-origins ≤ length b) (s : max-states ≤ length c) where
           pub composable : Composable xs ys (length a) (length b) (length c)
           composable =
-              record { left-accepted = lok; left-named = all; right-accepted = rok; table-long = p; origins-long = q; states-long = s }
+              record { left-accepted = lok; left-no-any = all; right-accepted = rok; table-long = p; origins-long = q; states-long = s }
 
           into : number ≡ built-refusal (composed (decode xs) (decode ys) .result)
           unfolding compose-refusal or-else any-refusal compose-room
@@ -112,7 +112,7 @@ pub record Writable (w : Walk) (f : FinalsPut) : Type 0 where
 
 -- The answers once the walk has begun, of accepted transducers
 
-module _ (left right : List ℕ) (lb : Bytes left) (rb : Bytes right) (lok : refusal left ≡ 0) (all : named (decode left) ≡ true)
+module _ (left right : List ℕ) (lb : Bytes left) (rb : Bytes right) (lok : refusal left ≡ 0) (all : no-any-input (decode left) ≡ true)
     (rok : refusal right ≡ 0) where
   abbrev t : Transducer
   t = decode left
@@ -156,12 +156,12 @@ module _ (left right : List ℕ) (lb : Bytes left) (rb : Bytes right) (lok : ref
 
   -- An attempt that has given its answer, one that has not, and one whose buffers had changed but not their lengths.
   module _ {room : ℕ} where
-    pub attempted : {r : Attempt} {answer : Written} {a a' b b' c c' : List ℕ} → r ≡ record { written = answer; again = false }
+    pub attempted : {r : Attempt} {answer : Written} {a a' b b' c c' : List ℕ} → r ≡ record { written = answer; retry = false }
         → Says answer a a' b b' c c' → Attempted left right room r a a' b b' c c'
     attempted is s = rw is (record { says = λ _. s; enough = λ _. refl })
 
     pub attempted-again : {answer : Written} {a a' b b' c c' : List ℕ} → room < max-states
-        → Attempted left right room (record { written = answer; again = true }) a a' b b' c c'
+        → Attempted left right room (record { written = answer; retry = true }) a a' b b' c c'
     attempted-again less = record { says = λ e. never (sym e); enough = λ h. absurd (omega arith) }
 
     pub attempted-same : (r : Attempt) (a a₀ a' b b₀ b' c c₀ c' : List ℕ) → length a ≡ length a₀ → length b ≡ length b₀ → length c ≡ length c₀
@@ -212,18 +212,18 @@ module _ (left right : List ℕ) (lb : Bytes left) (rb : Bytes right) (lok : ref
           pub finals-kept : length t1 ≡ length table
           finals-kept = ap length (finals-put .stored) ∙ length-sets table 12 (final-records (z .finals))
 
-          pub says-13-arcs : (r : Written) (a' b' c' : List ℕ) → (w .dear ≡ 0 → ⊥) → Refused-with 13 r t1 a' origins b' states c'
+          pub says-13-arcs : (r : Written) (a' b' c' : List ℕ) → (w .overflow ≡ 0 → ⊥) → Refused-with 13 r t1 a' origins b' states c'
               → Says r table a' origins b' states c'
           unfolding composed
-          says-13-arcs r a' b' c' dear z' =
-              says-13 r t1 a' b' c' (told-13-arcs keying (final-state t u) (state-weight t u) told few-arcs dear) finals-kept z'
+          says-13-arcs r a' b' c' overflow z' =
+              says-13 r t1 a' b' c' (told-13-arcs keying (final-state t u) (state-weight t u) told few-arcs overflow) finals-kept z'
 
-          pub says-13-finals : (r : Written) (a' b' c' : List ℕ) → f .dear ≡ true → Refused-with 13 r t1 a' origins b' states c'
+          pub says-13-finals : (r : Written) (a' b' c' : List ℕ) → f .overflow ≡ true → Refused-with 13 r t1 a' origins b' states c'
               → Says r table a' origins b' states c'
           unfolding composed
-          says-13-finals r a' b' c' dear z' =
+          says-13-finals r a' b' c' overflow z' =
               says-13 r t1 a' b' c'
-              (told-13-finals keying (final-state t u) (state-weight t u) told few-arcs (sym (finals-put .dear-is) ∙ dear)) finals-kept z'
+              (told-13-finals keying (final-state t u) (state-weight t u) told few-arcs (sym (finals-put .overflow-is) ∙ overflow)) finals-kept z'
 
           pub writable : Writable w f
           unfolding composed
@@ -234,7 +234,7 @@ module _ (left right : List ℕ) (lb : Bytes left) (rb : Bytes right) (lok : ref
                 arcs = few-arcs;
               }
 
-          pub says-written : (from : ℕ) (t2 t3 t4 o1 s1 : List ℕ) → w .dear ≡ 0 → f .dear ≡ false → max-bytes ≤ length table
+          pub says-written : (from : ℕ) (t2 t3 t4 o1 s1 : List ℕ) → w .overflow ≡ 0 → f .overflow ≡ false → max-bytes ≤ length table
               → drop from table ≡ held → arcs-at (f .count) ≤ from
               → t2 ≡ sets t1 (arcs-at (f .count)) (take (16 * w .arcs) (drop from t1))
               → t3 ≡ sets t2 0 (head-record (w .states) (w .arcs) (f .count) 0)
@@ -245,7 +245,7 @@ module _ (left right : List ℕ) (lb : Bytes left) (rb : Bytes right) (lok : ref
           says-written from t2 t3 t4 o1 s1 cheap light room lent front moved headed clear8 clear16 clear32 =
               let fits = writable in
               let no : built-refusal z ≡ 0 =
-              told-0 keying (final-state t u) (state-weight t u) told few-arcs cheap (sym (finals-put .dear-is) ∙ light) in
+              told-0 keying (final-state t u) (state-weight t u) told few-arcs cheap (sym (finals-put .overflow-is) ∙ light) in
               record {
                 refusal-is = sym no;
                 len-is = rw no (sym (length-written keying (final-state t u) (state-weight t u) told few-arcs (f .count) (finals-put .count-is)));

@@ -9,7 +9,7 @@ use borrow.Author.Tests.{eq-eqb, ne-eqb}
 use Rattle.wire.proofs.Bool.{and-true}
 use Rattle.transducer.specs.declared.Final.{Final}
 use Rattle.transducer.specs.Format.{Transducer, Good}
-use Rattle.transducer.specs.Leaf.{Finals-by-state, final-code}
+use Rattle.transducer.specs.Accepted.{Finals-by-state, final-code}
 use Rattle.transducer.specs.Path.{is-final}
 use Rattle.transducer.specs.Weight.{plus, weight-of}
 use Rattle.transducer.proofs.Finals.{final-code-some, weight-final-code}

@@ -10,7 +10,7 @@ use lib.Dec.{ltb, leb, eqb}
 use lib.ListN.{length, getD, set}
 use borrow.Author.Tests.{ltb-true, ltb-false, lt-ltb, le-ltb, le-leb, lt-leb}
 use Rattle.transducer.specs.Format.{max-arcs, Transducer, Good}
-use Rattle.transducer.specs.Leaf.{arcs-below, Indexed, Leaving}
+use Rattle.transducer.specs.Accepted.{arcs-below, Indexed, Leaving}
 use Rattle.transducer.proofs.Index.{arcs-below-length, arcs-below-mono}
 use Rattle.explore.specs.declared.Walk.{Walk}
 use Rattle.explore.specs.Explore.{place}
@@ -57,7 +57,7 @@ pub step-walked : (b : Sofar) (source number count : ℕ) (s : Step) (w w' : Wal
     → number ≡ place eqb (s .target) (b .keys) → Chained (with-key (s .target) (b .keys)) states' heads' links'
     → count ≡ length (with-key (s .target) (b .keys))
     → Records (record { source = source; input = s .input; output = s .output; target = number; weight = s .weight })
-    (record { states = count; arcs = w .arcs; dear = w .dear; full = w .full }) w' table table'
+    (record { states = count; arcs = w .arcs; overflow = w .overflow; full = w .full }) w' table table'
     → origins' ≡ traced-by 2 (w .arcs) (origin-pair (s .origin)) origins
     → Walked 2 (taken source (keyed-step s) b) w' table' origins' states' heads' links'
 unfolding keyed-step

@@ -7,7 +7,7 @@ use native.Mathlib.Omega.{arith}
 use lib.ListN.{length}
 use Rattle.transducer.specs.Format.{Transducer, barred, Good, refusal, decode}
 use Rattle.transducer.specs.Encode.{encode}
-use Rattle.transducer.specs.Each.{named, plain}
+use Rattle.transducer.specs.Each.{no-any-input, plain}
 use Rattle.transducer.proofs.Good.{good-tests}
 use Rattle.transducer.proofs.RoundTrip.{good-range, refusal-encode, decode-encode}
 use Rattle.explore.specs.Explore.{built-refusal}
@@ -22,7 +22,7 @@ use Rattle.steps.proofs.SameState.{same-state-decides}
 pub good-arcs-below : (t : Transducer) → Good t → length (t .arcs) ≤ barred
 good-arcs-below t g = omega (arith, good-range t g .arcs)
 
-module _ (t u : Transducer) (good-t : Good t) (all : named t ≡ true) (good-u : Good u) where
+module _ (t u : Transducer) (good-t : Good t) (all : no-any-input t ≡ true) (good-u : Good u) where
   pub steps-labelled : Labelled (steps t u)
   steps-labelled x s m =
       let r : Unbarred (s .input) (s .output) = step-unbarred t u (good-tests t good-t .labels) all (good-tests u good-u .labels) x s (mem-in m) in

@@ -7,9 +7,9 @@ use lib.Dec.{eqb}
 use lib.ListN.{length, getD}
 use Rattle.transducer.specs.declared.Final.{Final}
 use Rattle.transducer.specs.Format.{max-states, max-arcs, max-bytes, max-origins, arcs-at, refusal, decode}
-use Rattle.transducer.specs.Each.{named}
+use Rattle.transducer.specs.Each.{no-any-input}
 use Rattle.transducer.specs.Weight.{Weight, plus, weight-of}
-use Rattle.transducer.specs.Leaf.{max-code}
+use Rattle.transducer.specs.Accepted.{max-code}
 use Rattle.explore.specs.declared.Walk.{Walk}
 use Rattle.explore.specs.Explore.{finals-from, built-refusal}
 use Rattle.explore.specs.Walk.{Walk-told}
@@ -41,7 +41,7 @@ pub record Finishable (lcodes rcodes states : List ℕ) (count : ℕ) (table : L
 -- Two accepted transducers, of which the left one has no arc for any symbol, and buffers that are long enough.
 pub record Composable (left right : List ℕ) (table origins states : ℕ) : Type 0 where
   pub left-accepted : refusal left ≡ 0
-  pub left-named : named (decode left) ≡ true
+  pub left-no-any : no-any-input (decode left) ≡ true
   pub right-accepted : refusal right ≡ 0
   pub table-long : max-bytes ≤ table
   pub origins-long : max-origins ≤ origins
@@ -54,6 +54,6 @@ pub record Walked-through (left right : List ℕ) (w : Walk) (arcs origins state
 
 -- What an attempt leaves that has room for some finals: the answer, unless it is to be made again, which it is not where there is room for 1,024.
 pub record Attempted (left right : List ℕ) (room : ℕ) (r : Attempt) (a a' b b' c c' : List ℕ) : Type 0 where
-  pub says : r .again ≡ false
+  pub says : r .retry ≡ false
       → Compose-says left right (built-refusal (composed (decode left) (decode right) .result)) (r .written) a a' b b' c c'
-  pub enough : max-states ≤ room → r .again ≡ false
+  pub enough : max-states ≤ room → r .retry ≡ false

@@ -4,8 +4,8 @@ use mathlib.Core.Bool.{Bool, true}
 use mathlib.Core.List.{List, map}
 use Prim.Native.Nat.{ℕ}
 use Rattle.transducer.specs.Format.{Transducer, decode}
-use Rattle.transducer.specs.Each.{named}
-use Rattle.transducer.specs.Leaf.{Opened, Indexed}
+use Rattle.transducer.specs.Each.{no-any-input}
+use Rattle.transducer.specs.Accepted.{Accepted-at, Indexed}
 use Rattle.explore.specs.Walk.{Keyed, Sofar, explored}
 use Rattle.steps.specs.declared.Step.{Step}
 use Rattle.steps.specs.Steps.{steps, first-state, origin-pair}
@@ -25,16 +25,16 @@ key-steps t u key = map keyed-step (map coded (steps t u (unpacked key)))
 abbrev pub key-walk : (t u : Transducer) → Sofar
 key-walk t u = explored (key-steps t u) (pack (first-state t u))
 
--- Two accepted transducers with their first-arc indexes; `exact` where none of the right one's arcs is for any symbol.
-pub record Both-indexed (left : List ℕ) (lfirst : ℕ) (lindex right : List ℕ) (rfirst : ℕ) (rindex : List ℕ) (exact : Bool) : Type 0 where
-  pub left-open : Opened left lfirst
+-- Two accepted transducers with their first-arc indexes; `no-any` where none of the right one's arcs is for any symbol.
+pub record Both-indexed (left : List ℕ) (lfirst : ℕ) (lindex right : List ℕ) (rfirst : ℕ) (rindex : List ℕ) (no-any : Bool) : Type 0 where
+  pub left-open : Accepted-at left lfirst
   pub left-index : Indexed (decode left) lindex
-  pub right-open : Opened right rfirst
+  pub right-open : Accepted-at right rfirst
   pub right-index : Indexed (decode right) rindex
-  pub right-named : exact ≡ true → named (decode right) ≡ true
+  pub right-no-any : no-any ≡ true → no-any-input (decode right) ≡ true
 
 -- Both of them with the look-up of the right one's arcs.
 pub record Walkable (left : List ℕ) (lfirst : ℕ) (lindex right : List ℕ) (rfirst : ℕ) (rindex : List ℕ)
-    (heads chain again : List ℕ) (exact : Bool) : Type 0 where
-  pub both : Both-indexed left lfirst lindex right rfirst rindex exact
+    (heads chain again : List ℕ) (no-any : Bool) : Type 0 where
+  pub both : Both-indexed left lfirst lindex right rfirst rindex no-any
   pub right-lookup : Lookup (decode right) heads chain again

@@ -4,8 +4,8 @@ ghost use mathlib.Core.Bool.{true, false};
 ghost use Prim.Native.Nat.{_+_, _≤_};
 ghost use lib.ListN.{length, drop};
 ghost use Rattle.transducer.specs.Format.{max-states, max-arcs, max-origins, arcs-at, refusal, decode};
-ghost use Rattle.transducer.specs.Each.{named};
-ghost use Rattle.transducer.specs.Leaf.{Opened, Finals-by-state};
+ghost use Rattle.transducer.specs.Each.{no-any-input};
+ghost use Rattle.transducer.specs.Accepted.{Accepted-at, Finals-by-state};
 ghost use Rattle.explore.specs.Explore.{built-refusal};
 ghost use Rattle.explore.specs.Walk.{max-arc-bytes, Walk-says};
 ghost use Rattle.steps.specs.Steps.{first-state};
@@ -34,7 +34,7 @@ const FEW_ARCS: usize = 128;
 // What an attempt to compose has come to: an answer, or that it is to be done again, with room for more finals.
 struct Attempt {
     written: Written,
-    again: bool,
+    retry: bool,
 }
 
 // Composes two transducers: the composed one's bytes, and the origins of its arcs, the left one and the right one in turn. Time grows with the
@@ -50,15 +50,15 @@ pub fn compose(
         (compose-refusal (now (left .entry)) (now (right .entry)) (length (now (table .entry))) (length (now (origins .entry))) (length (now (states .entry))))
         r (now (table .entry)) (now (table .exit)) (now (origins .entry)) (now (origins .exit)) (now (states .entry)) (now (states .exit)) ⌝ }
 {
-    let l = transducer::look(left, false);
+    let l = transducer::validate(left, false);
     let a = l.refusal;
     if a != 0 {
         return transducer::refused(a);
     }
-    if !transducer::all_named(left, l.named) {
+    if !transducer::no_any_input(left, l.no_any_input) {
         return transducer::refused(18);
     }
-    let r = transducer::look(right, false);
+    let r = transducer::validate(right, false);
     let b = r.refusal;
     if b != 0 {
         return transducer::refused(b);
@@ -72,31 +72,39 @@ pub fn compose(
     if states.len() < MAX_STATES {
         return transducer::refused(10);
     }
-    let exact = transducer::all_named(right, r.named);
-    compose_into(left, right, exact, table, origins, states)
+    let no_any_input = transducer::no_any_input(right, r.no_any_input);
+    compose_into(left, right, no_any_input, table, origins, states)
 }
 
-// Composes two accepted transducers, of which the left one has no arc for any symbol, into buffers that are long enough; `exact` may be true only if no
+// Composes two accepted transducers, of which the left one has no arc for any symbol, into buffers that are long enough; `no_any_input` may be true only if no
 // right arc is for any symbol.
 pub fn compose_into(
     left: &[u8],
     right: &[u8],
-    exact: bool,
+    no_any_input: bool,
     table: &mut [u8],
     origins: &mut [u16],
     states: &mut [u32],
 ) -> Written
     requires { ⌜ Composable (now left) (now right) (length (now table)) (length (now origins)) (length (now states))
-        × (exact ≡ true → named (decode (now right)) ≡ true) ⌝ }
+        × («no_any_input» ≡ true → no-any-input (decode (now right)) ≡ true) ⌝ }
     ensures { λ r. ⌜ Compose-says (now (left .entry)) (now (right .entry))
         (built-refusal (composed (decode (now (left .entry))) (decode (now (right .entry))) .result))
         r (now (table .entry)) (now (table .exit)) (now (origins .entry)) (now (origins .exit)) (now (states .entry)) (now (states .exit)) ⌝ }
 {
     let room = room_for(left, right);
-    let made = compose_with_room(left, right, exact, room, table, origins, states);
-    if made.again {
+    let made = compose_with_room(left, right, no_any_input, room, table, origins, states);
+    if made.retry {
         // There are never more finals than `room_for` says; that is not proved, so they are composed once more with room for 1,024.
-        let whole = compose_with_room(left, right, exact, MAX_STATES, table, origins, states);
+        let whole = compose_with_room(
+            left,
+            right,
+            no_any_input,
+            MAX_STATES,
+            table,
+            origins,
+            states,
+        );
         return whole.written;
     }
     made.written
@@ -104,7 +112,7 @@ pub fn compose_into(
 
 // Whether each arc reads a label.
 fn all_read(bytes: &[u8], first: usize, arcs: usize) -> bool
-    requires { ⌜ Opened (now bytes) first × (arcs ≤ length (decode (now bytes) .arcs)) ⌝ }
+    requires { ⌜ Accepted-at (now bytes) first × (arcs ≤ length (decode (now bytes) .arcs)) ⌝ }
 {
     let mut i = 0;
     while i < arcs {
@@ -150,15 +158,15 @@ fn walk_behind(
     rindex: &[u16; INDEX_LEN],
     rheads: &[u16; LABEL_BUCKETS],
     chain: &[u16],
-    again: &[u16],
-    exact: bool,
+    next_same_label: &[u16],
+    no_any_input: bool,
     first: u32,
     from: usize,
     table: &mut [u8],
     origins: &mut [u16],
     states: &mut [u32],
 ) -> Walk
-    requires { ⌜ Walkable (now left) lfirst (now lindex) (now right) rfirst (now rindex) (now rheads) (now chain) (now again) exact ⌝ }
+    requires { ⌜ Walkable (now left) lfirst (now lindex) (now right) rfirst (now rindex) (now rheads) (now chain) (now «next_same_label») «no_any_input» ⌝ }
     requires { ⌜ first ≡ pack (first-state (decode (now left)) (decode (now right))) ⌝ }
     requires { ⌜ (from + max-arc-bytes ≤ length (now table)) × (max-origins ≤ length (now origins)) × (max-states ≤ length (now states)) ⌝ }
     ensures { λ r. ⌜ Walk-says 2 (key-walk (decode (now (left .entry))) (decode (now (right .entry)))) r
@@ -175,8 +183,8 @@ fn walk_behind(
         rindex,
         rheads,
         chain,
-        again,
-        exact,
+        next_same_label,
+        no_any_input,
         first,
         part,
         origins,
@@ -194,16 +202,16 @@ fn walk_chained(
     rindex: &[u16; INDEX_LEN],
     arcs: usize,
     chain: &mut [u16],
-    again: &mut [u16],
-    exact: bool,
+    next_same_label: &mut [u16],
+    no_any_input: bool,
     first: u32,
     from: usize,
     table: &mut [u8],
     origins: &mut [u16],
     states: &mut [u32],
 ) -> Walk
-    requires { ⌜ Both-indexed (now left) lfirst (now lindex) (now right) rfirst (now rindex) exact ⌝ }
-    requires { ⌜ (arcs ≡ length (decode (now right) .arcs)) × (arcs ≤ length (now chain)) × (arcs ≤ length (now again)) ⌝ }
+    requires { ⌜ Both-indexed (now left) lfirst (now lindex) (now right) rfirst (now rindex) «no_any_input» ⌝ }
+    requires { ⌜ (arcs ≡ length (decode (now right) .arcs)) × (arcs ≤ length (now chain)) × (arcs ≤ length (now «next_same_label»)) ⌝ }
     requires { ⌜ first ≡ pack (first-state (decode (now left)) (decode (now right))) ⌝ }
     requires { ⌜ (from + max-arc-bytes ≤ length (now table)) × (max-origins ≤ length (now origins)) × (max-states ≤ length (now states)) ⌝ }
     ensures { λ r. ⌜ Walk-says 2 (key-walk (decode (now (left .entry))) (decode (now (right .entry)))) r
@@ -211,7 +219,7 @@ fn walk_chained(
         (now (origins .entry)) (now (origins .exit)) (now (states .entry)) (now (states .exit)) ⌝ }
 {
     let mut rheads = [0u16; LABEL_BUCKETS];
-    steps::put_chains(right, rfirst, arcs, &mut rheads, chain, again);
+    steps::put_chains(right, rfirst, arcs, &mut rheads, chain, next_same_label);
     walk_behind(
         left,
         lfirst,
@@ -221,8 +229,8 @@ fn walk_chained(
         rindex,
         &rheads,
         chain,
-        again,
-        exact,
+        next_same_label,
+        no_any_input,
         first,
         from,
         table,
@@ -240,14 +248,14 @@ fn walk_indexed(
     rfirst: usize,
     rindex: &[u16; INDEX_LEN],
     arcs: usize,
-    exact: bool,
+    no_any_input: bool,
     first: u32,
     from: usize,
     table: &mut [u8],
     origins: &mut [u16],
     states: &mut [u32],
 ) -> Walk
-    requires { ⌜ Both-indexed (now left) lfirst (now lindex) (now right) rfirst (now rindex) exact ⌝ }
+    requires { ⌜ Both-indexed (now left) lfirst (now lindex) (now right) rfirst (now rindex) «no_any_input» ⌝ }
     requires { ⌜ (arcs ≡ length (decode (now right) .arcs)) × (arcs ≤ max-arcs) ⌝ }
     requires { ⌜ first ≡ pack (first-state (decode (now left)) (decode (now right))) ⌝ }
     requires { ⌜ (from + max-arc-bytes ≤ length (now table)) × (max-origins ≤ length (now origins)) × (max-states ≤ length (now states)) ⌝ }
@@ -257,7 +265,7 @@ fn walk_indexed(
 {
     if arcs <= FEW_ARCS {
         let mut chain = [0u16; FEW_ARCS];
-        let mut again = [0u16; FEW_ARCS];
+        let mut next_same_label = [0u16; FEW_ARCS];
         return walk_chained(
             left,
             lfirst,
@@ -267,8 +275,8 @@ fn walk_indexed(
             rindex,
             arcs,
             &mut chain,
-            &mut again,
-            exact,
+            &mut next_same_label,
+            no_any_input,
             first,
             from,
             table,
@@ -277,7 +285,7 @@ fn walk_indexed(
         );
     }
     let mut chain = [0u16; MAX_ARCS];
-    let mut again = [0u16; MAX_ARCS];
+    let mut next_same_label = [0u16; MAX_ARCS];
     walk_chained(
         left,
         lfirst,
@@ -287,8 +295,8 @@ fn walk_indexed(
         rindex,
         arcs,
         &mut chain,
-        &mut again,
-        exact,
+        &mut next_same_label,
+        no_any_input,
         first,
         from,
         table,
@@ -301,14 +309,14 @@ fn walk_indexed(
 fn compose_with_room(
     left: &[u8],
     right: &[u8],
-    exact: bool,
+    no_any_input: bool,
     room: usize,
     table: &mut [u8],
     origins: &mut [u16],
     states: &mut [u32],
 ) -> Attempt
     requires { ⌜ Composable (now left) (now right) (length (now table)) (length (now origins)) (length (now states))
-        × (exact ≡ true → named (decode (now right)) ≡ true) × (room ≤ max-states) ⌝ }
+        × («no_any_input» ≡ true → no-any-input (decode (now right)) ≡ true) × (room ≤ max-states) ⌝ }
     ensures { λ r. ⌜ Attempted (now (left .entry)) (now (right .entry)) room r (now (table .entry)) (now (table .exit))
         (now (origins .entry)) (now (origins .exit)) (now (states .entry)) (now (states .exit)) ⌝ }
 {
@@ -343,7 +351,7 @@ fn compose_with_room(
         rfirst,
         &rindex,
         r.arcs as usize,
-        exact,
+        no_any_input,
         first,
         from,
         table,
@@ -376,11 +384,11 @@ fn compose_with_room(
 
 // The answer is given.
 fn finished(written: Written) -> Attempt
-    ensures { λ r. ⌜ r ≡ record { written = written; again = false } ⌝ }
+    ensures { λ r. ⌜ r ≡ record { written = written; retry = false } ⌝ }
 {
     Attempt {
         written: written,
-        again: false,
+        retry: false,
     }
 }
 
@@ -406,17 +414,17 @@ fn write_out(
     let count = w.states;
     let arcs = w.arcs;
     let f = finish::put_finals(lcodes, rcodes, states, count, table);
-    if w.dear != 0 {
+    if w.overflow != 0 {
         return finished(explore::refuse(table, origins, states, 13));
     }
-    if f.dear {
+    if f.overflow {
         return finished(explore::refuse(table, origins, states, 13));
     }
     let finals = f.count;
     if room < finals {
         return Attempt {
             written: transducer::refused(0),
-            again: true,
+            retry: true,
         };
     }
     let behind = HEAD_BYTES + FINAL_BYTES * finals;
@@ -432,6 +440,6 @@ fn write_out(
             refusal: 0,
             len: end as u32,
         },
-        again: false,
+        retry: false,
     }
 }

@@ -21,7 +21,7 @@ pub fn put_finals(
         (now (table .entry)) (now (table .exit)) ⌝ }
 {
     let mut finals = 0;
-    let mut dear = false;
+    let mut overflow = false;
     let mut s = 0;
     while s < count {
         let state = s as u16;
@@ -39,13 +39,13 @@ pub fn put_finals(
                     weight: weight,
                 };
                 transducer::put_final(table, HEAD_BYTES + FINAL_BYTES * finals, f);
-                dear = dear | !transducer::weight_ok(weight);
+                overflow = overflow | !transducer::weight_ok(weight);
                 finals += 1;
             }
         }
     }
     FinalsPut {
         count: finals,
-        dear: dear,
+        overflow: overflow,
     }
 }

@@ -4,10 +4,10 @@ ghost use mathlib.Core.Bool.{true, false, cond};
 ghost use Prim.Native.Nat.{_≤_, _<_};
 ghost use lib.ListN.{length, getD};
 ghost use Rattle.transducer.specs.Format.{max-states, max-origins, decode};
-ghost use Rattle.transducer.specs.Leaf.{Opened};
+ghost use Rattle.transducer.specs.Accepted.{Accepted-at};
 ghost use Rattle.explore.specs.Walk.{all-taken, state-served, traced-by, max-arc-bytes, Records, Holds, Takes, Walk-says};
 ghost use Rattle.steps.specs.Steps.{first-state, origin-pair};
-ghost use Rattle.steps.specs.Lookup.{Again};
+ghost use Rattle.steps.specs.Lookup.{Next-same-label};
 ghost use Rattle.steps.specs.Packing.{pack, unpacked};
 ghost use Rattle.steps.specs.Runs.{Takeable, In-both};
 ghost use Rattle.compose.specs.Walk.{key-steps, key-walk, Walkable};
@@ -79,7 +79,7 @@ fn take_one(
     heads: &mut [u16; BUCKETS],
     links: &mut [u16; MAX_STATES],
 ) -> Walk
-    requires { ⌜ Opened (now right) rfirst × Takeable (decode (now right)) r from to × (r .alone ≡ true) ⌝ }
+    requires { ⌜ Accepted-at (now right) rfirst × Takeable (decode (now right)) r from to × (r .alone ≡ true) ⌝ }
     requires { ⌜ Holds 2 w (now table) (now origins) (now states) (now heads) (now links) ⌝ }
     ensures { λ z. ⌜ Takes 2 (all-taken source (run-left (decode (now (right .entry))) r to from)) w z (now (table .entry)) (now (table .exit))
         (now (origins .entry)) (now (origins .exit)) (now (states .entry)) (now (states .exit))
@@ -96,14 +96,14 @@ fn take_one(
         return Walk {
             states: count,
             arcs: w.arcs,
-            dear: w.dear,
+            overflow: w.overflow,
             full: 1,
         };
     }
     let next = Walk {
         states: explore::store_new(states, heads, links, count, key, number),
         arcs: w.arcs,
-        dear: w.dear,
+        overflow: w.overflow,
         full: w.full,
     };
     record_step(table, origins, next, source, s, number)
@@ -113,7 +113,7 @@ fn take_one(
 fn take_each(
     right: &[u8],
     rfirst: usize,
-    again: &[u16],
+    next_same_label: &[u16],
     r: Run,
     source: u16,
     from: usize,
@@ -125,7 +125,8 @@ fn take_each(
     heads: &mut [u16; BUCKETS],
     links: &mut [u16; MAX_STATES],
 ) -> Walk
-    requires { ⌜ Opened (now right) rfirst × Again (decode (now right)) 0 (now again) × Takeable (decode (now right)) r from to × (r .alone ≡ false) ⌝ }
+    requires { ⌜ Accepted-at (now right) rfirst × Next-same-label (decode (now right)) 0 (now «next_same_label»)
+        × Takeable (decode (now right)) r from to × (r .alone ≡ false) ⌝ }
     requires { ⌜ Holds 2 w (now table) (now origins) (now states) (now heads) (now links) ⌝ }
     ensures { λ z. ⌜ Takes 2 (all-taken source (run-left (decode (now (right .entry))) r to from)) w z (now (table .entry)) (now (table .exit))
         (now (origins .entry)) (now (origins .exit)) (now (states .entry)) (now (states .exit))
@@ -157,7 +158,7 @@ fn take_each(
         };
         walk = record_step(table, origins, walk, source, s, number);
         // The arcs of a state that fit a label all read the same.
-        let link = again[j] as usize;
+        let link = next_same_label[j] as usize;
         if link == 0 {
             return walk;
         }
@@ -170,7 +171,7 @@ fn take_each(
 fn take_run(
     right: &[u8],
     rfirst: usize,
-    again: &[u16],
+    next_same_label: &[u16],
     r: Run,
     source: u16,
     from: usize,
@@ -182,7 +183,7 @@ fn take_run(
     heads: &mut [u16; BUCKETS],
     links: &mut [u16; MAX_STATES],
 ) -> Walk
-    requires { ⌜ Opened (now right) rfirst × Again (decode (now right)) 0 (now again) × Takeable (decode (now right)) r from to ⌝ }
+    requires { ⌜ Accepted-at (now right) rfirst × Next-same-label (decode (now right)) 0 (now «next_same_label») × Takeable (decode (now right)) r from to ⌝ }
     requires { ⌜ Holds 2 w (now table) (now origins) (now states) (now heads) (now links) ⌝ }
     ensures { λ z. ⌜ Takes 2 (all-taken source (run-left (decode (now (right .entry))) r to from)) w z (now (table .entry)) (now (table .exit))
         (now (origins .entry)) (now (origins .exit)) (now (states .entry)) (now (states .exit))
@@ -207,7 +208,7 @@ fn take_run(
     take_each(
         right,
         rfirst,
-        again,
+        next_same_label,
         r,
         source,
         from,
@@ -232,7 +233,7 @@ fn end_of(at: Begin, to: usize) -> usize
 }
 
 // Serves the state of number `source`: takes all its steps, in order.
-fn serve(
+fn expand_state(
     left: &[u8],
     lfirst: usize,
     lindex: &[u16; INDEX_LEN],
@@ -241,8 +242,8 @@ fn serve(
     rindex: &[u16; INDEX_LEN],
     rheads: &[u16; LABEL_BUCKETS],
     chain: &[u16],
-    again: &[u16],
-    exact: bool,
+    next_same_label: &[u16],
+    no_any_input: bool,
     source: usize,
     w: Walk,
     table: &mut [u8],
@@ -251,7 +252,8 @@ fn serve(
     heads: &mut [u16; BUCKETS],
     links: &mut [u16; MAX_STATES],
 ) -> Walk
-    requires { ⌜ Walkable (now left) lfirst (now lindex) (now right) rfirst (now rindex) (now rheads) (now chain) (now again) exact × (source < w .states) ⌝ }
+    requires { ⌜ Walkable (now left) lfirst (now lindex) (now right) rfirst (now rindex) (now rheads) (now chain) (now «next_same_label») «no_any_input»
+        × (source < w .states) ⌝ }
     requires { ⌜ In-both (decode (now left)) (decode (now right)) (unpacked (getD (now states) source 0)) ⌝ }
     requires { ⌜ Holds 2 w (now table) (now origins) (now states) (now heads) (now links) ⌝ }
     ensures { λ z. ⌜ Takes 2 (state-served (key-steps (decode (now (left .entry))) (decode (now (right .entry)))) source) w z
@@ -265,7 +267,7 @@ fn serve(
     let from = rindex[q] as usize;
     let to = rindex[q + 1] as usize;
     let last = lindex[p + 1] as usize;
-    let wild = steps::first_any(right, rfirst, rheads, chain, exact, q as u16, to);
+    let wild = steps::first_any(right, rfirst, rheads, chain, no_any_input, q as u16, to);
     let mut walk = w;
     let mut i = lindex[p] as usize;
     let only = steps::only_label(right, rfirst, from, wild, to, i, last);
@@ -290,7 +292,7 @@ fn serve(
         walk = take_run(
             right,
             rfirst,
-            again,
+            next_same_label,
             r,
             source as u16,
             at.j,
@@ -320,14 +322,14 @@ pub fn walk_all(
     rindex: &[u16; INDEX_LEN],
     rheads: &[u16; LABEL_BUCKETS],
     chain: &[u16],
-    again: &[u16],
-    exact: bool,
+    next_same_label: &[u16],
+    no_any_input: bool,
     first: u32,
     table: &mut [u8],
     origins: &mut [u16],
     states: &mut [u32],
 ) -> Walk
-    requires { ⌜ Walkable (now left) lfirst (now lindex) (now right) rfirst (now rindex) (now rheads) (now chain) (now again) exact ⌝ }
+    requires { ⌜ Walkable (now left) lfirst (now lindex) (now right) rfirst (now rindex) (now rheads) (now chain) (now «next_same_label») «no_any_input» ⌝ }
     requires { ⌜ first ≡ pack (first-state (decode (now left)) (decode (now right))) ⌝ }
     requires { ⌜ (max-arc-bytes ≤ length (now table)) × (max-origins ≤ length (now origins)) × (max-states ≤ length (now states)) ⌝ }
     ensures { λ r. ⌜ Walk-says 2 (key-walk (decode (now (left .entry))) (decode (now (right .entry)))) r (now (table .entry)) (now (table .exit))
@@ -339,12 +341,12 @@ pub fn walk_all(
     let mut walk = Walk {
         states: 1,
         arcs: 0,
-        dear: 0,
+        overflow: 0,
         full: 0,
     };
     let mut s = 0;
     while s < walk.states {
-        walk = serve(
+        walk = expand_state(
             left,
             lfirst,
             lindex,
@@ -353,8 +355,8 @@ pub fn walk_all(
             rindex,
             rheads,
             chain,
-            again,
-            exact,
+            next_same_label,
+            no_any_input,
             s,
             walk,
             table,

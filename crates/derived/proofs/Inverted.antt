@@ -15,7 +15,7 @@ use Rattle.transducer.specs.Path.{arc, no-arc, runs, ends, accepts, read-by, wr
 use Rattle.transducer.proofs.RoundTrip.{accepted-good}
 use borrow.Author.Tests.{ne-eqb, ltb-true}
 use Rattle.wire.proofs.Bool.{and-true}
-use Rattle.transducer.specs.Each.{named, plain}
+use Rattle.transducer.specs.Each.{no-any-input, plain}
 use Rattle.transducer.proofs.Good.{good-tests}
 use Rattle.transducer.proofs.Fits.{named-plain}
 use Rattle.derived.specs.Inverted.{inverted-arc, inverted}
@@ -167,7 +167,7 @@ inverted-good t g none =
     }
 
 -- What `invert_into` asks of accepted bytes is enough.
-pub inverted-accepted : (bs : List ℕ) → Bytes bs → refusal bs ≡ 0 → named (decode bs) ≡ true → Good (inverted (decode bs))
+pub inverted-accepted : (bs : List ℕ) → Bytes bs → refusal bs ≡ 0 → no-any-input (decode bs) ≡ true → Good (inverted (decode bs))
 inverted-accepted bs b h none =
     let g : Good (decode bs) = accepted-good bs b h in
     inverted-good (decode bs) g (named-plain (decode bs) (good-tests (decode bs) g .labels) none)

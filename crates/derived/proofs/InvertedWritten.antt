@@ -15,7 +15,7 @@ use Rattle.transducer.specs.Path.{no-arc}
 use Rattle.transducer.proofs.Encode.{sets-then, length-arc-records, arc-records-append, length-encode}
 use Rattle.derived.specs.Inverted.{inverted-arc, inverted}
 use Rattle.derived.specs.Put.{Puts}
-use Rattle.transducer.specs.Each.{named}
+use Rattle.transducer.specs.Each.{no-any-input}
 use Rattle.transducer.proofs.RoundTrip.{encode-decode}
 use Rattle.derived.proofs.Written.{reads-back, puts-by, head-of, behind-front}
 use Rattle.derived.proofs.Inverted.{inverted-twice, inverted-accepted}
@@ -73,7 +73,7 @@ inverts bs bytes ok f m at len o1 o2 finals arcs place room copied put long =
     (two ∙ (sym (append-assoc h fs (a ++ x)) ∙ (sym (append-assoc (h ++ fs) a x) ∙ ap (λ (r : List ℕ). r ++ x) (sym all))))
 
 -- A table inverted, and what was written inverted again: the bytes that it began with.
-pub inverted-back : (bs : List ℕ) → Bytes bs → refusal bs ≡ 0 → named (decode bs) ≡ true → {len len' : ℕ} {out out' : List ℕ}
+pub inverted-back : (bs : List ℕ) → Bytes bs → refusal bs ≡ 0 → no-any-input (decode bs) ≡ true → {len len' : ℕ} {out out' : List ℕ}
     → Puts (inverted (decode bs)) len out → Puts (inverted (decode (take len out))) len' out' → take len' out' ≡ bs
 inverted-back bs bytes ok none p q =
     q .table

@@ -21,11 +21,11 @@ use Rattle.transducer.proofs.Weights.{sums, sum, plus-none}
 use Rattle.reach.proofs.Sized.{good-sized}
 use Rattle.trim.specs.Trim.{through}
 use Rattle.trim.proofs.Trimmed.{through-injective}
-use Rattle.least.specs.Costs.{cost-from}
-use Rattle.least.specs.Cycles.{Leads, Negative-cycle, falling-anywhere}
-use Rattle.least.proofs.Costs.{arcs-cost-append}
-use Rattle.least.proofs.Falls.{rises-anywhere}
-use Rattle.least.proofs.Labels.{read-append, written-append}
+use Rattle.cycles.specs.Costs.{cost-from}
+use Rattle.cycles.specs.Cycles.{Leads, Negative-cycle, negative-cycle-anywhere}
+use Rattle.cycles.proofs.Costs.{arcs-cost-append}
+use Rattle.cycles.proofs.NegativeCycles.{rises-anywhere}
+use Rattle.cycles.proofs.Labels.{read-append, written-append}
 use Rattle.distance.specs.Distance.{no-path, least-to-come}
 use Rattle.distance.specs.Claim.{To-final, Least-from, Cell-claim}
 use Rattle.distance.proofs.ToCome.{cell-claimed}
@@ -218,7 +218,7 @@ module _ (t : Transducer) (f : ℕ) where
 
 -- If no cycle sums below zero, the least cost to come in the reversed transducer is the least cost of a path from the state that is final.
 module _ (t : Transducer) (f : ℕ) (g : Good t) (b : f < t .states) (no-cycle : Negative-cycle t → ⊥) where
-  pub reversed-rises : falling-anywhere (reversed t f) ≡ false
+  pub reversed-rises : negative-cycle-anywhere (reversed t f) ≡ false
   reversed-rises = rises-anywhere (reversed t f) (λ c. no-cycle (cycle-back t f c))
 
   pub record Coming (u : ℕ) : Type 0 where

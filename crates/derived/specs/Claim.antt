@@ -6,7 +6,7 @@ use lib.ListN.{getD}
 use Rattle.transducer.specs.Format.{Transducer}
 use Rattle.transducer.specs.Path.{arcs-cost}
 use Rattle.transducer.specs.Weight.{Weight, At-most}
-use Rattle.least.specs.Cycles.{Leads}
+use Rattle.cycles.specs.Cycles.{Leads}
 
 -- The path that a path of the reversed transducer stands for: the arcs that its arcs come from, the last one first.
 unfoldable pub backwards : (origins path : List ℕ) → List ℕ

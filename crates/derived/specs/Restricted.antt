@@ -6,7 +6,7 @@ use Rattle.transducer.specs.declared.Arc.{Arc}
 use Rattle.transducer.specs.Format.{Transducer}
 use Rattle.transducer.specs.Weight.{Weight, plus, at-most}
 use Rattle.trim.specs.Passing.{passing, passing-numbers}
-use Rattle.relax.specs.Nearest.{cost-at}
+use Rattle.relax.specs.Tentative.{cost-at}
 
 abbrev pub unchanged : Arc → Arc
 unchanged a = a

@@ -5,10 +5,10 @@ ghost use mathlib.Core.List.{map};
 ghost use Prim.Native.Nat.{_+_, _*_, _≤_};
 ghost use lib.ListN.{length};
 ghost use lib.Seq.{sets};
-ghost use Rattle.transducer.specs.Each.{named};
+ghost use Rattle.transducer.specs.Each.{no-any-input};
 ghost use Rattle.transducer.specs.Encode.{arc-records};
 ghost use Rattle.transducer.specs.Format.{decode, refusal, arc-bytes, max-bytes};
-ghost use Rattle.transducer.specs.Leaf.{Opened};
+ghost use Rattle.transducer.specs.Accepted.{Accepted-at};
 ghost use Rattle.derived.specs.Inverted.{inverted-arc, inverted};
 ghost use Rattle.derived.specs.Put.{Puts};
 use crate::front;
@@ -29,7 +29,7 @@ fn inverted_arc(a: Arc) -> Arc
 
 // Writes all arcs with their labels exchanged, each at the place that it has in the table.
 fn put_inverted(table: &[u8], first: usize, arcs: usize, out: &mut [u8])
-    requires { ⌜ Opened (now table) first × (arcs ≡ length (decode (now table) .arcs)) × (first + arc-bytes * arcs ≤ length (now out)) ⌝ }
+    requires { ⌜ Accepted-at (now table) first × (arcs ≡ length (decode (now table) .arcs)) × (first + arc-bytes * arcs ≤ length (now out)) ⌝ }
     ensures { λ _. ⌜ now (out .exit) ≡ sets (now (out .entry)) first (arc-records (map inverted-arc (decode (now (table .entry)) .arcs))) ⌝ }
 {
     let mut i = 0;
@@ -43,7 +43,7 @@ fn put_inverted(table: &[u8], first: usize, arcs: usize, out: &mut [u8])
 // Writes an accepted table inverted and returns its length in bytes. An arc for any symbol (65,535) that writes another label would, inverted, have
 // 65,535 as output only, which refusal 7 forbids; so no arc of the table may be for any symbol. Linear in the length of the table.
 pub fn invert_into(table: &[u8], out: &mut [u8]) -> usize
-    requires { ⌜ (refusal (now table) ≡ 0) × (named (decode (now table)) ≡ true) × (max-bytes ≤ length (now out)) ⌝ }
+    requires { ⌜ (refusal (now table) ≡ 0) × (no-any-input (decode (now table)) ≡ true) × (max-bytes ≤ length (now out)) ⌝ }
     ensures { λ r. ⌜ Puts (inverted (decode (now (table .entry)))) r (now (out .exit)) ⌝ }
 {
     let shape = transducer::shape_of(table);

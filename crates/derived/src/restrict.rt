@@ -4,7 +4,7 @@ ghost use Prim.Native.Nat.{_+_, _*_, _≤_};
 ghost use lib.ListN.{length};
 ghost use lib.Seq.{sets};
 ghost use Rattle.transducer.specs.Format.{decode, refusal, arc-bytes, max-arcs, max-bytes};
-ghost use Rattle.transducer.specs.Leaf.{Opened};
+ghost use Rattle.transducer.specs.Accepted.{Accepted-at};
 ghost use Rattle.transducer.specs.Weight.{at-most, plus};
 ghost use Rattle.trim.specs.Passing.{Passing-put};
 ghost use Rattle.derived.specs.Restricted.{unchanged, restricted, origins-restricted, within-bound};
@@ -30,7 +30,7 @@ fn put_within(
     out: &mut [u8],
     numbers: &mut [u16],
 ) -> usize
-    requires { ⌜ Opened (now table) first × (arcs ≡ length (decode (now table) .arcs)) × (decode (now table) .states ≤ length (now coming))
+    requires { ⌜ Accepted-at (now table) first × (arcs ≡ length (decode (now table) .arcs)) × (decode (now table) .states ≤ length (now coming))
         × (decode (now table) .states ≤ length (now rest)) × (at + arc-bytes * arcs ≤ length (now out)) × (arcs ≤ length (now numbers)) ⌝ }
     ensures { λ r. ⌜ Passing-put (within-bound (now (coming .entry)) (now (rest .entry)) most) unchanged (decode (now (table .entry)) .arcs) at r
         (now (out .entry)) (now (out .exit)) (now (numbers .entry)) (now (numbers .exit)) ⌝ }

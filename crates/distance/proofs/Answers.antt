@@ -13,10 +13,10 @@ use Rattle.transducer.specs.Format.{Transducer, max-states, decode, refusal}
 use Rattle.transducer.specs.Entry.{or-else, weights-left-in}
 use Rattle.transducer.specs.Weight.{Weight}
 use Rattle.reach.proofs.Sized.{Sized}
-use Rattle.least.specs.Cycles.{anywhere, falling-anywhere}
-use Rattle.least.proofs.Falls.{anywhere-true}
+use Rattle.cycles.specs.Cycles.{anywhere, negative-cycle-anywhere}
+use Rattle.cycles.proofs.NegativeCycles.{anywhere-true}
 use Rattle.distance.specs.Distance.{no-path, least-to-come}
-use Rattle.relax.specs.Nearest.{Sizes, cost-at, by-state}
+use Rattle.relax.specs.Tentative.{Sizes, cost-at, by-state}
 use Rattle.distance.specs.Ended.{cost-told, Distances-say}
 use Rattle.distance.specs.Entry.{accepted-costs-refusal, costs-refusal, costs-to-come, Costs-say, cost-or-none}
 use Rattle.distance.proofs.ToCome.{past-none}
@@ -66,8 +66,8 @@ module _ (bs : List ℕ) (a : List Weight) {cs : List Weight} {ls : Sizes} {d : 
       at true h = says .least on s (omega (arith, ltb-true s states h)) refl
       at false h = sym (past-none t size s (omega (arith, ltb-false s states h)))
 
-  rises : d ≡ true → falling-anywhere t ≡ false
-  unfolding falling-anywhere
+  rises : d ≡ true → negative-cycle-anywhere t ≡ false
+  unfolding negative-cycle-anywhere
   rises on = settled-rises t size anywhere (cost-at cs) (by-state ls) (says .settled on)
 
   pub costs-told : d ≡ true → {states : ℕ} {a' : List Weight} → states ≡ t .states

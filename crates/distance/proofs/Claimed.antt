@@ -16,11 +16,11 @@ use Rattle.transducer.specs.Weight.{Weight, no-weight}
 use Rattle.transducer.proofs.Weights.{sums}
 use Rattle.transducer.proofs.Answers.{none-or-else, weights-left-in-none}
 use Rattle.reach.proofs.Sized.{Sized, sized}
-use Rattle.least.specs.Cycles.{Falling, Falls, anywhere, falling-anywhere}
-use Rattle.least.proofs.Falls.{true-anywhere, anywhere-true}
-use Rattle.least.proofs.NoLeast.{no-least}
+use Rattle.cycles.specs.Cycles.{Negative-cycle-from, Some-negative-cycle, anywhere, negative-cycle-anywhere}
+use Rattle.cycles.proofs.NegativeCycles.{true-anywhere, anywhere-true}
+use Rattle.cycles.proofs.NoLeast.{no-least}
 use Rattle.distance.specs.Distance.{least-to-come}
-use Rattle.relax.specs.Nearest.{cost-at}
+use Rattle.relax.specs.Tentative.{cost-at}
 use Rattle.distance.specs.Entry.{costs-refusal, costs-to-come, Costs-say}
 use Rattle.distance.specs.Claim.{Answered, Least-from, No-least-from, Cell-claim, Costs-claim, Costs-claimed}
 use Rattle.distance.proofs.ToCome.{cell-claimed}
@@ -42,28 +42,30 @@ module _ (bs : List ℕ) (r : ℕ) (a a' : List Weight) (ok : refusal bs ≡ 0) 
   abbrev t : Transducer
   t = decode bs
 
-  refused-is : r ≡ cond (falling-anywhere t) 19 0
+  refused-is : r ≡ cond (negative-cycle-anywhere t) 19 0
   unfolding costs-refusal
   refused-is =
       says .refusal-is
-      ∙ (none-or-else (refusal bs) (cond (ltb (length a) max-states) 10 (cond (falling-anywhere t) 19 0)) ok ∙ rw (le-ltb (length a) max-states room) refl)
+      ∙ (none-or-else (refusal bs) (cond (ltb (length a) max-states) 10 (cond (negative-cycle-anywhere t) 19 0)) ok
+      ∙ rw (le-ltb (length a) max-states room) refl)
 
-  refused-19 : (s : ℕ) → Falling t s → r ≡ 19
+  refused-19 : (s : ℕ) → Negative-cycle-from t s → r ≡ 19
   refused-19 s f =
-      let e : falling-anywhere t ≡ true = anywhere-true t (size .within) (record { state = s; marked = refl; falling = f }) in
+      let e : negative-cycle-anywhere t ≡ true = anywhere-true t (size .within) (record { state = s; marked = refl; negative-cycle = f }) in
       refused-is ∙ rw e refl
 
-  falls : (r ≡ 19) ↔ ((s : ℕ) × Falling t s)
+  falls : (r ≡ 19) ↔ ((s : ℕ) × Negative-cycle-from t s)
   falls = (
-    λ h. let f : Falls t anywhere = true-anywhere t (raised-last (falling-anywhere t) 18 (sym refused-is ∙ h)) in (f .state, f .falling),
+    λ h. let f : Some-negative-cycle t anywhere = true-anywhere t (raised-last (negative-cycle-anywhere t) 18 (sym refused-is
+        ∙ h)) in (f .state, f .negative-cycle),
     λ f. refused-19 (f .0) (f .1),
   )
 
   -- A state without a least cost leads to such a cycle: else its cell would have the least, or no path would lead from it to a final state.
-  no-least-falls : (s : ℕ) → No-least-from t s → falling-anywhere t ≡ true
-  no-least-falls s low = by-test (falling-anywhere t) (λ e. e) (λ rises. absurd (on rises))
+  no-least-falls : (s : ℕ) → No-least-from t s → negative-cycle-anywhere t ≡ true
+  no-least-falls s low = by-test (negative-cycle-anywhere t) (λ e. e) (λ rises. absurd (on rises))
     where
-      on : falling-anywhere t ≡ false → ⊥
+      on : negative-cycle-anywhere t ≡ false → ⊥
       on rises =
           let x : Weight = least-to-come t s in
           let k : Cell-claim t s x = cell-claimed t size rises s in
@@ -75,14 +77,14 @@ module _ (bs : List ℕ) (r : ℕ) (a a' : List Weight) (ok : refusal bs ≡ 0) 
   bottomless : (r ≡ 19) ↔ ((s : ℕ) × No-least-from t s)
   bottomless = (
     λ h.
-        let f : Falls t anywhere = true-anywhere t (raised-last (falling-anywhere t) 18 (sym refused-is ∙ h)) in
-        (f .state, λ w. let p = no-least t (f .state) (f .falling) w in (p .0, record { goes = p .1 .goes; final = p .1 .final }, p .2)),
+        let f : Some-negative-cycle t anywhere = true-anywhere t (raised-last (negative-cycle-anywhere t) 18 (sym refused-is ∙ h)) in
+        (f .state, λ w. let p = no-least t (f .state) (f .negative-cycle) w in (p .0, record { goes = p .1 .goes; final = p .1 .final }, p .2)),
     λ f. refused-is ∙ rw (no-least-falls (f .0) (f .1)) refl,
   )
 
   told : (r ≡ 19 → ⊥) → (r ≡ 0) × ((s : ℕ) → s < max-states → Cell-claim t s (cost-at a' s))
   told not-19 =
-      let rises : falling-anywhere t ≡ false = is-false (falling-anywhere t) (λ e. not-19 (refused-is ∙ rw e refl)) in
+      let rises : negative-cycle-anywhere t ≡ false = is-false (negative-cycle-anywhere t) (λ e. not-19 (refused-is ∙ rw e refl)) in
       let none : r ≡ 0 = refused-is ∙ rw rises refl in
       (none, λ s h. rw (cell-is bs (costs-refusal bs (length a)) r a a' says none s h) (cell-claimed t size rises s))
 

@@ -14,11 +14,11 @@ use Rattle.reach.specs.Marks.{Marked, Passes}
 use Rattle.reach.specs.Reach.{accessible}
 use Rattle.reach.proofs.Closure.{accessible-passes}
 use Rattle.reach.proofs.Sized.{Sized}
-use Rattle.least.specs.Cycles.{anywhere, Falls}
-use Rattle.relax.specs.Nearest.{Sizes, cost-at, by-state, Cells, Settled}
-use Rattle.settle.specs.Swept.{Swept-says}
+use Rattle.cycles.specs.Cycles.{anywhere, Some-negative-cycle}
+use Rattle.relax.specs.Tentative.{Sizes, cost-at, by-state, Cells, Settled}
+use Rattle.relaxation.specs.Swept.{Swept-says}
 use Rattle.distance.specs.Ended.{counted, Distances-say}
-use Rattle.settle.specs.Queue.{mark, Drained}
+use Rattle.relaxation.specs.Queue.{mark, Drained}
 use Rattle.distance.proofs.Settled.{distances-least}
 
 -- Those count to which arcs lead from one that does.
@@ -58,7 +58,7 @@ module _ (t : Transducer) (z : Sized t) (cs : List Weight) (ls : Sizes) where
           cells = d .cells;
           settled = λ h. never h;
           least = λ h. never h;
-          falls = λ _. let f : Falls t (mark ms) = d .stays q in record { state = f .state; marked = refl; falling = f .falling };
+          falls = λ _. let f : Some-negative-cycle t (mark ms) = d .stays q in record { state = f .state; marked = refl; negative-cycle = f .negative-cycle };
         })
 
   -- Those marked to which the start leads.
@@ -70,8 +70,8 @@ module _ (t : Transducer) (z : Sized t) (cs : List Weight) (ls : Sizes) where
         settled = settled;
         least = λ q. distances-least t z (accessible (t .states) t) (cost-at cs) (by-state ls) (settled q);
         falls = λ q.
-            let f : Falls t (mark ms) = d .stays q in
-            record { state = f .state; marked = sym (k .at-state (f .state)) ∙ f .marked; falling = f .falling };
+            let f : Some-negative-cycle t (mark ms) = d .stays q in
+            record { state = f .state; marked = sym (k .at-state (f .state)) ∙ f .marked; negative-cycle = f .negative-cycle };
       })
     where
       settled : r ≡ true → Settled t (accessible (t .states) t) (cost-at cs) (by-state ls)

@@ -7,7 +7,7 @@ use Rattle.wire.proofs.Bool.{never}
 use Rattle.transducer.specs.Format.{min-weight, decode, refusal}
 use Rattle.transducer.specs.Path.{arc, no-arc}
 use Rattle.transducer.specs.Weight.{At-most}
-use Rattle.transducer.specs.Leaf.{Looked-says}
+use Rattle.transducer.specs.Accepted.{Validation-says}
 use Rattle.transducer.proofs.Good.{arc-light}
 use Rattle.transducer.proofs.Weights.{good-range}
 use Rattle.reach.proofs.Sized.{Sized}
@@ -17,12 +17,12 @@ lightest : (bs : List ℕ) → Sized (decode bs) → (i : ℕ) → i < length (d
 unfolding arc
 lightest bs size i l = good-range (arc (decode bs) i .weight) (arc-light (decode bs) (size .content) i no-arc l) .low
 
-pub unvalidated-says : (bs : List ℕ) → Sized (decode bs) → refusal bs ≡ 0 → Looked-says bs unvalidated
+pub unvalidated-says : (bs : List ℕ) → Sized (decode bs) → refusal bs ≡ 0 → Validation-says bs unvalidated
 unvalidated-says bs size ok =
     record {
       refusal-is = sym ok;
       light = λ _. lightest bs size;
       rises = λ _ e. never e;
       written = λ _ e. never e;
-      by-name = λ _ e. never e;
+      no-any = λ _ e. never e;
     }

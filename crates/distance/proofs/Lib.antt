@@ -3,7 +3,7 @@
 pub mod ToCome
 pub mod Settled
 pub mod Ended
--- The facts of a look that hold without one.
+-- The facts that hold of accepted bytes without validating them.
 pub mod LeastKnown
 -- The lent cells.
 pub mod Written

@@ -19,14 +19,14 @@ use Rattle.reach.proofs.Reach.{coaccessible-path, path-coaccessible}
 use Rattle.paths.specs.Count.{paths-from}
 use Rattle.paths.proofs.Listed.{in-paths-from, paths-from-has}
 use Rattle.reach.proofs.Sized.{Sized}
-use Rattle.least.specs.Costs.{cost-from}
-use Rattle.least.specs.Cycles.{Falling, falling-among, Falls}
-use Rattle.least.proofs.Costs.{cost-nil, cost-cons}
-use Rattle.least.proofs.Cycles.{falling-rest}
-use Rattle.least.proofs.Falls.{falling-below, passes-along, among-falls}
+use Rattle.cycles.specs.Costs.{cost-from}
+use Rattle.cycles.specs.Cycles.{Negative-cycle-from, negative-cycle-among, Some-negative-cycle}
+use Rattle.cycles.proofs.Costs.{cost-nil, cost-cons}
+use Rattle.cycles.proofs.Cycles.{negative-cycle-rest}
+use Rattle.cycles.proofs.NegativeCycles.{negative-cycle-below, passes-along, among-falls}
 use Rattle.relax.specs.Size.{Size, size-of}
 use Rattle.distance.specs.Distance.{no-path, least-of, least-to-come}
-use Rattle.relax.specs.Nearest.{unreached, longer, No-worse, cost-by, size-by, own-cost, Reached, Settled}
+use Rattle.relax.specs.Tentative.{unreached, longer, No-worse, cost-by, size-by, own-cost, Reached, Settled}
 use Rattle.distance.specs.Ended.{cost-told}
 use Rattle.distance.proofs.ToCome.{least-of-most, least-of-in, least-of-above}
 use Rattle.relax.proofs.Nearer.{no-worse-through, no-worse-step, size-nil, size-cons}
@@ -116,17 +116,17 @@ module _ (t : Transducer) (z : Sized t) (counts : ℕ → Bool) (c : ℕ → Wei
       through a w b d p q = omega (arith, sums)
 
   -- So from no such state does a path go round a cycle below zero on its way to a final state.
-  pub settled-rises : falling-among t counts ≡ false
-  settled-rises = is-false (falling-among t counts) (λ e. on (among-falls t counts e))
+  pub settled-rises : negative-cycle-among t counts ≡ false
+  settled-rises = is-false (negative-cycle-among t counts) (λ e. on (among-falls t counts e))
     where
-      on : Falls t counts → ⊥
+      on : Some-negative-cycle t counts → ⊥
       on g =
           let s : ℕ = g .state in
-          let f : Falling t s = g .falling in
+          let f : Negative-cycle-from t s = g .negative-cycle in
           let u : ℕ = ends t s (f .lead) in
-          let b : u < t .states = ends-below t (z .within) s (f .lead) (falling-below t (z .within) s f) (f .there) in
+          let b : u < t .states = ends-below t (z .within) s (f .lead) (negative-cycle-below t (z .within) s f) (f .there) in
           let m : Marked u = passes-along t counts (k .onwards) s (f .lead) (g .marked) (f .there) in
-          let h : Below (c u) unreached = accepting-reached u (f .rest) b m (falling-rest t s f) in
+          let h : Below (c u) unreached = accepting-reached u (f .rest) b m (negative-cycle-rest t s f) in
           let o : Onward u (f .cycle) = onward-path u (f .cycle) m (f .around) (rw (f .back) h) in
           let low : At-most (c u) (plus (arcs-cost t (f .cycle)) (c u)) = rw (f .back) at (o .low) in
           omega (arith, sums, f .sum)

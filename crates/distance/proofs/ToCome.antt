@@ -23,10 +23,10 @@ use Rattle.transducer.proofs.Runs.{Accepting, AcceptingBy, accepting-nil, accep
 use Rattle.paths.specs.Count.{paths-from}
 use Rattle.paths.proofs.Listed.{in-paths-from, paths-from-has}
 use Rattle.reach.proofs.Sized.{Sized}
-use Rattle.least.specs.Costs.{cost-from}
-use Rattle.least.specs.Cycles.{Falling, falling-anywhere}
-use Rattle.least.proofs.Cycles.{Shorter, shorter}
-use Rattle.least.proofs.Falls.{anywhere-true}
+use Rattle.cycles.specs.Costs.{cost-from}
+use Rattle.cycles.specs.Cycles.{Negative-cycle-from, negative-cycle-anywhere}
+use Rattle.cycles.proofs.Cycles.{Shorter, shorter}
+use Rattle.cycles.proofs.NegativeCycles.{anywhere-true}
 use Rattle.distance.specs.Distance.{no-path, lesser, least-of, least-to-come}
 use Rattle.distance.specs.Claim.{To-final, Cell-claim}
 use Rattle.relax.proofs.Bounds.{Bounded, cost-bounded}
@@ -123,7 +123,7 @@ past-none t z s h = on (least-of-one t s (paths-from (t .states) t s))
         let b : s < t .states = accepting-below t z s (o .path) (in-paths-from (t .states) t s (o .path) (o .listed) .0) in
         absurd (omega (arith, b))
 
-module _ (t : Transducer) (z : Sized t) (rises : falling-anywhere t ≡ false) (s : ℕ) where
+module _ (t : Transducer) (z : Sized t) (rises : negative-cycle-anywhere t ≡ false) (s : ℕ) where
   all : List (List ℕ)
   all = paths-from (t .states) t s
 
@@ -135,7 +135,7 @@ module _ (t : Transducer) (z : Sized t) (rises : falling-anywhere t ≡ false) (
   low : (p : List ℕ) → Accepting t s p → Low p
   unfolding least-to-come all
   low p a =
-      let f : Falling t s → ⊥ = λ g. clash (anywhere-true t (z .within) (record { state = s; marked = refl; falling = g })) rises in
+      let f : Negative-cycle-from t s → ⊥ = λ g. clash (anywhere-true t (z .within) (record { state = s; marked = refl; negative-cycle = g })) rises in
       let q : Shorter t s p = shorter t (z .within) s p (accepting-below t z s p a) f a in
       let m : Mem (q .path) all = paths-from-has (t .states) t s (q .path) (q .accepting) (omega (arith, q .few)) in
       let l : At-most (least-of t s all) (cost-from t s (q .path)) = least-of-in t s all (q .path) m in

@@ -20,7 +20,7 @@ use Rattle.wire.proofs.Places.{length-places, getD-places, length-padded, getD-
 use Rattle.transducer.specs.Format.{max-states}
 use Rattle.transducer.specs.Weight.{Weight, no-weight, At-most}
 use Rattle.distance.specs.Distance.{no-path}
-use Rattle.relax.specs.Nearest.{unreached, cost-at, least-cost}
+use Rattle.relax.specs.Tentative.{unreached, cost-at, least-cost}
 use Rattle.distance.specs.Ended.{cost-told}
 use Rattle.distance.specs.Entry.{cost-or-none, Copied, Spanned}
 

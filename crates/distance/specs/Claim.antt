@@ -10,11 +10,11 @@ use Rattle.wire.specs.Bytes.{Bytes}
 use Rattle.transducer.specs.Format.{Transducer, max-states, refusal, decode}
 use Rattle.transducer.specs.Path.{is-final, runs, ends}
 use Rattle.transducer.specs.Weight.{Weight, At-most, Below}
-use Rattle.least.specs.Costs.{cost-from}
-use Rattle.least.specs.Cycles.{Falling}
+use Rattle.cycles.specs.Costs.{cost-from}
+use Rattle.cycles.specs.Cycles.{Negative-cycle-from}
 use Rattle.distance.specs.Distance.{no-path}
 use Rattle.distance.specs.Entry.{costs-refusal, Costs-say}
-use Rattle.relax.specs.Nearest.{cost-at}
+use Rattle.relax.specs.Tentative.{cost-at}
 
 -- A call of `costs_to_come` on some bytes, answered as its contract says, with at least 1,024 cells lent; it may be refused. What it was lent stands
 -- beside the same as it was left behind (`-left`).
@@ -55,7 +55,7 @@ pub record Cell-claim (t : Transducer) (s : ℕ) (x : Weight) : Type 0 where
 -- 19 exactly where some state leads to a cycle below zero and on from there to a final state, and that is where some state has no least cost; else each of
 -- the 1,024 cells is as said.
 pub record Costs-claim (t : Transducer) (r : ℕ) (cells : List Weight) : Type 0 where
-  pub falls : (r ≡ 19) ↔ ((s : ℕ) × Falling t s)
+  pub falls : (r ≡ 19) ↔ ((s : ℕ) × Negative-cycle-from t s)
   pub bottomless : (r ≡ 19) ↔ ((s : ℕ) × No-least-from t s)
   pub told : (r ≡ 19 → ⊥) → (r ≡ 0) × ((s : ℕ) → s < max-states → Cell-claim t s (cost-at cells s))
 

@@ -5,7 +5,7 @@ use Prim.Native.Nat.{ℕ}
 use Rattle.transducer.specs.Format.{Transducer}
 use Rattle.transducer.specs.Weight.{Weight, amount, at-most}
 use Rattle.paths.specs.Count.{paths-from}
-use Rattle.least.specs.Costs.{cost-from}
+use Rattle.cycles.specs.Costs.{cost-from}
 
 -- The cost where nothing accepts: above that of every path that visits no state twice.
 abbrev pub no-path : Weight

@@ -3,17 +3,17 @@ use mathlib.Core.Path.{_≡_}
 use mathlib.Core.Bool.{Bool, true, false, cond}
 use mathlib.Core.List.{List}
 use Prim.Native.Nat.{ℕ, _<_}
-use Rattle.transducer.specs.declared.Looked.{Looked}
+use Rattle.transducer.specs.declared.Validation.{Validation}
 use Rattle.transducer.specs.Format.{Transducer, min-weight}
 use Rattle.transducer.specs.Weight.{Weight, below}
 use Rattle.reach.specs.Reach.{accessible}
-use Rattle.least.specs.Cycles.{anywhere, Falls}
-use Rattle.relax.specs.Nearest.{Sizes, unreached, cost-at, by-state, Cells, Settled}
+use Rattle.cycles.specs.Cycles.{anywhere, Some-negative-cycle}
+use Rattle.relax.specs.Tentative.{Sizes, unreached, cost-at, by-state, Cells, Settled}
 use Rattle.distance.specs.Distance.{no-path, least-to-come}
 
--- The facts of a look that hold of all accepted bytes.
-abbrev pub unvalidated : Looked
-unvalidated = record { refusal = 0; least = min-weight; up = false; writes = false; named = false }
+-- The facts of validation that hold of all accepted bytes.
+abbrev pub unvalidated : Validation
+unvalidated = record { refusal = 0; least = min-weight; «top_sorted» = false; «no_output_epsilon» = false; «no_any_input» = false }
 
 -- The states that count: all, or those that the start reaches.
 abbrev pub counted : (everywhere : Bool) → Transducer → (s : ℕ) → Bool
@@ -29,4 +29,4 @@ pub record Distances-say (t : Transducer) (counts : ℕ → Bool) (cs : List Wei
   pub cells : Cells (t .states) cs ls
   pub settled : r ≡ true → Settled t counts (cost-at cs) (by-state ls)
   pub least : r ≡ true → (s : ℕ) → s < t .states → counts s ≡ true → cost-told (cost-at cs s) ≡ least-to-come t s
-  pub falls : r ≡ false → Falls t counts
+  pub falls : r ≡ false → Some-negative-cycle t counts

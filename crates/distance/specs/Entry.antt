@@ -9,14 +9,14 @@ use Rattle.wire.specs.Bytes.{places}
 use Rattle.transducer.specs.Format.{Transducer, max-states, refusal, decode}
 use Rattle.transducer.specs.Entry.{or-else, weights-left-in}
 use Rattle.transducer.specs.Weight.{Weight}
-use Rattle.least.specs.Cycles.{falling-anywhere}
+use Rattle.cycles.specs.Cycles.{negative-cycle-anywhere}
 use Rattle.distance.specs.Distance.{no-path, least-to-come}
-use Rattle.relax.specs.Nearest.{cost-at}
+use Rattle.relax.specs.Tentative.{cost-at}
 use Rattle.distance.specs.Ended.{cost-told}
 
 -- What distance refuses of accepted bytes: 19 if a final state can be reached from a cycle below zero, whether the start reaches that or not.
 abbrev pub accepted-costs-refusal : Transducer → ℕ
-accepted-costs-refusal t = cond (falling-anywhere t) 19 0
+accepted-costs-refusal t = cond (negative-cycle-anywhere t) 19 0
 
 -- 1 to 8, 10 for fewer than 1,024 cells, then 19.
 unfoldable pub costs-refusal : List ℕ → (cells : ℕ) → ℕ

@@ -5,7 +5,7 @@ ghost use lib.ListN.{length};
 ghost use Rattle.wire.specs.Bytes.{places, signed-filled};
 ghost use Rattle.transducer.specs.Format.{max-states};
 ghost use Rattle.transducer.specs.Weight.{At-most};
-ghost use Rattle.relax.specs.Nearest.{unreached, cost-at, least-cost};
+ghost use Rattle.relax.specs.Tentative.{unreached, cost-at, least-cost};
 ghost use Rattle.distance.specs.Ended.{cost-told};
 ghost use Rattle.distance.specs.Entry.{cost-or-none, Copied, Spanned};
 use transducer::MAX_STATES;

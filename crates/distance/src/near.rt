@@ -2,12 +2,12 @@
 ghost use mathlib.Core.Path.{_≡_};
 ghost use Prim.Native.Nat.{ℕ};
 ghost use Rattle.transducer.specs.Format.{decode};
-ghost use Rattle.transducer.specs.Leaf.{Looked-says};
+ghost use Rattle.transducer.specs.Accepted.{Validation-says};
 ghost use Rattle.relax.specs.Begun.{Cleared, Begun};
 ghost use Rattle.distance.specs.Ended.{counted, Distances-say, unvalidated};
-use transducer::Looked;
 use transducer::MAX_STATES;
 use transducer::Shape;
+use transducer::Validation;
 
 // The least cost to come from each state, `everywhere` or where the start leads, with the fewest labels at that cost and the fewest arcs with these; `costs`
 // begins with the empty paths' costs, `lens` with zeros.
@@ -18,20 +18,24 @@ pub fn distances(
     table: &[u8],
     shape: Shape,
     everywhere: bool,
-    seen: Looked,
+    seen: Validation,
     costs: &mut [i32],
     lens: &mut [u32],
 ) -> bool
-    requires { ⌜ Begun (now table) shape (now costs) × Looked-says (now table) seen × Cleared {A = ℕ} 0 (decode (now table) .states) (now lens) ⌝ }
+    requires { ⌜ Begun (now table) shape (now costs) × Validation-says (now table) seen × Cleared {A = ℕ} 0 (decode (now table) .states) (now lens) ⌝ }
     ensures { λ r. ⌜ Distances-say (decode (now (table .entry))) (counted everywhere (decode (now (table .entry))))
         (now (costs .exit)) (now (lens .exit)) r ⌝ }
 {
     let first = shape.first;
     let states = shape.states;
     let arcs = shape.arcs;
-    let plain = settle::is_plain(states, seen.writes, seen.least, costs);
-    let forward = settle::by_states(seen.writes, seen.least, seen.up);
-    if !settle::sweep_once(
+    let plain = relaxation::is_plain(states, seen.no_output_epsilon, seen.least, costs);
+    let forward = relaxation::can_sweep_by_state(
+        seen.no_output_epsilon,
+        seen.least,
+        seen.top_sorted,
+    );
+    if !relaxation::sweep_once(
         table,
         first,
         states,
@@ -45,26 +49,26 @@ pub fn distances(
         return true;
     }
     let all = [true; MAX_STATES];
-    if settle::drain(table, first, states, arcs, &all, costs, lens) {
+    if relaxation::drain(table, first, states, arcs, &all, costs, lens) {
         return true;
     }
     if everywhere {
         return false;
     }
     let reached = reach::accessible(table, first, states, arcs, shape.start);
-    settle::drain(table, first, states, arcs, &reached, costs, lens)
+    relaxation::drain(table, first, states, arcs, &reached, costs, lens)
 }
 
 // The facts that hold of all accepted bytes, for bytes that a call made and nobody validated. The sweep is right with them for every table; it spares
 // nothing where states have many arcs.
-pub fn unvalidated() -> Looked
+pub fn unvalidated() -> Validation
     ensures { λ r. ⌜ r ≡ unvalidated ⌝ }
 {
-    Looked {
+    Validation {
         refusal: 0,
         least: transducer::MIN_WEIGHT,
-        up: false,
-        writes: false,
-        named: false,
+        top_sorted: false,
+        no_output_epsilon: false,
+        no_any_input: false,
     }
 }

@@ -340,7 +340,7 @@ module _ {A O : Type 0} {same : A → A → Bool} {steps : A → List (Step A O)
       unfolding built begun
       explored-origins = explored-serves .origins-are
 
-      pub explored-dear : explored next (pack first) .dear ≡ not (every (λ a. weight-good (a .weight)) (made .result .arcs))
+      pub explored-dear : explored next (pack first) .overflow ≡ not (every (λ a. weight-good (a .weight)) (made .result .arcs))
       explored-dear =
           let right : Dear-right (explored next (pack first)) =
           rw (explored-on next (pack first)) (served-on-dear next 0 (begun (pack first)) (begun-dear (pack first))) in

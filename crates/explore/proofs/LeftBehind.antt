@@ -22,13 +22,13 @@ module _ (t : Transducer) where
   abbrev finals-light : Bool
   finals-light = every (λ f. weight-good (f .weight)) (t .finals)
 
-  pub dear-arcs : not arcs-light ≡ true → weights-good t ≡ false
+  pub overflow-arcs : not arcs-light ≡ true → weights-good t ≡ false
   unfolding weights-good
-  dear-arcs h = rw (not-true arcs-light h) (and-false finals-light)
+  overflow-arcs h = rw (not-true arcs-light h) (and-false finals-light)
 
-  pub dear-finals : not finals-light ≡ true → weights-good t ≡ false
+  pub overflow-finals : not finals-light ≡ true → weights-good t ≡ false
   unfolding weights-good
-  dear-finals h = rw (not-true finals-light h)
+  overflow-finals h = rw (not-true finals-light h)
 
   pub none-dear : not arcs-light ≡ false → not finals-light ≡ false → weights-good t ≡ true
   unfolding weights-good

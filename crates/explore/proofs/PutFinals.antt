@@ -19,19 +19,19 @@ use Rattle.wire.proofs.Places.{not-every-snoc}
 use Rattle.explore.proofs.Finals.{finals-from-append}
 
 -- The finals of the first s keys are written; `final` and `weight` read a key.
-pub record Finishing (final : ℕ → Bool) (weight : ℕ → Weight) (states : List ℕ) (count : ℕ) (table₀ table : List ℕ) (finals : ℕ) (dear : Bool) (s : ℕ)
+pub record Finishing (final : ℕ → Bool) (weight : ℕ → Weight) (states : List ℕ) (count : ℕ) (table₀ table : List ℕ) (finals : ℕ) (overflow : Bool) (s : ℕ)
     : Type 0 where
   pub within : s ≤ count
   pub few : finals ≤ s
   pub kept : length table ≡ length table₀
   pub count-is : finals ≡ length (finals-from final weight 0 (take s states))
-  pub dear-is : dear ≡ not (every (λ f. weight-good (f .weight)) (finals-from final weight 0 (take s states)))
+  pub overflow-is : overflow ≡ not (every (λ f. weight-good (f .weight)) (finals-from final weight 0 (take s states)))
   pub stored : table ≡ sets table₀ 12 (final-records (finals-from final weight 0 (take s states)))
 
 module _ (final : ℕ → Bool) (weight : ℕ → Weight) (states : List ℕ) where
   pub finishing-first : (count : ℕ) (table : List ℕ) → Finishing final weight states count table table 0 false 0
   unfolding finals-from every final-records
-  finishing-first count table = record { within = omega arith; few = omega arith; kept = refl; count-is = refl; dear-is = refl; stored = refl }
+  finishing-first count table = record { within = omega arith; few = omega arith; kept = refl; count-is = refl; overflow-is = refl; stored = refl }
 
   one-more : (s : ℕ) → s < length states
       → finals-from final weight 0 (take (suc s) states) ≡ finals-from final weight 0 (take s states) ++ finals-from final weight s (getD states s 0 ∷ [])
@@ -41,16 +41,17 @@ module _ (final : ℕ → Bool) (weight : ℕ → Weight) (states : List ℕ) wh
       ∙ finals-from-append final weight 0 (take s states) (getD states s 0 ∷ [])
       ∙ ap (λ (i : ℕ). finals-from final weight 0 (take s states) ++ finals-from final weight i (getD states s 0 ∷ [])) n
 
-  module _ {count : ℕ} {table₀ table : List ℕ} {finals : ℕ} {dear : Bool} {s : ℕ}
-      (inv : Finishing final weight states count table₀ table finals dear s) where
-    pub finishing-stop : count ≤ s → Finals-stored (finals-from final weight 0 (take count states)) (record { count = finals; dear = dear }) table₀ table
+  module _ {count : ℕ} {table₀ table : List ℕ} {finals : ℕ} {overflow : Bool} {s : ℕ}
+      (inv : Finishing final weight states count table₀ table finals overflow s) where
+    pub finishing-stop : count ≤ s → Finals-stored (finals-from final weight 0 (take count states))
+        (record { count = finals; overflow = overflow }) table₀ table
     finishing-stop stop =
         let all : s ≡ count = omega (arith, inv .within) in
-        record { count-is = rw all at (inv .count-is); dear-is = rw all at (inv .dear-is); stored = rw all at (inv .stored) }
+        record { count-is = rw all at (inv .count-is); overflow-is = rw all at (inv .overflow-is); stored = rw all at (inv .stored) }
 
     module _ (less : s < count) (room : count ≤ length states) where
       -- The next key is that of a state that is not final.
-      pub finishing-none : final (getD states s 0) ≡ false → Finishing final weight states count table₀ table finals dear (s + 1)
+      pub finishing-none : final (getD states s 0) ≡ false → Finishing final weight states count table₀ table finals overflow (s + 1)
       unfolding finals-from
       finishing-none f =
           let same : finals-from final weight 0 (take (s + 1) states) ≡ finals-from final weight 0 (take s states) =
@@ -60,14 +61,14 @@ module _ (final : ℕ → Bool) (weight : ℕ → Weight) (states : List ℕ) wh
             few = omega (arith, inv .few);
             kept = inv .kept;
             count-is = rw same (inv .count-is);
-            dear-is = rw same (inv .dear-is);
+            overflow-is = rw same (inv .overflow-is);
             stored = rw same (inv .stored);
           }
 
       -- It is that of a final state, and is written.
       pub finishing-more : (table' : List ℕ) (value : Weight) (ok : Bool) → final (getD states s 0) ≡ true → value ≡ weight (getD states s 0)
           → table' ≡ sets table (12 + 10 * finals) (final-record (record { state = s; weight = value })) → length table' ≡ length table
-          → ok ≡ weight-good value → Finishing final weight states count table₀ table' (finals + 1) (dear || not ok) (s + 1)
+          → ok ≡ weight-good value → Finishing final weight states count table₀ table' (finals + 1) (overflow || not ok) (s + 1)
       unfolding finals-from final-records every
       finishing-more table' value ok final-is value-is put long good =
           let fs : List Final = finals-from final weight 0 (take s states) in
@@ -81,8 +82,8 @@ module _ (final : ℕ → Bool) (weight : ℕ → Weight) (states : List ℕ) wh
             few = omega (arith, inv .few);
             kept = long ∙ inv .kept;
             count-is = ap (λ (n : ℕ). n + 1) (inv .count-is) ∙ sym (ap length more ∙ length-append fs (f ∷ []));
-            dear-is =
-                ap (λ (d : Bool). d || not ok) (inv .dear-is)
+            overflow-is =
+                ap (λ (d : Bool). d || not ok) (inv .overflow-is)
                 ∙ ap (λ (b : Bool). not (every (λ f. weight-good (f .weight)) fs) || not b) good
                 ∙ not-every-snoc (λ f. weight-good (f .weight)) fs f
                 ∙ sym (ap (λ (l : List Final). not (every (λ f. weight-good (f .weight)) l)) more);

@@ -52,12 +52,12 @@ pub record Key-kept (key : ℕ) (xs : List ℕ) (number : ℕ) (w w' : Walk) (st
   pub small : number < max-states
   pub chained : Chained (with-key key xs) states heads links
   pub counted : w' .states ≡ length (with-key key xs)
-  pub rest-stays : w' ≡ record { states = w' .states; arcs = w .arcs; dear = w .dear; full = w .full }
+  pub rest-stays : w' ≡ record { states = w' .states; arcs = w .arcs; overflow = w .overflow; full = w .full }
 
 module _ (key : ℕ) {xs : List ℕ} {w w' : Walk} {number : ℕ} {s s' h h' l l' : List ℕ} (long : length xs ≡ w .states) (few : length xs ≤ max-states)
     (states : s' ≡ s) (heads : h' ≡ h) (links : l' ≡ l) where
   pub kept-new : place eqb key xs ≡ length xs → (w .states ≡ max-states → ⊥) → Chained (xs ++ (key ∷ [])) s h l → number ≡ w .states
-      → w' ≡ record { states = w .states + 1; arcs = w .arcs; dear = w .dear; full = w .full } → Key-kept key xs number w w' s' h' l'
+      → w' ≡ record { states = w .states + 1; arcs = w .arcs; overflow = w .overflow; full = w .full } → Key-kept key xs number w w' s' h' l'
   unfolding with-key
   kept-new none room chained is walk =
       let absent : there eqb key xs ≡ false = place-new key xs none in
@@ -103,32 +103,32 @@ flag-false false h = refl
 
 -- An arc written
 
-module _ (as' : List Arc) (dear : Bool) (w w' : Walk) (table : List ℕ) (a : Arc) (held : Arcs-held as' dear w table) where
+module _ (as' : List Arc) (overflow : Bool) (w w' : Walk) (table : List ℕ) (a : Arc) (held : Arcs-held as' overflow w table) where
   abbrev light : Bool
   light = weight-good (a .weight)
 
-  more-dear : w' .dear ≡ bitOr (w .dear) (boolByte (not light)) → w' .dear ≡ flag (dear || not light)
-  more-dear e = e ∙ ap (λ (d : ℕ). bitOr d (boolByte (not light))) (held .dear-is) ∙ or-flag dear (not light)
+  more-dear : w' .overflow ≡ bitOr (w .overflow) (boolByte (not light)) → w' .overflow ≡ flag (overflow || not light)
+  more-dear e = e ∙ ap (λ (d : ℕ). bitOr d (boolByte (not light))) (held .overflow-is) ∙ or-flag overflow (not light)
 
-  pub arcs-held-next : (table' : List ℕ) → w .arcs < max-arcs → w' .arcs ≡ w .arcs + 1 → w' .dear ≡ bitOr (w .dear) (boolByte (not light))
+  pub arcs-held-next : (table' : List ℕ) → w .arcs < max-arcs → w' .arcs ≡ w .arcs + 1 → w' .overflow ≡ bitOr (w .overflow) (boolByte (not light))
       → table' ≡ sets table (16 * w .arcs) (arc-record a)
-      → Arcs-held (as' ++ (a ∷ [])) (dear || not light) w' table'
+      → Arcs-held (as' ++ (a ∷ [])) (overflow || not light) w' table'
   arcs-held-next table' less counts dears t =
       let long : length as' ≡ w .arcs = omega (arith, held .arcs-are) in
       record {
         arcs-are = omega (arith, length-append as' (a ∷ []));
-        dear-is = more-dear dears;
+        overflow-is = more-dear dears;
         table-long = rw (t, length-sets table (16 * w .arcs) (arc-record a)) (held .table-long);
         written = rw t (written-next (w .arcs) as' a table long less (held .table-long) (held .written));
       }
 
-  pub arcs-held-full : max-arcs ≤ w .arcs → w' .arcs ≡ max-arcs + 1 → w' .dear ≡ bitOr (w .dear) (boolByte (not light))
-      → Arcs-held (as' ++ (a ∷ [])) (dear || not light) w' table
+  pub arcs-held-full : max-arcs ≤ w .arcs → w' .arcs ≡ max-arcs + 1 → w' .overflow ≡ bitOr (w .overflow) (boolByte (not light))
+      → Arcs-held (as' ++ (a ∷ [])) (overflow || not light) w' table
   arcs-held-full full counts dears =
       let long : max-arcs ≤ length as' = omega (arith, held .arcs-are) in
       record {
         arcs-are = omega (arith, length-append as' (a ∷ []));
-        dear-is = more-dear dears;
+        overflow-is = more-dear dears;
         table-long = held .table-long;
         written = written-full as' a table long (held .written);
       }
@@ -165,12 +165,12 @@ module _ (width count : ℕ) (os vs origins : List ℕ) (held : Origins-held wid
       }
 
 -- An arc and its origins recorded, the origins where there is room for the arc.
-pub recorded-more : (width : ℕ) (as' : List Arc) (os vs : List ℕ) (dear : Bool) (w w' : Walk) (table table' origins origins' : List ℕ) (a : Arc)
-    → Recorded width as' os dear w table origins → Records a w w' table table' → length vs ≡ width → origins' ≡ traced-by width (w .arcs) vs origins
-    → Recorded width (as' ++ (a ∷ [])) (os ++ vs) (dear || not (weight-good (a .weight))) w' table' origins'
+pub recorded-more : (width : ℕ) (as' : List Arc) (os vs : List ℕ) (overflow : Bool) (w w' : Walk) (table table' origins origins' : List ℕ) (a : Arc)
+    → Recorded width as' os overflow w table origins → Records a w w' table table' → length vs ≡ width → origins' ≡ traced-by width (w .arcs) vs origins
+    → Recorded width (as' ++ (a ∷ [])) (os ++ vs) (overflow || not (weight-good (a .weight))) w' table' origins'
 unfolding traced-by
-recorded-more width as' os vs dear w w' table table' origins origins' a held records wide o =
-    record { arcs-held = records .one-more as' dear (held .arcs-held); origins-held = rw (o, one) both }
+recorded-more width as' os vs overflow w w' table table' origins origins' a held records wide o =
+    record { arcs-held = records .one-more as' overflow (held .arcs-held); origins-held = rw (o, one) both }
   where
     one : length (as' ++ (a ∷ [])) ≡ suc (length as')
     one = length-append as' (a ∷ []) ∙ omega arith

@@ -36,7 +36,7 @@ pub taken-there : (source : ℕ) (s : Keyed) (b : Sofar) → there eqb (s .targe
       keys = b .keys;
       arcs = b .arcs ++ (arc-of-keyed source s (place eqb (s .target) (b .keys)) ∷ []);
       origins = b .origins ++ s .origins;
-      dear = b .dear || not (weight-good (s .weight));
+      overflow = b .overflow || not (weight-good (s .weight));
     }
 unfolding taken with-key
 taken-there source s b h = rw h
@@ -47,7 +47,7 @@ pub taken-new : (source : ℕ) (s : Keyed) (b : Sofar) → there eqb (s .target)
       keys = b .keys ++ (s .target ∷ []);
       arcs = b .arcs ++ (arc-of-keyed source s (length (b .keys)) ∷ []);
       origins = b .origins ++ s .origins;
-      dear = b .dear || not (weight-good (s .weight));
+      overflow = b .overflow || not (weight-good (s .weight));
     }
 unfolding taken with-key
 taken-new source s b h = rw (h, place-snoc (s .target) (b .keys) h)
@@ -65,7 +65,7 @@ pub taken-with : (source number : ℕ) (s : Keyed) (b : Sofar) → number ≡ pl
       keys = with-key (s .target) (b .keys);
       arcs = b .arcs ++ (arc-of-keyed source s number ∷ []);
       origins = b .origins ++ s .origins;
-      dear = b .dear || not (weight-good (s .weight));
+      overflow = b .overflow || not (weight-good (s .weight));
     }
 unfolding taken
 taken-with source number s b is =
@@ -121,7 +121,7 @@ length-origins width source (s ∷ ss) b wide =
 -- A weight is out of range exactly where that of some arc is.
 
 abbrev pub Dear-right : Sofar → Type 0
-Dear-right b = b .dear ≡ not (every (λ a. weight-good (a .weight)) (b .arcs))
+Dear-right b = b .overflow ≡ not (every (λ a. weight-good (a .weight)) (b .arcs))
 
 pub taken-dear : (source : ℕ) (ss : List Keyed) (b : Sofar) → Dear-right b → Dear-right (all-taken source ss b)
 unfolding all-taken taken
@@ -131,7 +131,7 @@ taken-dear source (s ∷ ss) b h = taken-dear source ss (taken source s b) one
     a : Arc
     a = arc-of-keyed source s (place eqb (s .target) (taken source s b .keys))
 
-    one : b .dear || not (weight-good (s .weight)) ≡ not (every (λ a. weight-good (a .weight)) (b .arcs ++ (a ∷ [])))
+    one : b .overflow || not (weight-good (s .weight)) ≡ not (every (λ a. weight-good (a .weight)) (b .arcs ++ (a ∷ [])))
     one =
         ap (λ (d : Bool). d || not (weight-good (s .weight))) h ∙ not-every-snoc (λ a. weight-good (a .weight)) (b .arcs) a
 

@@ -28,7 +28,7 @@ use Rattle.explore.proofs.ExploredKeys.{
   explored-origins,
   explored-dear,
 }
-use Rattle.explore.proofs.LeftBehind.{dear-arcs, dear-finals, none-dear, built-12, built-13, built-0}
+use Rattle.explore.proofs.LeftBehind.{overflow-arcs, overflow-finals, none-dear, built-12, built-13, built-0}
 use Rattle.explore.proofs.Member.{Mem, mem-here, mem-later}
 use Rattle.explore.proofs.MovedArcs.{drop-sets-before}
 use Rattle.explore.proofs.Parts.{built-start, built-states, length-steps, length-finals}
@@ -84,8 +84,8 @@ module _ {A O : Type 0} {same : A → A → Bool} {steps : A → List (Step A O)
     pub told-arcs : w .arcs ≡ min (length (z .arcs)) (max-arcs + 1)
     told-arcs = told .recorded .arcs-held .arcs-are ∙ ap (λ (as' : List Arc). min (length as') (max-arcs + 1)) (explored-arcs k final weight told-few)
 
-    pub told-dear : w .dear ≡ flag (not (every (λ a. weight-good (a .weight)) (z .arcs)))
-    told-dear = told .recorded .arcs-held .dear-is ∙ ap flag (explored-dear k final weight told-few)
+    pub told-dear : w .overflow ≡ flag (not (every (λ a. weight-good (a .weight)) (z .arcs)))
+    told-dear = told .recorded .arcs-held .overflow-is ∙ ap flag (explored-dear k final weight told-few)
 
     pub told-finals : length (z .finals) ≤ max-states
     told-finals = omega (arith, length-finals same steps final weight first, told-few)
@@ -125,13 +125,13 @@ module _ {A O : Type 0} {same : A → A → Bool} {steps : A → List (Step A O)
       pub arcs-long : length (z .arcs) ≡ w .arcs
       arcs-long = omega (arith, told-arcs)
 
-      pub told-13-arcs : (w .dear ≡ 0 → ⊥) → built-refusal z ≡ 13
-      told-13-arcs dear = built-13 z few-states (omega (arith, arcs-long)) (dear-arcs z (flag-true _ (λ e. dear (told-dear ∙ e))))
+      pub told-13-arcs : (w .overflow ≡ 0 → ⊥) → built-refusal z ≡ 13
+      told-13-arcs overflow = built-13 z few-states (omega (arith, arcs-long)) (overflow-arcs z (flag-true _ (λ e. overflow (told-dear ∙ e))))
 
       pub told-13-finals : not (every (λ f. weight-good (f .weight)) (z .finals)) ≡ true → built-refusal z ≡ 13
-      told-13-finals dear = built-13 z few-states (omega (arith, arcs-long)) (dear-finals z dear)
+      told-13-finals overflow = built-13 z few-states (omega (arith, arcs-long)) (overflow-finals z overflow)
 
-      pub told-0 : w .dear ≡ 0 → not (every (λ f. weight-good (f .weight)) (z .finals)) ≡ false → built-refusal z ≡ 0
+      pub told-0 : w .overflow ≡ 0 → not (every (λ f. weight-good (f .weight)) (z .finals)) ≡ false → built-refusal z ≡ 0
       told-0 cheap light = built-0 z few-states (omega (arith, arcs-long)) (none-dear z (flag-false _ (sym told-dear ∙ cheap)) light)
 
       -- What stands at the front of the buffer for arcs.

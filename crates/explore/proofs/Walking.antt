@@ -54,13 +54,13 @@ use Rattle.explore.proofs.Recording.{recorded-more}
 -- A step taken
 
 -- What is recorded does not speak of the number of states.
-pub recorded-states : {width : ℕ} {as' : List Arc} {os : List ℕ} {dear : Bool} {w : Walk} {table origins : List ℕ} (n : ℕ)
-    → Recorded width as' os dear w table origins
-    → Recorded width as' os dear (record { states = n; arcs = w .arcs; dear = w .dear; full = w .full }) table origins
+pub recorded-states : {width : ℕ} {as' : List Arc} {os : List ℕ} {overflow : Bool} {w : Walk} {table origins : List ℕ} (n : ℕ)
+    → Recorded width as' os overflow w table origins
+    → Recorded width as' os overflow (record { states = n; arcs = w .arcs; overflow = w .overflow; full = w .full }) table origins
 recorded-states n r =
     let h = r .arcs-held in
     record {
-      arcs-held = record { arcs-are = h .arcs-are; dear-is = h .dear-is; table-long = h .table-long; written = h .written };
+      arcs-held = record { arcs-are = h .arcs-are; overflow-is = h .overflow-is; table-long = h .table-long; written = h .written };
       origins-held = r .origins-held;
     }
 
@@ -68,7 +68,7 @@ pub walked-next : (width : ℕ) (b : Sofar) (source number count : ℕ) (s : Key
     (table table' origins origins' states states' heads heads' links links' : List ℕ) → Walked width b w table origins states heads links
     → number ≡ place eqb (s .target) (b .keys) → Chained (with-key (s .target) (b .keys)) states' heads' links'
     → count ≡ length (with-key (s .target) (b .keys)) → length (s .origins) ≡ width → origins' ≡ traced-by width (w .arcs) (s .origins) origins
-    → Records (arc-of-keyed source s number) (record { states = count; arcs = w .arcs; dear = w .dear; full = w .full }) w' table table'
+    → Records (arc-of-keyed source s number) (record { states = count; arcs = w .arcs; overflow = w .overflow; full = w .full }) w' table table'
     → Walked width (taken source s b) w' table' origins' states' heads' links'
 walked-next width b source number count s w w' table table' origins origins' states states' heads heads' links links' k is chained counted wide o records =
     rw (taken-with source number s b is)
@@ -77,8 +77,8 @@ walked-next width b source number count s w w' table table' origins origins' sta
       states-are = records .states-stay ∙ counted;
       not-full = records .full-stays ∙ k .not-full;
       recorded =
-          recorded-more width (b .arcs) (b .origins) (s .origins) (b .dear)
-          (record { states = count; arcs = w .arcs; dear = w .dear; full = w .full }) w' table table' origins origins'
+          recorded-more width (b .arcs) (b .origins) (s .origins) (b .overflow)
+          (record { states = count; arcs = w .arcs; overflow = w .overflow; full = w .full }) w' table table' origins origins'
           (arc-of-keyed source s number) (recorded-states count (k .recorded)) records wide o;
     })
 
@@ -181,7 +181,7 @@ module _ {A O : Type 0} {same : A → A → Bool} {steps : A → List (Step A O)
     {Within : A → Type 0} (k : Keying same steps first pack os next Within) (width : ℕ) where
   pub walking-first : (key : ℕ) (table origins states heads links : List ℕ) → key ≡ pack first → max-arc-bytes ≤ length table
       → width * max-arcs ≤ length origins → Chained ([] ++ (key ∷ [])) states heads links
-      → Walking pack Within width next (pack first) 0 (record { states = 1; arcs = 0; dear = 0; full = 0 }) table origins states heads links
+      → Walking pack Within width next (pack first) 0 (record { states = 1; arcs = 0; overflow = 0; full = 0 }) table origins states heads links
   unfolding begun arc-records flag
   walking-first key table origins states heads links is table-long origins-long chained =
       record {
@@ -194,7 +194,7 @@ module _ {A O : Type 0} {same : A → A → Bool} {steps : A → List (Step A O)
               not-full = refl;
               recorded =
                   record {
-                    arcs-held = record { arcs-are = refl; dear-is = refl; table-long = table-long; written = refl };
+                    arcs-held = record { arcs-are = refl; overflow-is = refl; table-long = table-long; written = refl };
                     origins-held =
                         record { origins-long = origins-long; paired = sym (mul-zero width); traced = rw (mul-zero width) };
                   };

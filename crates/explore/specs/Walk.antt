@@ -42,7 +42,7 @@ pub record Sofar : Type 0 where
   pub keys : List ℕ
   pub arcs : List Arc
   pub origins : List ℕ
-  pub dear : Bool
+  pub overflow : Bool
 
 -- The keys with one more, where it is new.
 unfoldable pub with-key : (key : ℕ) → List ℕ → List ℕ
@@ -58,7 +58,7 @@ taken source s b =
           b .arcs
           ++ (record { source = source; input = s .input; output = s .output; target = place eqb (s .target) met; weight = s .weight } ∷ []);
       origins = b .origins ++ s .origins;
-      dear = b .dear || not (weight-good (s .weight));
+      overflow = b .overflow || not (weight-good (s .weight));
     }
 
 unfoldable pub all-taken : (source : ℕ) → List Keyed → Sofar → Sofar
@@ -75,7 +75,7 @@ served-from next (suc fuel) i b =
     let more = served-from next fuel (suc i) (state-served next i b) in cond (leb (length (b .keys)) i) b more
 
 unfoldable pub begun : (first : ℕ) → Sofar
-begun first = record { keys = first ∷ []; arcs = []; origins = []; dear = false }
+begun first = record { keys = first ∷ []; arcs = []; origins = []; overflow = false }
 
 unfoldable pub explored : (next : ℕ → List Keyed) → (first : ℕ) → Sofar
 explored next first = served-from next (max-states + 1) 0 (begun first)
@@ -89,9 +89,9 @@ abbrev pub max-arc-bytes : ℕ
 max-arc-bytes = arc-bytes * max-arcs
 
 -- How a buffer for arcs alone holds them: their records from the front on, at most 3,072 of them.
-pub record Arcs-held (as' : List Arc) (dear : Bool) (w : Walk) (table : List ℕ) : Type 0 where
+pub record Arcs-held (as' : List Arc) (overflow : Bool) (w : Walk) (table : List ℕ) : Type 0 where
   pub arcs-are : w .arcs ≡ min (length as') (max-arcs + 1)
-  pub dear-is : w .dear ≡ flag dear
+  pub overflow-is : w .overflow ≡ flag overflow
   pub table-long : max-arc-bytes ≤ length table
   pub written : take (arc-bytes * min (length as') max-arcs) table ≡ arc-records (take max-arcs as')
 
@@ -101,8 +101,8 @@ pub record Origins-held (width count : ℕ) (os origins : List ℕ) : Type 0 whe
   pub paired : length os ≡ width * count
   pub traced : take (width * min count max-arcs) origins ≡ take (width * min count max-arcs) os
 
-pub record Recorded (width : ℕ) (as' : List Arc) (os : List ℕ) (dear : Bool) (w : Walk) (table origins : List ℕ) : Type 0 where
-  pub arcs-held : Arcs-held as' dear w table
+pub record Recorded (width : ℕ) (as' : List Arc) (os : List ℕ) (overflow : Bool) (w : Walk) (table origins : List ℕ) : Type 0 where
+  pub arcs-held : Arcs-held as' overflow w table
   pub origins-held : Origins-held width (length as') os origins
 
 -- The origins of the arc of number `count` are written where there is room for that arc.
@@ -113,15 +113,15 @@ traced-by width count vs origins = cond (ltb count max-arcs) (sets origins (widt
 pub record Records (a : Arc) (w w' : Walk) (table table' : List ℕ) : Type 0 where
   pub states-stay : w' .states ≡ w .states
   pub full-stays : w' .full ≡ w .full
-  pub one-more : (as' : List Arc) (dear : Bool) → Arcs-held as' dear w table
-      → Arcs-held (as' ++ (a ∷ [])) (dear || not (weight-good (a .weight))) w' table'
+  pub one-more : (as' : List Arc) (overflow : Bool) → Arcs-held as' overflow w table
+      → Arcs-held (as' ++ (a ∷ [])) (overflow || not (weight-good (a .weight))) w' table'
 
 -- How the buffers hold all that has been built.
 pub record Walked (width : ℕ) (b : Sofar) (w : Walk) (table origins states heads links : List ℕ) : Type 0 where
   pub chained : Chained (b .keys) states heads links
   pub states-are : w .states ≡ length (b .keys)
   pub not-full : w .full ≡ 0
-  pub recorded : Recorded width (b .arcs) (b .origins) (b .dear) w table origins
+  pub recorded : Recorded width (b .arcs) (b .origins) (b .overflow) w table origins
 
 -- What a part of the walk leaves: either all of its steps are taken, or more than 1,024 states were met.
 pub record Went (width : ℕ) (after : Sofar) (w : Walk) (table origins states heads links : List ℕ) : Type 0 where
@@ -142,7 +142,7 @@ Takes width add w w' table table' origins origins' states states' heads heads' l
 pub record Walk-told (width : ℕ) (b : Sofar) (w : Walk) (table origins states : List ℕ) : Type 0 where
   pub few : length (b .keys) ≤ max-states
   pub states-are : w .states ≡ length (b .keys)
-  pub recorded : Recorded width (b .arcs) (b .origins) (b .dear) w table origins
+  pub recorded : Recorded width (b .arcs) (b .origins) (b .overflow) w table origins
   pub stored : take (length (b .keys)) states ≡ b .keys
 
 pub record Walk-says (width : ℕ) (b : Sofar) (w : Walk) (table table' origins origins' states states' : List ℕ) : Type 0 where
@@ -155,7 +155,7 @@ pub record Walk-says (width : ℕ) (b : Sofar) (w : Walk) (table table' origins 
 -- Some finals, written from 12 on.
 pub record Finals-stored (fs : List Final) (r : FinalsPut) (table table' : List ℕ) : Type 0 where
   pub count-is : r .count ≡ length fs
-  pub dear-is : r .dear ≡ not (every (λ f. weight-good (f .weight)) fs)
+  pub overflow-is : r .overflow ≡ not (every (λ f. weight-good (f .weight)) fs)
   pub stored : table' ≡ sets table head-bytes (final-records fs)
 
 -- A refusal once the buffers have been written to: each is all zeros.

@@ -98,14 +98,14 @@ pub fn store_new(
 pub struct Walk {
     pub states: usize,
     pub arcs: usize,
-    pub dear: u32,
+    pub overflow: u32,
     pub full: u32,
 }
 
 // The finals written, and whether one of their weights is out of range.
 pub struct FinalsPut {
     pub count: usize,
-    pub dear: bool,
+    pub overflow: bool,
 }
 
 // Writes an arc's record behind those before it, where there is room for it, and tells how far the walk has come with it.
@@ -113,21 +113,21 @@ pub fn record_arc(table: &mut [u8], w: Walk, arc: Arc) -> Walk
     requires { ⌜ max-arc-bytes ≤ length (now table) ⌝ }
     ensures { λ r. ⌜ Records arc w r (now (table .entry)) (now (table .exit)) ⌝ }
 {
-    let dear = w.dear | (!transducer::weight_ok(arc.weight)) as u32;
+    let overflow = w.overflow | (!transducer::weight_ok(arc.weight)) as u32;
     let arcs = w.arcs;
     if arcs < MAX_ARCS {
         transducer::put_arc(table, transducer::ARC_BYTES * arcs, arc);
         return Walk {
             states: w.states,
             arcs: arcs + 1,
-            dear: dear,
+            overflow: overflow,
             full: w.full,
         };
     }
     Walk {
         states: w.states,
         arcs: MAX_ARCS + 1,
-        dear: dear,
+        overflow: overflow,
         full: w.full,
     }
 }

@@ -6,7 +6,7 @@ use Rattle.transducer.specs.declared.Header.{Header}
 use Rattle.transducer.specs.declared.Written.{Written}
 use Rattle.transducer.specs.Weight.{Weight, amount}
 use Rattle.paths.specs.declared.Counted.{Counted}
-use Rattle.tell.specs.declared.Told.{Told}
+use Rattle.report.specs.declared.Told.{Told}
 use Rattle.listing.specs.declared.Listed.{Listed}
 
 abbrev pub written : (refusal len : ℕ) → Written

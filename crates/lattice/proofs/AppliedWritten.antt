@@ -13,7 +13,7 @@ use Rattle.transducer.specs.declared.Arc.{Arc}
 use Rattle.transducer.specs.declared.Written.{Written}
 use Rattle.transducer.specs.Format.{max-states, max-arcs, max-bytes, arc-bytes, Transducer, Good, refusal, decode}
 use Rattle.transducer.specs.Encode.{head-record, encode}
-use Rattle.transducer.specs.Leaf.{Finals-by-state}
+use Rattle.transducer.specs.Accepted.{Finals-by-state}
 use Rattle.transducer.proofs.Encode.{length-encode}
 use Rattle.transducer.proofs.RoundTrip.{accepted-good, good-range, refusal-encode, decode-encode, length-encode-below}
 use Rattle.transducer.proofs.Runs.{good-within}

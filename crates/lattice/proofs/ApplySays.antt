@@ -11,7 +11,7 @@ use Rattle.wire.specs.Bytes.{filled}
 use Rattle.transducer.specs.declared.Written.{Written}
 use Rattle.transducer.specs.Format.{max-states, max-arcs, max-bytes, refusal, decode}
 use Rattle.transducer.specs.Encode.{encode}
-use Rattle.transducer.specs.Each.{named}
+use Rattle.transducer.specs.Each.{no-any-input}
 use Rattle.transducer.specs.Entry.{or-else, unless}
 use Rattle.transducer.proofs.Most.{refusal-most}
 use Rattle.explore.specs.Explore.{built-refusal}
@@ -79,11 +79,11 @@ module _ (cs bs a b c : List ℕ) where
       says-pairs p q h = short (rw (le-ltb (length a) max-bytes p, le-ltb (length b) max-arcs q, lt-ltb (length c) max-states h))
 
       module _ (p : max-bytes ≤ length a) (q : max-arcs ≤ length b) (s : max-states ≤ length c) where
-        pub ready : (exact : Bool) → exact ≡ named (decode bs) → Apply-asks cs bs exact (length a) (length b) (length c)
-        ready exact told =
+        pub ready : (no-any : Bool) → no-any ≡ no-any-input (decode bs) → Apply-asks cs bs no-any (length a) (length b) (length c)
+        ready no-any told =
             record {
               good = sym string;
-              all-named = λ e. sym told ∙ e;
+              no-any-says = λ e. sym told ∙ e;
               accepted = accepted;
               lattice-long = p;
               origins-long = q;

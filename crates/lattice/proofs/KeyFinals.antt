@@ -14,7 +14,7 @@ use Rattle.wire.proofs.Bool.{and-true}
 use Rattle.transducer.specs.declared.Final.{Final}
 use Rattle.transducer.specs.Format.{max-states, head-bytes, final-bytes, arcs-at, Transducer, Good, weight-good}
 use Rattle.transducer.specs.Encode.{final-record, final-records}
-use Rattle.transducer.specs.Leaf.{Finals-by-state, final-code, max-code}
+use Rattle.transducer.specs.Accepted.{Finals-by-state, final-code, max-code}
 use Rattle.transducer.specs.Weight.{Weight, weight-of}
 use Rattle.transducer.specs.Path.{is-final, final-weight}
 use Rattle.transducer.proofs.Finals.{final-code-some, weight-final-code}
@@ -71,7 +71,7 @@ pub record Finals-counted (codes : List ℕ) (last : ℕ) (states : List ℕ) (c
 -- They are written too.
 abbrev pub Putting : (codes : List ℕ) → (last : ℕ) → (states : List ℕ) → (count : ℕ) → (table₀ table : List ℕ) → (finals s : ℕ) → Type 0
 Putting codes last states count table₀ table finals s =
-    (dear : Bool) × Finishing (key-final codes last) (key-weight codes last) states count table₀ table finals dear s
+    (overflow : Bool) × Finishing (key-final codes last) (key-weight codes last) states count table₀ table finals overflow s
 
 -- One key more
 

@@ -13,7 +13,7 @@ use Rattle.transducer.specs.declared.Arc.{Arc}
 use Rattle.transducer.specs.Format.{max-states, max-arcs, any, Transducer, Good}
 use Rattle.transducer.specs.Path.{arc}
 use Rattle.transducer.specs.Each.{fits, passed}
-use Rattle.transducer.specs.Leaf.{arcs-below, Indexed, Leaving}
+use Rattle.transducer.specs.Accepted.{arcs-below, Indexed, Leaving}
 use Rattle.transducer.proofs.Fits.{fits-empty, reads-fits, passed-output}
 use Rattle.transducer.proofs.Good.{good-tests}
 use Rattle.transducer.proofs.Labels.{arc-unbarred}

@@ -10,8 +10,8 @@ use Rattle.transducer.specs.declared.Arc.{Arc}
 use Rattle.transducer.specs.declared.Final.{Final}
 use Rattle.transducer.specs.Format.{Transducer, max-states, max-arcs, max-bytes, arcs-at, refusal, decode}
 use Rattle.transducer.specs.Encode.{encode}
-use Rattle.transducer.specs.Each.{named}
-use Rattle.transducer.specs.Leaf.{Opened, Indexed, max-code}
+use Rattle.transducer.specs.Each.{no-any-input}
+use Rattle.transducer.specs.Accepted.{Accepted-at, Indexed, max-code}
 use Rattle.transducer.specs.Weight.{weight-of}
 use Rattle.reach.specs.Reach.{All-accessible}
 use Rattle.explore.specs.Explore.{finals-from}
@@ -34,11 +34,11 @@ arc-keyed a i key = record { target = key; input = a .input; output = a .output;
 abbrev pub found : (string : List ℕ) → Transducer → Sofar
 found cs t = explored (next cs t) (pack (first-state t))
 
--- A good string, and an accepted transducer with its first-arc index; `exact` where none of its arcs is for any symbol.
-pub record Applicable (cs bs : List ℕ) (exact : Bool) (first : ℕ) (index : List ℕ) : Type 0 where
+-- A good string, and an accepted transducer with its first-arc index; `no-any` where none of its arcs is for any symbol.
+pub record Applicable (cs bs : List ℕ) (no-any : Bool) (first : ℕ) (index : List ℕ) : Type 0 where
   pub good : string-good cs ≡ true
-  pub all-named : exact ≡ true → named (decode bs) ≡ true
-  pub opened : Opened bs first
+  pub no-any-says : no-any ≡ true → no-any-input (decode bs) ≡ true
+  pub opened : Accepted-at bs first
   pub indexed : Indexed (decode bs) index
 
 -- The states that a lattice may have.
@@ -74,9 +74,9 @@ pub record Closes (t : Transducer) (from : ℕ) (table table' : List ℕ) : Type
   pub stands : take (length (encode t)) (drop from table') ≡ encode t
 
 -- A good string, an accepted transducer, and buffers that are long enough.
-pub record Apply-asks (cs bs : List ℕ) (exact : Bool) (lattice origins pairs : ℕ) : Type 0 where
+pub record Apply-asks (cs bs : List ℕ) (no-any : Bool) (lattice origins pairs : ℕ) : Type 0 where
   pub good : string-good cs ≡ true
-  pub all-named : exact ≡ true → named (decode bs) ≡ true
+  pub no-any-says : no-any ≡ true → no-any-input (decode bs) ≡ true
   pub accepted : refusal bs ≡ 0
   pub lattice-long : max-bytes ≤ lattice
   pub origins-long : max-arcs ≤ origins

@@ -112,10 +112,10 @@ fn take_step(
 
 // Serves the state of number `source`: takes the step of each of its arcs that reads nothing or fits the symbol at its position. What the arcs that fit it
 // read is told before, so that the loop tests one label and calls nothing for it.
-fn serve(
+fn expand_state(
     string: &[u16],
     bytes: &[u8],
-    exact: bool,
+    no_any_input: bool,
     first: usize,
     index: &[u16; MAX_STATES + 1],
     source: usize,
@@ -126,7 +126,7 @@ fn serve(
     heads: &mut [u16; BUCKETS],
     links: &mut [u16; MAX_STATES],
 ) -> Walk
-    requires { ⌜ Applicable (now string) (now bytes) exact first (now index) × (source < w .states)
+    requires { ⌜ Applicable (now string) (now bytes) «no_any_input» first (now index) × (source < w .states)
         × State-in (now string) (decode (now bytes)) (unpacked (getD (now states) source 0)) ⌝ }
     requires { ⌜ Holds 1 w (now table) (now origins) (now states) (now heads) (now links) ⌝ }
     ensures { λ z. ⌜ Takes 1 (state-served (next (now (string .entry)) (decode (now (bytes .entry)))) source) w z
@@ -140,7 +140,7 @@ fn serve(
     let symbol = symbol_at(string, position as usize);
     let end = index[q + 1] as usize;
     let mut i = index[q] as usize;
-    let label = transducer::label_at(bytes, first, exact, i, end, symbol);
+    let label = transducer::label_at(bytes, first, no_any_input, i, end, symbol);
     let mut walk = w;
     while i < end {
         let a = transducer::arc_of(bytes, first, i);
@@ -179,7 +179,7 @@ fn serve(
 fn walk_all(
     string: &[u16],
     bytes: &[u8],
-    exact: bool,
+    no_any_input: bool,
     first: usize,
     index: &[u16; MAX_STATES + 1],
     start: u32,
@@ -187,7 +187,7 @@ fn walk_all(
     origins: &mut [u16],
     states: &mut [u32],
 ) -> Walk
-    requires { ⌜ Applicable (now string) (now bytes) exact first (now index) × (start ≡ decode (now bytes) .start) ⌝ }
+    requires { ⌜ Applicable (now string) (now bytes) «no_any_input» first (now index) × (start ≡ decode (now bytes) .start) ⌝ }
     requires { ⌜ (max-arc-bytes ≤ length (now table)) × (max-arcs ≤ length (now origins)) × (max-states ≤ length (now states)) ⌝ }
     ensures { λ r. ⌜ Walk-says 1 (found (now (string .entry)) (decode (now (bytes .entry)))) r (now (table .entry)) (now (table .exit))
         (now (origins .entry)) (now (origins .exit)) (now (states .entry)) (now (states .exit)) ⌝ }
@@ -199,15 +199,15 @@ fn walk_all(
     let mut walk = Walk {
         states: 1,
         arcs: 0,
-        dear: 0,
+        overflow: 0,
         full: 0,
     };
     let mut s = 0;
     while s < walk.states {
-        walk = serve(
+        walk = expand_state(
             string,
             bytes,
-            exact,
+            no_any_input,
             first,
             index,
             s,
@@ -230,7 +230,7 @@ fn walk_all(
 fn walk_behind(
     string: &[u16],
     bytes: &[u8],
-    exact: bool,
+    no_any_input: bool,
     first: usize,
     index: &[u16; MAX_STATES + 1],
     start: u32,
@@ -238,7 +238,7 @@ fn walk_behind(
     origins: &mut [u16],
     states: &mut [u32],
 ) -> Walk
-    requires { ⌜ Applicable (now string) (now bytes) exact first (now index) × (start ≡ decode (now bytes) .start) ⌝ }
+    requires { ⌜ Applicable (now string) (now bytes) «no_any_input» first (now index) × (start ≡ decode (now bytes) .start) ⌝ }
     requires { ⌜ (max-bytes ≤ length (now table)) × (max-arcs ≤ length (now origins)) × (max-states ≤ length (now states)) ⌝ }
     ensures { λ r. ⌜ Walk-says 1 (found (now (string .entry)) (decode (now (bytes .entry)))) r
         (drop arcs-place (now (table .entry))) (drop arcs-place (now (table .exit)))
@@ -248,7 +248,7 @@ fn walk_behind(
     walk_all(
         string,
         bytes,
-        exact,
+        no_any_input,
         first,
         index,
         start,
@@ -341,17 +341,18 @@ fn trace(origins: &mut [u16], count: usize, arcs: &[u16; MAX_ARCS])
     }
 }
 
-// Applies a good string to an accepted transducer, into buffers that are long enough; `exact` may be true only if no arc is for any symbol. The lattice is
+// Applies a good string to an accepted transducer, into buffers that are long enough; `no_any_input` may be true only if no arc is for any symbol. The
+// lattice is
 // written behind room for head and finals, and trimmed from there.
 pub fn apply_into(
     string: &[u16],
     bytes: &[u8],
-    exact: bool,
+    no_any_input: bool,
     lattice: &mut [u8],
     origins: &mut [u16],
     pairs: &mut [u32],
 ) -> Written
-    requires { ⌜ Apply-asks (now string) (now bytes) exact (length (now lattice)) (length (now origins)) (length (now pairs)) ⌝ }
+    requires { ⌜ Apply-asks (now string) (now bytes) «no_any_input» (length (now lattice)) (length (now origins)) (length (now pairs)) ⌝ }
     ensures { λ r. ⌜ Apply-says (now (string .entry)) (now (bytes .entry)) (built-refusal (applied (now (string .entry)) (decode (now (bytes .entry))) .result))
         r (now (lattice .entry)) (now (lattice .exit)) (now (origins .entry)) (now (origins .exit)) (now (pairs .entry)) (now (pairs .exit)) ⌝ }
 {
@@ -370,7 +371,7 @@ pub fn apply_into(
     let w = walk_behind(
         string,
         bytes,
-        exact,
+        no_any_input,
         first,
         &index,
         head.start,
@@ -412,7 +413,7 @@ pub fn apply(
         (apply-refusal (now (string .entry)) (now (table .entry)) (length (now (lattice .entry))) (length (now (origins .entry))) (length (now (pairs .entry))))
         r (now (lattice .entry)) (now (lattice .exit)) (now (origins .entry)) (now (origins .exit)) (now (pairs .entry)) (now (pairs .exit)) ⌝ }
 {
-    let looked = transducer::look(table, false);
+    let looked = transducer::validate(table, false);
     let number = looked.refusal;
     if number != 0 {
         return transducer::refused(number);
@@ -429,6 +430,6 @@ pub fn apply(
     if pairs.len() < MAX_STATES {
         return transducer::refused(10);
     }
-    let exact = transducer::all_named(table, looked.named);
-    apply_into(string, table, exact, lattice, origins, pairs)
+    let no_any_input = transducer::no_any_input(table, looked.no_any_input);
+    apply_into(string, table, no_any_input, lattice, origins, pairs)
 }

@@ -1,5 +1,5 @@
 // The cases of the shortest path and costs to come. Buffers are dirty before the call, and shown to their ends after it.
-use tell::Told;
+use report::Told;
 use transducer::MAX_PATH;
 use transducer::MAX_STATES;
 

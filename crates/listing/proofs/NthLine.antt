@@ -15,9 +15,9 @@ use Rattle.transducer.specs.Format.{Transducer, max-path}
 use Rattle.transducer.specs.Path.{written-by}
 use Rattle.transducer.specs.Entry.{unless, cost-unless, left-in}
 use Rattle.transducer.specs.Weight.{Weight}
-use Rattle.tell.specs.declared.Told.{Told}
+use Rattle.report.specs.declared.Told.{Told}
 use Rattle.paths.specs.Count.{endless, path-count, nth-path, most-counted}
-use Rattle.tell.specs.Tell.{Tells}
+use Rattle.report.specs.Tell.{Tells}
 use Rattle.paths.proofs.Ready.{Sized}
 use Rattle.paths.proofs.NthSays.{Found}
 use Rattle.listing.specs.Text.{decimal, newline, readings-word, endless-word, many-word, line, line-of, lines}

@@ -6,7 +6,7 @@ use Prim.Native.Nat.{ℕ}
 use Rattle.transducer.specs.declared.preparing.Shape.{Shape}
 use Rattle.transducer.specs.Format.{decode}
 use Rattle.transducer.specs.Prepare.{Prepared}
-use Rattle.tally.specs.declared.Count.{Count}
+use Rattle.capped.specs.declared.Count.{Count}
 use Rattle.paths.specs.Count.{endless}
 use Rattle.paths.specs.Sweep.{Path-counts}
 

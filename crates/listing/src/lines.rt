@@ -8,7 +8,7 @@ ghost use Rattle.listing.specs.Text.{Wrote, Whole, line-of, lines, count
 ghost use Rattle.listing.specs.PathsCounted.{Paths-counted};
 use crate::Listed;
 use crate::text;
-use tally::Count;
+use capped::Count;
 use transducer::INDEX_LEN;
 use transducer::MAX_STATES;
 use transducer::Shape;
@@ -43,7 +43,7 @@ fn put_path(
         counts,
         &mut arcs,
     );
-    let told = tell::tell(
+    let told = report::tell(
         table,
         shape.first,
         shape.start,

@@ -10,7 +10,7 @@ use borrow.Author.Tests.{eq-eqb, ne-eqb}
 use Rattle.wire.specs.Bytes.{Bytes}
 use Rattle.wire.proofs.Bool.{is-true, clash}
 use Rattle.transducer.specs.Format.{Transducer, Good, refusal, decode}
-use Rattle.transducer.specs.Leaf.{Looked-says}
+use Rattle.transducer.specs.Accepted.{Validation-says}
 use Rattle.transducer.specs.Path.{accepts, path-cost}
 use Rattle.transducer.specs.Weight.{no-weight, magnitude}
 use Rattle.transducer.proofs.Answers.{some-or-else, none-or-else, unless-some, unless-none, cost-unless-none, cost-unless-some}
@@ -24,7 +24,7 @@ use Rattle.paths.specs.Count.{path-count}
 use Rattle.paths.proofs.Endless.{count-some}
 use Rattle.distance.specs.Ended.{unvalidated}
 use Rattle.distance.proofs.LeastKnown.{unvalidated-says}
-use Rattle.tell.specs.declared.Told.{Told}
+use Rattle.report.specs.declared.Told.{Told}
 use Rattle.shortest.specs.Shortest.{shortest}
 use Rattle.shortest.specs.Entry.{accepted-shortest-refusal, Shortest-says}
 use Rattle.shortest.proofs.Cheapest.{nothing-accepts, shortest-accepts}
@@ -88,7 +88,7 @@ module _ (cs bs : List ℕ) (bytes : Bytes bs) (ok : refusal bs ≡ 0) (r : Stri
     w-decoded : decode (take (r .len) a') ≡ w
     w-decoded = ap decode (says .bytes well) ∙ decode-lattice cs t good (known .string) (known .fine)
 
-    pub lattice-facts : Looked-says (take (r .len) a') unvalidated
+    pub lattice-facts : Validation-says (take (r .len) a') unvalidated
     lattice-facts = unvalidated-says (take (r .len) a') (rw w-decoded (good-sized w w-good)) w-accepted
 
     module _ (some : r .count ≡ 0 → ⊥) (k : Told) (d d' e e' : List ℕ)

@@ -21,7 +21,7 @@ use Rattle.lattice.specs.Apply.{string-good, applied}
 use Rattle.lattice.specs.Lattice.{lattice, lattice-origins, Reads-one-to-one}
 use Rattle.lattice.proofs.LatticeGood.{lattice-good}
 use Rattle.lattice.proofs.LatticeLaw.{lattice-one-to-one}
-use Rattle.least.specs.Cycles.{falling}
+use Rattle.cycles.specs.Cycles.{negative-cycle}
 use Rattle.paths.specs.Count.{endless, path-count}
 use Rattle.paths.specs.Entry.{accepted-count-refusal}
 use Rattle.paths.proofs.Endless.{count-some, count-none}
@@ -86,7 +86,7 @@ module _ (cs : List ℕ) (t : Transducer) (good : Good t) where
     one : Reads-one-to-one cs t z (lattice-origins cs t)
     one = lattice-one-to-one cs t good (known .string) (known .fine)
 
-    rises : falling z ≡ false
+    rises : negative-cycle z ≡ false
     rises = few-rises z z-good (known .finite)
 
     none-reads : path-count z ≡ 0 → (y : List ℕ) → Reads cs t y → ⊥
@@ -139,7 +139,7 @@ module _ (cs : List ℕ) (t : Transducer) (good : Good t) where
           let both = is-last (count-string-refusal cs t) last h (λ q. count-not-16 q) in
           none-reads (counted-well cs t (both .0)) (count-16 (path-count z) (both .1))
 
-      never-19 : lookup-refusal cs t ≡ 0 → falling z ≡ false
+      never-19 : lookup-refusal cs t ≡ 0 → negative-cycle z ≡ false
       never-19 h = rises (peeled h .0)
 
       small : magnitude (cost-unless (lookup-refusal cs t) (path-cost z p)) ≤ most-cost

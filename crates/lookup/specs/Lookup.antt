@@ -7,7 +7,7 @@ use lib.Dec.{eqb}
 use lib.ListN.{length, take}
 use Rattle.transducer.specs.Format.{max-states, max-arcs, max-bytes, max-path, Transducer, refusal, decode}
 use Rattle.transducer.specs.Encode.{encode}
-use Rattle.transducer.specs.Each.{named}
+use Rattle.transducer.specs.Each.{no-any-input}
 use Rattle.transducer.specs.Entry.{or-else, unless, cost-unless}
 use Rattle.transducer.specs.Path.{path-cost}
 use Rattle.explore.specs.Explore.{built-refusal}
@@ -37,21 +37,21 @@ looked-up cs t =
       cost = cost-unless (lookup-refusal cs t) (path-cost (lattice cs t) (shortest (lattice cs t)));
     }
 
--- What is asked of the table: accepted bytes; `exact` only if no arc is for any symbol.
-pub record Table-asks (bs : List ℕ) (exact : Bool) : Type 0 where
+-- What is asked of the table: accepted bytes; `no-any` only if no arc is for any symbol.
+pub record Table-asks (bs : List ℕ) (no-any : Bool) : Type 0 where
   pub accepted : refusal bs ≡ 0
-  pub all-named : exact ≡ true → named (decode bs) ≡ true
+  pub no-any-says : no-any ≡ true → no-any-input (decode bs) ≡ true
 
 -- And of the lengths of the buffers that a lattice is made in.
-pub record Lattice-asks (bs : List ℕ) (exact : Bool) (lattice origins pairs : ℕ) : Type 0 where
-  pub table : Table-asks bs exact
+pub record Lattice-asks (bs : List ℕ) (no-any : Bool) (lattice origins pairs : ℕ) : Type 0 where
+  pub table : Table-asks bs no-any
   pub lattice-long : max-bytes ≤ lattice
   pub origins-long : max-arcs ≤ origins
   pub pairs-long : max-states ≤ pairs
 
 -- And of those that a path is put into.
-pub record Lookup-asks (bs : List ℕ) (exact : Bool) (lattice origins pairs arcs labels : ℕ) : Type 0 where
-  pub lattice-asks : Lattice-asks bs exact lattice origins pairs
+pub record Lookup-asks (bs : List ℕ) (no-any : Bool) (lattice origins pairs arcs labels : ℕ) : Type 0 where
+  pub lattice-asks : Lattice-asks bs no-any lattice origins pairs
   pub arcs-long : max-path ≤ arcs
   pub labels-long : max-path ≤ labels
 

@@ -7,7 +7,7 @@ use Rattle.transducer.specs.Format.{Transducer}
 use Rattle.transducer.specs.Path.{accepts, path-cost}
 use Rattle.transducer.specs.Each.{path-fits}
 use Rattle.transducer.specs.Weight.{At-most, magnitude}
-use Rattle.least.specs.Cycles.{falling}
+use Rattle.cycles.specs.Cycles.{negative-cycle}
 use Rattle.lattice.specs.Lattice.{lattice}
 use Rattle.lookup.specs.declared.LookedUp.{LookedUp}
 
@@ -22,5 +22,5 @@ pub record Means (cs : List ℕ) (t : Transducer) (r : LookedUp) : Type 0 where
   pub some : r .refusal ≡ 0 → (x : List ℕ) × Reads cs t x × (path-cost t x ≡ r .cost)
   pub least : r .refusal ≡ 0 → (y : List ℕ) → Reads cs t y → At-most (r .cost) (path-cost t y)
   pub none : r .refusal ≡ 16 → (y : List ℕ) → Reads cs t y → ⊥
-  pub never-19 : r .refusal ≡ 0 → falling (lattice cs t) ≡ false
+  pub never-19 : r .refusal ≡ 0 → negative-cycle (lattice cs t) ≡ false
   pub small : magnitude (r .cost) ≤ 1024000000

@@ -48,18 +48,18 @@ fn refused(number: u32) -> LookedUp
 pub fn count_string(
     string: &[u16],
     table: &[u8],
-    exact: bool,
+    no_any_input: bool,
     lattice: &mut [u8],
     origins: &mut [u16],
     pairs: &mut [u32],
 ) -> StringCount
-    requires { ⌜ Lattice-asks (now table) exact (length (now lattice)) (length (now origins)) (length (now pairs)) ⌝ }
+    requires { ⌜ Lattice-asks (now table) «no_any_input» (length (now lattice)) (length (now origins)) (length (now pairs)) ⌝ }
     ensures { λ r. ⌜ Count-string-says (now (string .entry)) (decode (now (table .entry))) r (now (lattice .exit)) ⌝ }
 {
     if !lattice::string_ok(string) {
         return not_counted(9);
     }
-    let put = lattice::apply_into(string, table, exact, lattice, origins, pairs);
+    let put = lattice::apply_into(string, table, no_any_input, lattice, origins, pairs);
     if put.refusal != 0 {
         return not_counted(put.refusal);
     }
@@ -79,17 +79,18 @@ pub fn count_string(
 pub fn lookup_in(
     string: &[u16],
     table: &[u8],
-    exact: bool,
+    no_any_input: bool,
     lattice: &mut [u8],
     origins: &mut [u16],
     pairs: &mut [u32],
     arcs: &mut [u16],
     labels: &mut [u16],
 ) -> LookedUp
-    requires { ⌜ Lookup-asks (now table) exact (length (now lattice)) (length (now origins)) (length (now pairs)) (length (now arcs)) (length (now labels)) ⌝ }
+    requires { ⌜ Lookup-asks (now table) «no_any_input» (length (now lattice)) (length (now origins)) (length (now pairs)) (length (now arcs)) (length
+        (now labels)) ⌝ }
     ensures { λ r. ⌜ r ≡ looked-up (now (string .entry)) (decode (now (table .entry))) ⌝ }
 {
-    let read = count_string(string, table, exact, lattice, origins, pairs);
+    let read = count_string(string, table, no_any_input, lattice, origins, pairs);
     if read.refusal != 0 {
         return refused(read.refusal);
     }
@@ -107,9 +108,9 @@ pub fn lookup_in(
     }
 }
 
-// Looks a string up on an accepted transducer, in arrays of its own; `exact` only if no arc is for any symbol.
-pub fn lookup(string: &[u16], table: &[u8], exact: bool) -> LookedUp
-    requires { ⌜ Table-asks (now table) exact ⌝ }
+// Looks a string up on an accepted transducer, in arrays of its own; `no_any_input` only if no arc is for any symbol.
+pub fn lookup(string: &[u16], table: &[u8], no_any_input: bool) -> LookedUp
+    requires { ⌜ Table-asks (now table) «no_any_input» ⌝ }
     ensures { λ r. ⌜ r ≡ looked-up (now (string .entry)) (decode (now (table .entry))) ⌝ }
 {
     let mut lattice = [0u8; MAX_BYTES];
@@ -120,7 +121,7 @@ pub fn lookup(string: &[u16], table: &[u8], exact: bool) -> LookedUp
     lookup_in(
         string,
         table,
-        exact,
+        no_any_input,
         &mut lattice,
         &mut origins,
         &mut pairs,

@@ -14,7 +14,7 @@ use Rattle.transducer.specs.Format.{max-path, Transducer, refusal, decode}
 use Rattle.transducer.specs.Path.{written-by, path-cost}
 use Rattle.transducer.specs.Entry.{unless, cost-unless, left-in}
 use Rattle.transducer.proofs.Answers.{none-or-else, unless-none, left-in-none, cost-unless-none}
-use Rattle.tell.specs.declared.Told.{Told}
+use Rattle.report.specs.declared.Told.{Told}
 use Rattle.paths.specs.declared.Counted.{Counted}
 use Rattle.paths.specs.Count.{endless, path-count, nth-path}
 use Rattle.paths.specs.Entry.{count-refusal, Count-says, nth-refusal, Nth-says}

@@ -8,7 +8,7 @@ use lib.Dec.{eqb}
 use Rattle.transducer.specs.Format.{decode, refusal}
 use Rattle.transducer.specs.Entry.{or-else, unless}
 use Rattle.transducer.proofs.Answers.{none-or-else}
-use Rattle.tally.specs.declared.Count.{Count}
+use Rattle.capped.specs.declared.Count.{Count}
 use Rattle.paths.specs.declared.Counted.{Counted}
 use Rattle.paths.specs.Count.{endless, path-count}
 use Rattle.paths.specs.Sweep.{at-state, Path-counts}

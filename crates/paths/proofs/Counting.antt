@@ -20,11 +20,11 @@ use Rattle.reach.specs.Stack.{Off}
 use Rattle.reach.proofs.Counted.{count-wider, count-before, count-onto, count-none, count-most}
 use Rattle.reach.specs.Reach.{some-arc}
 use Rattle.reach.proofs.Reach.{SomeAt, some-arc-at, at-some-arc}
-use Rattle.tally.specs.Marks.{marked}
+use Rattle.capped.specs.Marks.{marked}
 use Rattle.paths.specs.Sweep.{leads-on}
 use Rattle.paths.specs.Counting.{open-at, by-marks, Opened-arcs, is-open, Stacked, Counting}
 use Rattle.paths.proofs.Ready.{Sized}
-use Rattle.tally.proofs.MarksInPlace.{marked-set-same, marked-set-other}
+use Rattle.capped.proofs.MarksInPlace.{marked-set-same, marked-set-other}
 use Rattle.paths.proofs.Shut.{shut-marked}
 
 -- Counts of numbers with a property

@@ -11,10 +11,10 @@ use Rattle.wire.proofs.Bool.{clash}
 use Rattle.transducer.specs.Format.{Transducer}
 use Rattle.transducer.specs.Path.{arc}
 use Rattle.reach.specs.Reach.{coaccessible}
-use Rattle.tally.specs.declared.Count.{Count}
+use Rattle.capped.specs.declared.Count.{Count}
 use Rattle.paths.specs.Count.{paths-from, goes-on, most-counted}
 use Rattle.paths.specs.Tally.{add-all, tally}
-use Rattle.tally.specs.Marks.{marked}
+use Rattle.capped.specs.Marks.{marked}
 use Rattle.paths.specs.Sweep.{at-state, leads-on, Tallied, Totals-say}
 use Rattle.paths.specs.Counting.{Rested}
 use Rattle.paths.proofs.GoesOn.{dead-none}
@@ -22,7 +22,7 @@ use Rattle.paths.proofs.Tally.{add-all-same}
 use Rattle.paths.proofs.Sweep.{finite-tally, dead-tally}
 use Rattle.paths.proofs.Ready.{Sized}
 use Rattle.paths.proofs.StoredCounts.{at-set-other}
-use Rattle.tally.proofs.MarksInPlace.{marked-set-other}
+use Rattle.capped.proofs.MarksInPlace.{marked-set-other}
 use Rattle.paths.proofs.Stops.{unmarked-goes-on, unmarked-endless}
 
 -- On the way

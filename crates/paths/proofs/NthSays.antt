@@ -13,15 +13,15 @@ use Rattle.wire.proofs.Places.{length-filled}
 use Rattle.transducer.specs.Format.{Transducer, max-path, decode, refusal}
 use Rattle.transducer.specs.Path.{accepts}
 use Rattle.transducer.specs.Entry.{or-else}
-use Rattle.tally.specs.declared.Count.{Count}
-use Rattle.tell.specs.declared.Told.{Told}
+use Rattle.capped.specs.declared.Count.{Count}
+use Rattle.report.specs.declared.Told.{Told}
 use Rattle.paths.specs.Count.{endless, path-count, nth-path}
 use Rattle.paths.specs.Sweep.{at-state, Path-counts}
-use Rattle.tell.specs.Tell.{Tells}
+use Rattle.report.specs.Tell.{Tells}
 use Rattle.paths.specs.Entry.{accepted-nth-refusal, nth-refusal, Nth-says}
 use Rattle.paths.proofs.Sweep.{settled-path-count}
 use Rattle.paths.proofs.NthPath.{nth-path-accepts, path-count-listed, nth-path-short}
-use Rattle.tell.proofs.PathTold.{refused-told, told-refused, told-found}
+use Rattle.report.proofs.PathTold.{refused-told, told-refused, told-found}
 use Rattle.paths.proofs.Ready.{Sized}
 
 -- The path in its buffer, as it is told.
@@ -41,7 +41,8 @@ module _ (bs : List ℕ) (k : ℕ) {a b : List ℕ} {r : Told} where
       told-refused (decode bs) (nth-path (decode bs) k) (nth-refusal bs k (length a) (length b)) n r a b number nonzero h
 
   -- 10
-  pub nth-short-arcs : {n : ℕ} → n ≡ refusal bs → n ≡ 0 → length a < 1023 → r ≡ refused-told 10 → Nth-says bs k (nth-refusal bs k (length a) (length b)) r a a b b
+  pub nth-short-arcs : {n : ℕ} → n ≡ refusal bs → n ≡ 0 → length a < 1023 → r ≡ refused-told 10
+      → Nth-says bs k (nth-refusal bs k (length a) (length b)) r a a b b
   unfolding nth-refusal or-else
   nth-short-arcs e z l h =
       let ok : refusal bs ≡ 0 = sym e ∙ z in

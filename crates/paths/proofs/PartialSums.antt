@@ -13,8 +13,8 @@ use borrow.Author.Tests.{eqb-true, eq-eqb}
 use Rattle.transducer.specs.declared.Arc.{Arc}
 use Rattle.transducer.specs.Format.{Transducer}
 use Rattle.transducer.specs.Path.{arc, no-arc}
-use Rattle.tally.specs.declared.Count.{Count}
-use Rattle.tally.specs.Capped.{add}
+use Rattle.capped.specs.declared.Count.{Count}
+use Rattle.capped.specs.Capped.{add}
 use Rattle.paths.specs.Tally.{own, add-all}
 use Rattle.paths.specs.Sweep.{at-state}
 use Rattle.paths.specs.TopSorted.{Empty-paths}

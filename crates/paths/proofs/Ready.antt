@@ -8,7 +8,7 @@ use lib.Dec.{eqb}
 use lib.ListN.{length, getD}
 use Rattle.transducer.specs.Format.{Transducer}
 use Rattle.transducer.specs.Path.{arc, is-final}
-use Rattle.transducer.specs.Leaf.{arcs-below, Indexed, Finals-by-state}
+use Rattle.transducer.specs.Accepted.{arcs-below, Indexed, Finals-by-state}
 use Rattle.transducer.proofs.Finals.{final-code-some}
 use Rattle.transducer.proofs.Good.{Content}
 use Rattle.transducer.proofs.Index.{arcs-below-length, arcs-below-mono, arcs-of-state, state-of-arcs, arcs-below-states}

@@ -15,13 +15,13 @@ use Rattle.transducer.specs.Path.{arc}
 use Rattle.reach.specs.Stack.{last, Chained}
 use Rattle.reach.proofs.Cell.{Parts}
 use Rattle.reach.proofs.Chains.{last-most, none-behind, none-between, On-chain, ArcHere, chain-first, chain-arc, chain-next, chain-end}
-use Rattle.tally.specs.declared.Count.{Count}
-use Rattle.tally.specs.Capped.{add}
-use Rattle.tally.specs.Marks.{marked}
+use Rattle.capped.specs.declared.Count.{Count}
+use Rattle.capped.specs.Capped.{add}
+use Rattle.capped.specs.Marks.{marked}
 use Rattle.paths.specs.Sweep.{at-state, Stopping, Tallied}
 use Rattle.paths.specs.Counting.{by-marks, Counting, Closed-arc, Partial-sums, Underway}
 use Rattle.paths.proofs.Ready.{Sized}
-use Rattle.tally.proofs.MarksInPlace.{marked-set-same, marked-set-other}
+use Rattle.capped.proofs.MarksInPlace.{marked-set-same, marked-set-other}
 use Rattle.paths.proofs.Shut.{shut-marked}
 use Rattle.paths.proofs.StoredCounts.{at-set-other}
 use Rattle.paths.proofs.Stops.{stopping-next}

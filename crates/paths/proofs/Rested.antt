@@ -16,12 +16,12 @@ use Rattle.reach.specs.Reach.{some-arc, coaccessible}
 use Rattle.reach.specs.Marks.{Marked}
 use Rattle.reach.proofs.Reach.{SomeAt, some-arc-at, coaccessible-path}
 use Rattle.reach.proofs.Closure.{getD-none}
-use Rattle.tally.specs.declared.Count.{Count}
+use Rattle.capped.specs.declared.Count.{Count}
 use Rattle.paths.specs.Tally.{own, tally}
-use Rattle.tally.specs.Marks.{marked}
+use Rattle.capped.specs.Marks.{marked}
 use Rattle.paths.specs.Sweep.{leads-on, at-state, Totals-say}
 use Rattle.paths.specs.TopSorted.{Empty-paths}
-use Rattle.tally.specs.Marks.{With-dead}
+use Rattle.capped.specs.Marks.{With-dead}
 use Rattle.paths.specs.Counting.{by-marks, Opened-arcs, Stacked, sum-done, Underway, Rested, Grown}
 use Rattle.paths.proofs.Ready.{Sized}
 use Rattle.paths.proofs.Shut.{shut-marked}

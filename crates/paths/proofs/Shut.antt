@@ -8,7 +8,7 @@ use Rattle.wire.proofs.Bool.{clash}
 use Rattle.transducer.specs.Format.{Transducer}
 use Rattle.transducer.specs.Path.{arc}
 use Rattle.reach.proofs.Reach.{at-some-arc}
-use Rattle.tally.specs.Marks.{marked}
+use Rattle.capped.specs.Marks.{marked}
 use Rattle.paths.specs.Sweep.{leads-on}
 
 -- Each arc of a state without an arc to an unmarked one leads to a marked one.

@@ -10,7 +10,7 @@ use lib.Seq.{length-take-le, take-suc-set}
 use Rattle.wire.specs.Bytes.{cleared, filled}
 use Rattle.transducer.specs.Format.{Transducer}
 use Rattle.transducer.specs.Path.{arc}
-use Rattle.tally.specs.declared.Count.{Count}
+use Rattle.capped.specs.declared.Count.{Count}
 use Rattle.paths.specs.Count.{endless, path-count, nth-path}
 use Rattle.paths.specs.Tally.{own}
 use Rattle.paths.specs.Sweep.{at-state, Path-counts}

@@ -4,7 +4,7 @@ use mathlib.Core.List.{List}
 use Prim.Native.Nat.{ℕ, zero, suc, _<_}
 use lib.ListN.{length, set, replicate}
 use lib.Seq.{getD-set-same, getD-set-other}
-use Rattle.tally.specs.declared.Count.{Count}
+use Rattle.capped.specs.declared.Count.{Count}
 use Rattle.paths.specs.Sweep.{at-state}
 
 pub at-set-same : (cs : List Count) (s : ℕ) (x : Count) → s < length cs → at-state (set cs s x) s ≡ x .value

@@ -8,7 +8,7 @@ use native.Mathlib.Omega.{arith}
 use lib.ListN.{length}
 use Rattle.transducer.specs.Format.{Transducer}
 use Rattle.transducer.proofs.Runs.{Within, Accepting}
-use Rattle.tally.specs.declared.Count.{Count}
+use Rattle.capped.specs.declared.Count.{Count}
 use Rattle.paths.specs.Count.{paths-from, paths, endless, path-count, most-counted}
 use Rattle.paths.specs.Tally.{tally}
 use Rattle.paths.specs.Sweep.{at-state, Path-counts}

@@ -12,7 +12,7 @@ use Rattle.transducer.specs.Format.{Transducer}
 use Rattle.transducer.specs.Path.{arc, no-arc, is-final}
 use Rattle.transducer.specs.Each.{by-number, each-arc}
 use Rattle.paths.specs.Count.{paths-from}
-use Rattle.tally.specs.Capped.{add}
+use Rattle.capped.specs.Capped.{add}
 use Rattle.paths.specs.Tally.{own, add-arcs, add-all, tally}
 use Rattle.paths.proofs.Listed.{empty-path, by-arcs}
 

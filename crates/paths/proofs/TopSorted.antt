@@ -16,16 +16,16 @@ use Rattle.transducer.specs.declared.Final.{Final}
 use Rattle.wire.specs.Bytes.{Bytes}
 use Rattle.transducer.specs.Format.{Transducer, decode, refusal, head-finals, final-at}
 use Rattle.transducer.specs.Path.{arc, no-arc, is-final}
-use Rattle.transducer.specs.Leaf.{Finals-by-state}
+use Rattle.transducer.specs.Accepted.{Finals-by-state}
 use Rattle.transducer.proofs.Good.{sources-stay-good, final-state-below}
 use Rattle.transducer.proofs.Offsets.{decode-states, length-finals, final-offset, accepted-within, accepted-good}
 use Rattle.transducer.proofs.Index.{stay-rises}
 use Rattle.transducer.proofs.Finals.{is-final-append}
-use Rattle.tally.specs.declared.Count.{Count}
+use Rattle.capped.specs.declared.Count.{Count}
 use Rattle.reach.specs.Reach.{some-arc}
 use Rattle.reach.proofs.Reach.{SomeAt, some-arc-at}
 use Rattle.paths.specs.Count.{goes-on, endless}
-use Rattle.tally.specs.Capped.{add}
+use Rattle.capped.specs.Capped.{add}
 use Rattle.paths.specs.Tally.{own, tally}
 use Rattle.paths.specs.Sweep.{at-state, Totals-say}
 use Rattle.paths.specs.TopSorted.{Top-sorted, Empty-paths}

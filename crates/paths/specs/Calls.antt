@@ -3,7 +3,7 @@ use mathlib.Core.List.{List}
 use Prim.Native.Nat.{ℕ, _≤_, _<_}
 use lib.ListN.{length, take}
 use Rattle.transducer.specs.Format.{max-path}
-use Rattle.tell.specs.declared.Told.{Told}
+use Rattle.report.specs.declared.Told.{Told}
 use Rattle.paths.specs.declared.Counted.{Counted}
 use Rattle.paths.specs.Entry.{count-refusal, Count-says, nth-refusal, Nth-says}
 

@@ -10,10 +10,10 @@ use Rattle.transducer.specs.Format.{max-states, Transducer}
 use Rattle.transducer.specs.Path.{arc}
 use Rattle.reach.specs.Counted.{count}
 use Rattle.reach.specs.Stack.{Off}
-use Rattle.tally.specs.declared.Count.{Count}
+use Rattle.capped.specs.declared.Count.{Count}
 use Rattle.paths.specs.Count.{most-counted}
 use Rattle.paths.specs.Tally.{own}
-use Rattle.tally.specs.Marks.{marked}
+use Rattle.capped.specs.Marks.{marked}
 use Rattle.paths.specs.Sweep.{leads-on, at-state, Stopping, Tallied}
 
 -- Whether an arc leaves a state and is not done.

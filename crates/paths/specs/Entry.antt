@@ -7,8 +7,8 @@ use lib.Dec.{ltb, leb}
 use Rattle.transducer.specs.Format.{Transducer, max-path, refusal, decode}
 use Rattle.transducer.specs.Entry.{or-else, unless}
 use Rattle.paths.specs.declared.Counted.{Counted}
-use Rattle.tell.specs.declared.Told.{Told}
-use Rattle.tell.specs.Tell.{Path-told}
+use Rattle.report.specs.declared.Told.{Told}
+use Rattle.report.specs.Tell.{Path-told}
 use Rattle.paths.specs.Count.{endless, path-count, nth-path}
 
 -- What counting refuses of accepted bytes: 14 if accepting paths are infinitely many.

@@ -5,17 +5,17 @@ use mathlib.Core.List.{List}
 use Prim.Native.Nat.{ℕ, _≤_, _<_, min}
 use lib.ListN.{length, getD}
 use Rattle.transducer.specs.Format.{max-states, Transducer, decode}
-use Rattle.transducer.specs.Leaf.{Opened, Indexed}
-use Rattle.tally.specs.declared.Count.{Count}
+use Rattle.transducer.specs.Accepted.{Accepted-at, Indexed}
+use Rattle.capped.specs.declared.Count.{Count}
 use Rattle.paths.specs.declared.Totals.{Totals}
 use Rattle.reach.specs.Reach.{some-arc}
-use Rattle.tally.specs.Marks.{marked}
+use Rattle.capped.specs.Marks.{marked}
 use Rattle.paths.specs.Count.{paths-from, goes-on, endless, most-counted}
 use Rattle.paths.specs.Tally.{tally}
 
 -- Accepted bytes: where their arcs begin, the number of states, and the first-arc index.
 pub record Ready (bs : List ℕ) (first states : ℕ) (index : List ℕ) : Type 0 where
-  pub opened : Opened bs first
+  pub opened : Accepted-at bs first
   pub states-are : states ≡ decode bs .states
   pub indexed : Indexed (decode bs) index
 

@@ -7,7 +7,7 @@ use lib.Dec.{eqb}
 use Rattle.transducer.specs.declared.Arc.{Arc}
 use Rattle.transducer.specs.Format.{Transducer}
 use Rattle.transducer.specs.Path.{is-final}
-use Rattle.tally.specs.Capped.{add}
+use Rattle.capped.specs.Capped.{add}
 
 -- The count of the empty path: 1 from a final state.
 unfoldable pub own : Transducer → (s : ℕ) → ℕ

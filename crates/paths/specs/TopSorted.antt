@@ -6,7 +6,7 @@ use Prim.Native.Nat.{ℕ, _≤_, _<_}
 use lib.ListN.{length}
 use Rattle.transducer.specs.Format.{max-states, Transducer}
 use Rattle.transducer.specs.Path.{arc}
-use Rattle.tally.specs.declared.Count.{Count}
+use Rattle.capped.specs.declared.Count.{Count}
 use Rattle.paths.specs.declared.FromStart.{FromStart}
 use Rattle.paths.specs.declared.Pass.{Pass}
 use Rattle.paths.specs.Count.{endless, path-count}

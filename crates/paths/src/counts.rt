@@ -4,38 +4,39 @@ ghost use mathlib.Core.Bool.{true, false};
 ghost use Prim.Native.Nat.{_-_, _≤_, _<_};
 ghost use lib.ListN.{length, getD, replicate};
 ghost use Rattle.transducer.specs.Format.{max-arcs, max-states, refusal, decode};
-ghost use Rattle.transducer.specs.Leaf.{Opened};
+ghost use Rattle.transducer.specs.Accepted.{Accepted-at};
 ghost use Rattle.reach.specs.Stack.{Chained};
 ghost use Rattle.paths.specs.Sweep.{Totals-say};
 ghost use Rattle.paths.specs.TopSorted.{Empty-paths};
 ghost use Rattle.paths.specs.Counting.{by-marks, Opened-arcs, Stacked, Closed-arc, Underway, Rested, Grown};
 use crate::Totals;
-use tally::Count;
+use capped::Count;
 use transducer::FINAL_BYTES;
 use transducer::HEAD_BYTES;
 use transducer::MAX_ARCS;
 use transducer::MAX_STATES;
 
-// Puts the arcs in chains by their targets and counts those of each state, `heads` and `left` being zeros.
+// Puts the arcs in chains by their targets and counts those of each state, `heads` and `pending` being zeros.
 fn link_arcs(
     table: &[u8],
     first: usize,
     arcs: usize,
     heads: &mut [u32; MAX_STATES],
     next: &mut [u32; MAX_ARCS],
-    left: &mut [u16; MAX_STATES],
+    pending: &mut [u16; MAX_STATES],
 )
-    requires { ⌜ Opened (now table) first × (arcs ≡ length (decode (now table) .arcs)) × (now heads ≡ replicate max-states 0) × (length (now next) ≡ max-arcs)
-        × (now left ≡ replicate max-states 0) ⌝ }
+    requires { ⌜ Accepted-at (now table) first × (arcs ≡ length (decode (now table) .arcs)) × (now heads ≡ replicate max-states 0)
+        × (length (now next) ≡ max-arcs)
+        × (now pending ≡ replicate max-states 0) ⌝ }
     ensures { λ _. ⌜ Chained (decode (now (table .entry))) true (now (heads .exit)) (now (next .exit))
-        × Opened-arcs (decode (now (table .entry))) (by-marks (decode (now (table .entry))) (replicate max-states false)) arcs (now (left .exit)) ⌝ }
+        × Opened-arcs (decode (now (table .entry))) (by-marks (decode (now (table .entry))) (replicate max-states false)) arcs (now (pending .exit)) ⌝ }
 {
     let mut i = 0;
     while i < arcs {
         let s = reach::source(table, first, i);
         let to = reach::target(table, first, i);
         next[i] = heads[to];
-        left[s] = left[s] + 1;
+        pending[s] = pending[s] + 1;
         i += 1;
         heads[to] = reach::cell_of(s, i);
     }
@@ -47,10 +48,10 @@ fn count_open(
     first: usize,
     arcs: usize,
     marks: &[bool; MAX_STATES],
-    left: &mut [u16; MAX_STATES],
+    pending: &mut [u16; MAX_STATES],
 )
-    requires { ⌜ Opened (now table) first × (arcs ≡ length (decode (now table) .arcs)) × (now left ≡ replicate max-states 0) ⌝ }
-    ensures { λ _. ⌜ Opened-arcs (decode (now (table .entry))) (by-marks (decode (now (table .entry))) (now (marks .entry))) arcs (now (left .exit)) ⌝ }
+    requires { ⌜ Accepted-at (now table) first × (arcs ≡ length (decode (now table) .arcs)) × (now pending ≡ replicate max-states 0) ⌝ }
+    ensures { λ _. ⌜ Opened-arcs (decode (now (table .entry))) (by-marks (decode (now (table .entry))) (now (marks .entry))) arcs (now (pending .exit)) ⌝ }
 {
     let mut i = 0;
     while i < arcs {
@@ -60,19 +61,19 @@ fn count_open(
         if marks[to] {
             continue;
         }
-        left[s] = left[s] + 1;
+        pending[s] = pending[s] + 1;
     }
 }
 
 // Puts the states that are not marked and have no open arc on the stack. How many there are.
-fn push_shut(
+fn push_ready(
     states: usize,
     marks: &[bool; MAX_STATES],
-    left: &[u16; MAX_STATES],
+    pending: &[u16; MAX_STATES],
     stack: &mut [u16; MAX_STATES],
 ) -> usize
     requires { ⌜ (states ≤ max-states) × (length (now stack) ≡ max-states) ⌝ }
-    ensures { λ r. ⌜ Stacked states (now (marks .entry)) (now (left .entry)) (now (stack .exit)) r ⌝ }
+    ensures { λ r. ⌜ Stacked states (now (marks .entry)) (now (pending .entry)) (now (stack .exit)) r ⌝ }
 {
     let mut s = 0;
     let mut top = 0;
@@ -82,7 +83,7 @@ fn push_shut(
         if marks[state] {
             continue;
         }
-        if left[state] != 0 {
+        if pending[state] != 0 {
             continue;
         }
         stack[top] = state as u16;
@@ -92,18 +93,18 @@ fn push_shut(
 }
 
 // Takes one off the open arcs of a state, which goes on the stack where that was the last. Where the stack ends.
-fn close_arc(
+fn drop_pending(
     u: usize,
     top: usize,
-    left: &mut [u16; MAX_STATES],
+    pending: &mut [u16; MAX_STATES],
     stack: &mut [u16; MAX_STATES],
 ) -> usize
-    requires { ⌜ (u < max-states) × (length (now left) ≡ max-states) × (length (now stack) ≡ max-states) × (0 < getD (now left) u 0)
-        × (getD (now left) u 0 - 1 ≡ 0 → top < max-states) ⌝ }
-    ensures { λ r. ⌜ Closed-arc (now (left .entry)) (now (stack .entry)) u top (now (left .exit)) (now (stack .exit)) r ⌝ }
+    requires { ⌜ (u < max-states) × (length (now pending) ≡ max-states) × (length (now stack) ≡ max-states) × (0 < getD (now pending) u 0)
+        × (getD (now pending) u 0 - 1 ≡ 0 → top < max-states) ⌝ }
+    ensures { λ r. ⌜ Closed-arc (now (pending .entry)) (now (stack .entry)) u top (now (pending .exit)) (now (stack .exit)) r ⌝ }
 {
-    let fewer = left[u] - 1;
-    left[u] = fewer;
+    let fewer = pending[u] - 1;
+    pending[u] = fewer;
     if fewer != 0 {
         return top;
     }
@@ -120,11 +121,11 @@ fn count_all(
     waiting: usize,
     parts: [Count; MAX_STATES],
     marks: &mut [bool; MAX_STATES],
-    left: &mut [u16; MAX_STATES],
+    pending: &mut [u16; MAX_STATES],
     stack: &mut [u16; MAX_STATES],
 ) -> [Count; MAX_STATES]
     requires { ⌜ (refusal (now table) ≡ 0) × Chained (decode (now table)) true (now heads) (now next)
-        × Underway (decode (now table)) (now marks) (now left) (now stack) waiting parts ⌝ }
+        × Underway (decode (now table)) (now marks) (now pending) (now stack) waiting parts ⌝ }
     ensures { λ r. ⌜ Rested (decode (now (table .entry))) (now (marks .exit)) r × Grown (now (marks .entry)) (now (marks .exit)) ⌝ }
 {
     let mut counts = parts;
@@ -140,7 +141,7 @@ fn count_all(
             let link = reach::link_of(cell);
             cell = next[link - 1];
             counts[u] = counts[u].add(whole);
-            top = close_arc(u, top, left, stack);
+            top = drop_pending(u, top, pending, stack);
         }
     }
     counts
@@ -158,24 +159,24 @@ fn counts_with_cycles(
     parts: [Count; MAX_STATES],
     marks: &mut [bool; MAX_STATES],
 ) -> Totals
-    requires { ⌜ Opened (now table) first × (states ≡ decode (now table) .states) × (arcs ≡ length (decode (now table) .arcs))
+    requires { ⌜ Accepted-at (now table) first × (states ≡ decode (now table) .states) × (arcs ≡ length (decode (now table) .arcs))
         × (start ≡ decode (now table) .start) × Chained (decode (now table)) true (now heads) (now next) × Rested (decode (now table)) (now marks) parts ⌝ }
     ensures { λ r. ⌜ Totals-say (decode (now (table .entry))) r ⌝ }
 {
     let finals = (first - HEAD_BYTES) / FINAL_BYTES;
     let live = reach::coaccessible_chained(table, first, states, arcs, finals, heads, next);
-    if !tally::dead_unmarked(states, &live, marks) {
+    if !capped::dead_unmarked(states, &live, marks) {
         let counted = marks[start];
         return Totals {
             counts: parts,
             endless: !counted,
         };
     }
-    tally::mark_dead(states, &live, marks);
-    let mut left = [0u16; MAX_STATES];
+    capped::mark_dead(states, &live, marks);
+    let mut pending = [0u16; MAX_STATES];
     let mut stack = [0u16; MAX_STATES];
-    count_open(table, first, arcs, marks, &mut left);
-    let waiting = push_shut(states, marks, &left, &mut stack);
+    count_open(table, first, arcs, marks, &mut pending);
+    let waiting = push_ready(states, marks, &pending, &mut stack);
     let counts = count_all(
         table,
         heads,
@@ -183,7 +184,7 @@ fn counts_with_cycles(
         waiting,
         parts,
         marks,
-        &mut left,
+        &mut pending,
         &mut stack,
     );
     let counted = marks[start];
@@ -203,17 +204,17 @@ pub fn counts_of(
     start: usize,
     empty: [Count; MAX_STATES],
 ) -> Totals
-    requires { ⌜ Opened (now table) first × (states ≡ decode (now table) .states) × (arcs ≡ length (decode (now table) .arcs))
+    requires { ⌜ Accepted-at (now table) first × (states ≡ decode (now table) .states) × (arcs ≡ length (decode (now table) .arcs))
         × (start ≡ decode (now table) .start) × Empty-paths (decode (now table)) (decode (now table) .states) empty ⌝ }
     ensures { λ r. ⌜ Totals-say (decode (now (table .entry))) r ⌝ }
 {
     let mut heads = [0u32; MAX_STATES];
     let mut next = [0u32; MAX_ARCS];
     let mut marks = [false; MAX_STATES];
-    let mut left = [0u16; MAX_STATES];
+    let mut pending = [0u16; MAX_STATES];
     let mut stack = [0u16; MAX_STATES];
-    link_arcs(table, first, arcs, &mut heads, &mut next, &mut left);
-    let waiting = push_shut(states, &marks, &left, &mut stack);
+    link_arcs(table, first, arcs, &mut heads, &mut next, &mut pending);
+    let waiting = push_ready(states, &marks, &pending, &mut stack);
     let counts = count_all(
         table,
         &heads,
@@ -221,10 +222,10 @@ pub fn counts_of(
         waiting,
         empty,
         &mut marks,
-        &mut left,
+        &mut pending,
         &mut stack,
     );
-    if tally::all_marked(states, &marks) {
+    if capped::all_marked(states, &marks) {
         return Totals {
             counts,
             endless: false,

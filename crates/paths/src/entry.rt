@@ -3,7 +3,7 @@ ghost use mathlib.Core.Path.{_≡_};
 ghost use Prim.Native.Nat.{_≤_};
 ghost use lib.ListN.{length};
 ghost use Rattle.transducer.specs.Format.{max-path, decode, refusal};
-ghost use Rattle.transducer.specs.Leaf.{Finals-by-state};
+ghost use Rattle.transducer.specs.Accepted.{Finals-by-state};
 ghost use Rattle.paths.specs.Sweep.{Ready, Totals-say};
 ghost use Rattle.paths.specs.Entry.{Count-says, accepted-count-refusal, count-refusal, Nth-says, accepted-nth-refusal, nth-refusal};
 use crate::Counted;
@@ -11,8 +11,8 @@ use crate::Totals;
 use crate::counts;
 use crate::path;
 use crate::sorted;
-use tally::Count;
-use tell::Told;
+use capped::Count;
+use report::Told;
 use transducer::INDEX_LEN;
 use transducer::MAX_STATES;
 
@@ -103,14 +103,14 @@ pub fn nth_accepted(table: &[u8], k: u32, arcs: &mut [u16], labels: &mut [u16]) 
     let start = shape.start;
     let totals = counts_by_state(table, shape.first, shape.states, start, &index, &codes);
     if totals.endless {
-        return tell::refused(14);
+        return report::refused(14);
     }
     let counts = totals.counts;
     let all = counts[start];
     if (all.value as u32) <= k {
-        return tell::refused(15);
+        return report::refused(15);
     }
-    let len = path::walk(
+    let len = path::nth_arcs(
         table,
         shape.first,
         shape.states,
@@ -121,7 +121,7 @@ pub fn nth_accepted(table: &[u8], k: u32, arcs: &mut [u16], labels: &mut [u16]) 
         counts,
         arcs,
     );
-    tell::tell(table, shape.first, start, &codes, arcs, len, labels)
+    report::tell(table, shape.first, start, &codes, arcs, len, labels)
 }
 
 // The k-th path: its arc numbers and the labels that it writes go into two lent buffers.
@@ -132,13 +132,13 @@ pub fn nth(table: &[u8], k: u32, arcs: &mut [u16], labels: &mut [u16]) -> Told
 {
     let number = transducer::refusal(table);
     if number != 0 {
-        return tell::refused(number);
+        return report::refused(number);
     }
     if arcs.len() < transducer::MAX_PATH {
-        return tell::refused(10);
+        return report::refused(10);
     }
     if labels.len() < transducer::MAX_PATH {
-        return tell::refused(10);
+        return report::refused(10);
     }
     nth_accepted(table, k, arcs, labels)
 }

@@ -4,13 +4,13 @@ mod entry;
 mod path;
 mod sorted;
 
+use capped::Count;
 pub use entry::count as path_count;
 pub use entry::count_accepted;
 pub use entry::counts_by_state;
 pub use entry::nth as nth_path;
 pub use entry::nth_accepted;
-pub use path::walk as nth_arcs;
-use tally::Count;
+pub use path::nth_arcs;
 use transducer::MAX_STATES;
 
 // What the path count answers: the refusal or 0, then the count, 0 on refusal.

@@ -5,15 +5,15 @@ ghost use Prim.Native.Nat.{_≤_, _<_};
 ghost use lib.ListN.{length};
 ghost use Rattle.wire.specs.Bytes.{filled};
 ghost use Rattle.transducer.specs.Format.{max-path, decode};
-ghost use Rattle.transducer.specs.Leaf.{Finals-by-state};
+ghost use Rattle.transducer.specs.Accepted.{Finals-by-state};
 ghost use Rattle.paths.specs.Count.{endless, path-count, nth-path};
 ghost use Rattle.paths.specs.Sweep.{Ready, Path-counts};
-use tally::Count;
+use capped::Count;
 use transducer::INDEX_LEN;
 use transducer::MAX_STATES;
 
 // Puts the arc numbers of the k-th path into `arcs`, zeros behind; how many there are.
-pub fn walk(
+pub fn nth_arcs(
     table: &[u8],
     first: usize,
     states: usize,
@@ -34,7 +34,7 @@ pub fn walk(
     let mut left = k;
     let mut n: usize = 0;
     loop {
-        let mine = tally::own(codes[s]);
+        let mine = capped::own(codes[s]);
         let own = mine.value as u32;
         if left < own {
             break;

@@ -3,11 +3,11 @@ ghost use mathlib.Core.Path.{_≡_};
 ghost use Prim.Native.Nat.{_≤_};
 ghost use lib.ListN.{length};
 ghost use Rattle.transducer.specs.Format.{max-states, decode, refusal, head-finals};
-ghost use Rattle.transducer.specs.Leaf.{Opened, Finals-by-state};
+ghost use Rattle.transducer.specs.Accepted.{Accepted-at, Finals-by-state};
 ghost use Rattle.paths.specs.TopSorted.{Empty-paths, Pass-says, From-start-says};
 use crate::FromStart;
 use crate::Pass;
-use tally::Count;
+use capped::Count;
 use transducer::MAX_STATES;
 
 // The counts of the empty paths: 1 at each final state.
@@ -35,7 +35,7 @@ pub fn empty_by_codes(table: &[u8], states: usize, codes: &[u32; MAX_STATES]) ->
     let mut counts = [Count { value: 0 }; MAX_STATES];
     let mut s = 0;
     while s < states {
-        counts[s] = tally::own(codes[s]);
+        counts[s] = capped::own(codes[s]);
         s += 1;
     }
     counts
@@ -43,7 +43,8 @@ pub fn empty_by_codes(table: &[u8], states: usize, codes: &[u32; MAX_STATES]) ->
 
 // The counts by one pass over the arcs, the last one first: where states are topologically sorted, the count that an arc adds is complete.
 pub fn counts_sorted(table: &[u8], first: usize, arcs: usize, empty: [Count; MAX_STATES]) -> Pass
-    requires { ⌜ Opened (now table) first × (arcs ≡ length (decode (now table) .arcs)) × Empty-paths (decode (now table)) (decode (now table) .states) empty ⌝ }
+    requires { ⌜ Accepted-at (now table) first × (arcs ≡ length (decode (now table) .arcs))
+        × Empty-paths (decode (now table)) (decode (now table) .states) empty ⌝ }
     ensures { λ r. ⌜ Pass-says (decode (now (table .entry))) r ⌝ }
 {
     let mut counts = empty;
@@ -60,7 +61,7 @@ pub fn counts_sorted(table: &[u8], first: usize, arcs: usize, empty: [Count; MAX
         }
         // A count at its most is left alone: a store that the next arc's load waits for costs more than the test.
         let here = counts[s];
-        if here.value == tally::MOST {
+        if here.value == capped::MOST {
             continue;
         }
         counts[s] = here.add(counts[to]);
@@ -79,7 +80,7 @@ pub fn count_from_start(
     finals: usize,
     start: usize,
 ) -> FromStart
-    requires { ⌜ Opened (now table) first × (arcs ≡ length (decode (now table) .arcs)) × (finals ≡ head-finals (now table))
+    requires { ⌜ Accepted-at (now table) first × (arcs ≡ length (decode (now table) .arcs)) × (finals ≡ head-finals (now table))
         × (start ≡ decode (now table) .start) ⌝ }
     ensures { λ r. ⌜ From-start-says (decode (now (table .entry))) r ⌝ }
 {
@@ -96,7 +97,7 @@ pub fn count_from_start(
             };
         }
         let here = counts[s];
-        if here.value == tally::MOST {
+        if here.value == capped::MOST {
             continue;
         }
         counts[s] = here.add(counts[to]);

@@ -11,7 +11,7 @@ use Rattle.wire.specs.Bytes.{Bytes}
 use Rattle.wire.proofs.Bool.{cond-most}
 use Rattle.transducer.specs.Format.{Transducer, Good, refusal, decode, weights-good, max-states, max-arcs}
 use Rattle.transducer.specs.Encode.{encode}
-use Rattle.transducer.specs.Each.{named, any-refusal}
+use Rattle.transducer.specs.Each.{no-any-input, any-refusal}
 use Rattle.transducer.specs.Entry.{or-else}
 use Rattle.transducer.proofs.Most.{refusal-most}
 use Rattle.transducer.proofs.RoundTrip.{bytes-encode, decode-encode, refusal-encode}
@@ -44,13 +44,13 @@ listing-most : (xs ys cs : List ℕ) → listing-refusal xs ys cs ≤ 18
 unfolding listing-refusal composition-refusal any-refusal applied-refusal application-refusal
 listing-most xs ys cs =
     let z : Transducer = composition xs ys in
-    let any : ℕ = cond (named (decode xs)) 0 18 in
+    let any : ℕ = cond (no-any-input (decode xs)) 0 18 in
     let right : ℕ = or-else (refusal ys) (built-refusal z) in
     let string : ℕ = cond (string-good (labels-in cs)) 0 9 in
     let built : ℕ = built-refusal (applied (labels-in cs) z .result) in
     or-else-most (or-else (refusal xs) (or-else any right)) (cond (eqb (length cs % 2) 0) (or-else string built) 9)
     (or-else-most (refusal xs) (or-else any right) (omega (arith, refusal-most xs))
-    (or-else-most any right (cond-most (named (decode xs)) 0 18 (omega arith) (omega arith))
+    (or-else-most any right (cond-most (no-any-input (decode xs)) 0 18 (omega arith) (omega arith))
     (or-else-most (refusal ys) (built-refusal z) (omega (arith, refusal-most ys)) (built-most z))))
     (cond-most (eqb (length cs % 2) 0) (or-else string built) 9
     (or-else-most string built (cond-most (string-good (labels-in cs)) 0 9 (omega arith) (omega arith)) (built-most (applied (labels-in cs) z .result)))

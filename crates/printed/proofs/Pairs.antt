@@ -5,7 +5,7 @@ use mathlib.Core.List.{List}
 use Prim.Native.Nat.{ℕ}
 use Rattle.wire.specs.Bytes.{Bytes}
 use Rattle.transducer.specs.Format.{Transducer, Good, decode}
-use Rattle.transducer.specs.Each.{named}
+use Rattle.transducer.specs.Each.{no-any-input}
 use Rattle.transducer.proofs.RoundTrip.{accepted-good}
 use Rattle.transducer.proofs.Runs.{Within, good-within}
 use Rattle.transducer.proofs.Answers.{or-else-none}
@@ -41,7 +41,7 @@ module _ (xs ys cs : List ℕ) (bytes-xs : Bytes xs) (bytes-ys : Bytes ys) (fine
 
   record Passed : Type 0 where
     left-good : Good (decode xs)
-    left-named : named (decode xs) ≡ true
+    left-no-any : no-any-input (decode xs) ≡ true
     right-good : Good (decode ys)
     composes : built-refusal z ≡ 0
     string : string-good s ≡ true
@@ -55,7 +55,7 @@ module _ (xs ys cs : List ℕ) (bytes-xs : Bytes xs) (bytes-ys : Bytes ys) (fine
       let put : Appliable s z = applied-fine z cs (both .1) in
       record {
         left-good = accepted-good xs bytes-xs (made .left-good);
-        left-named = made .left-named;
+        left-no-any = made .left-no-any;
         right-good = accepted-good ys bytes-ys (made .right-good);
         composes = made .fine;
         string = put .string;
@@ -63,7 +63,7 @@ module _ (xs ys cs : List ℕ) (bytes-xs : Bytes xs) (bytes-ys : Bytes ys) (fine
       }
 
   good-z : Good z
-  good-z = composed-good (decode xs) (decode ys) (passed .left-good) (passed .left-named) (passed .right-good) (passed .composes)
+  good-z = composed-good (decode xs) (decode ys) (passed .left-good) (passed .left-no-any) (passed .right-good) (passed .composes)
 
   pub good-lattice : Good w
   good-lattice = lattice-good s z good-z (passed .string) (passed .applies)
@@ -75,5 +75,5 @@ module _ (xs ys cs : List ℕ) (bytes-xs : Bytes xs) (bytes-ys : Bytes ys) (fine
   pairs =
       chain-pairs xs ys s z w (origin-pairs (composed (decode xs) (decode ys) .steps)) (lattice-origins s z)
       (composed-one-to-one (decode xs) (decode ys) (passed .left-good) (passed .right-good) (passed .composes))
-      (composed-plain (decode xs) (decode ys) (passed .left-good) (passed .left-named) (passed .right-good))
+      (composed-plain (decode xs) (decode ys) (passed .left-good) (passed .left-no-any) (passed .right-good))
       (lattice-one-to-one s z good-z (passed .string) (passed .applies))

@@ -4,7 +4,7 @@ ghost use mathlib.Core.Bool.{true};
 ghost use lib.ListN.{length};
 ghost use Rattle.transducer.specs.Format.{max-states, refusal, decode, head-finals};
 ghost use Rattle.transducer.specs.Path.{is-final};
-ghost use Rattle.transducer.specs.Leaf.{Opened};
+ghost use Rattle.transducer.specs.Accepted.{Accepted-at};
 ghost use Rattle.reach.specs.Reach.{accessible, coaccessible};
 ghost use Rattle.reach.specs.Marks.{Closure, Marked};
 ghost use Rattle.reach.specs.Stack.{Chained};
@@ -24,7 +24,7 @@ fn settle(
     back: bool,
     marks: &mut [bool; MAX_STATES],
 )
-    requires { ⌜ Opened (now table) first × (states ≡ decode (now table) .states) × (arcs ≡ length (decode (now table) .arcs))
+    requires { ⌜ Accepted-at (now table) first × (states ≡ decode (now table) .states) × (arcs ≡ length (decode (now table) .arcs))
         × (length (now marks) ≡ max-states) ⌝ }
     ensures { λ _. ⌜ Closure (decode (now (table .entry))) back (now (marks .entry)) (now (marks .exit)) ⌝ }
 {
@@ -43,7 +43,7 @@ pub fn accessible(
     arcs: usize,
     start: usize,
 ) -> [bool; MAX_STATES]
-    requires { ⌜ Opened (now table) first × (states ≡ decode (now table) .states) × (arcs ≡ length (decode (now table) .arcs))
+    requires { ⌜ Accepted-at (now table) first × (states ≡ decode (now table) .states) × (arcs ≡ length (decode (now table) .arcs))
         × (start ≡ decode (now table) .start) ⌝ }
     ensures { λ r. ⌜ Marked (accessible (decode (now (table .entry)) .states) (decode (now (table .entry)))) r ⌝ }
 {
@@ -79,7 +79,7 @@ pub fn coaccessible(
     arcs: usize,
     finals: usize,
 ) -> [bool; MAX_STATES]
-    requires { ⌜ Opened (now table) first × (states ≡ decode (now table) .states) × (arcs ≡ length (decode (now table) .arcs))
+    requires { ⌜ Accepted-at (now table) first × (states ≡ decode (now table) .states) × (arcs ≡ length (decode (now table) .arcs))
         × (finals ≡ head-finals (now table)) ⌝ }
     ensures { λ r. ⌜ Marked (coaccessible (decode (now (table .entry)) .states) (decode (now (table .entry)))) r ⌝ }
 {
@@ -98,7 +98,7 @@ fn settle_chained(
     next: &[u32; MAX_ARCS],
     marks: &mut [bool; MAX_STATES],
 )
-    requires { ⌜ Opened (now table) first × (states ≡ decode (now table) .states) × (arcs ≡ length (decode (now table) .arcs))
+    requires { ⌜ Accepted-at (now table) first × (states ≡ decode (now table) .states) × (arcs ≡ length (decode (now table) .arcs))
         × Chained (decode (now table)) true (now heads) (now next) × (length (now marks) ≡ max-states) ⌝ }
     ensures { λ _. ⌜ Closure (decode (now (table .entry))) true (now (marks .entry)) (now (marks .exit)) ⌝ }
 {
@@ -119,7 +119,7 @@ pub fn coaccessible_chained(
     heads: &[u32; MAX_STATES],
     next: &[u32; MAX_ARCS],
 ) -> [bool; MAX_STATES]
-    requires { ⌜ Opened (now table) first × (states ≡ decode (now table) .states) × (arcs ≡ length (decode (now table) .arcs))
+    requires { ⌜ Accepted-at (now table) first × (states ≡ decode (now table) .states) × (arcs ≡ length (decode (now table) .arcs))
         × (finals ≡ head-finals (now table)) × Chained (decode (now table)) true (now heads) (now next) ⌝ }
     ensures { λ r. ⌜ Marked (coaccessible (decode (now (table .entry)) .states) (decode (now (table .entry)))) r ⌝ }
 {

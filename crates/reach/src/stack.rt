@@ -5,7 +5,7 @@ ghost use Prim.Native.Nat.{_+_, _≤_};
 ghost use lib.ListN.{length, replicate};
 ghost use Rattle.wire.specs.Bytes.{Bytes};
 ghost use Rattle.transducer.specs.Format.{max-arcs, max-states, refusal, decode};
-ghost use Rattle.transducer.specs.Leaf.{Opened};
+ghost use Rattle.transducer.specs.Accepted.{Accepted-at};
 ghost use Rattle.reach.specs.Marks.{Closure};
 ghost use Rattle.reach.specs.Stack.{Chained, Waiting, Served, Pushed};
 use crate::arcs;
@@ -22,7 +22,7 @@ fn chain(
     heads: &mut [u32; MAX_STATES],
     next: &mut [u32; MAX_ARCS],
 )
-    requires { ⌜ Opened (now table) first × (arcs ≡ length (decode (now table) .arcs))
+    requires { ⌜ Accepted-at (now table) first × (arcs ≡ length (decode (now table) .arcs))
         × (now heads ≡ replicate max-states 0) × (length (now next) ≡ max-arcs) ⌝ }
     ensures { λ _. ⌜ Chained (decode (now (table .entry))) back (now (heads .exit)) (now (next .exit)) ⌝ }
 {
@@ -57,7 +57,7 @@ fn push_marked(states: usize, marks: &[bool; MAX_STATES], stack: &mut [u16; MAX_
 
 // Takes the state at `top` off the stack, and marks and puts on it those that its arcs lead to and that are not marked. One that the last arc of a chain
 // leads to is not put there but followed at once: on a line each step would wait for the stack. Answers where the stack ends.
-fn serve(
+fn pop_state(
     table: &[u8],
     back: bool,
     heads: &[u32; MAX_STATES],
@@ -93,7 +93,7 @@ fn serve(
 }
 
 // Follows the arcs of all states on the stack, and of those that come on it, until none is left.
-fn empty(
+fn drain_stack(
     table: &[u8],
     back: bool,
     heads: &[u32; MAX_STATES],
@@ -108,7 +108,7 @@ fn empty(
 {
     let mut top = count;
     while 0 < top {
-        top = serve(table, back, heads, next, top - 1, marks, stack);
+        top = pop_state(table, back, heads, next, top - 1, marks, stack);
     }
 }
 
@@ -127,7 +127,7 @@ pub fn spread_chained(
 {
     let mut stack = [0u16; MAX_STATES];
     let count = push_marked(states, marks, &mut stack);
-    empty(table, back, heads, next, count, marks, &mut stack);
+    drain_stack(table, back, heads, next, count, marks, &mut stack);
 }
 
 // Puts the arcs in chains and spreads marks along them.
@@ -139,7 +139,7 @@ pub fn spread_all(
     back: bool,
     marks: &mut [bool; MAX_STATES],
 )
-    requires { ⌜ Opened (now table) first × (states ≡ decode (now table) .states) × (arcs ≡ length (decode (now table) .arcs))
+    requires { ⌜ Accepted-at (now table) first × (states ≡ decode (now table) .states) × (arcs ≡ length (decode (now table) .arcs))
         × (length (now marks) ≡ max-states) ⌝ }
     ensures { λ _. ⌜ Closure (decode (now (table .entry))) back (now (marks .entry)) (now (marks .exit)) ⌝ }
 {

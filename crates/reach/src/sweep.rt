@@ -4,7 +4,7 @@ ghost use mathlib.Core.Bool.{cond};
 ghost use Prim.Native.Nat.{_+_, _-_, _<_};
 ghost use lib.ListN.{length};
 ghost use Rattle.transducer.specs.Format.{max-states, decode};
-ghost use Rattle.transducer.specs.Leaf.{Opened};
+ghost use Rattle.transducer.specs.Accepted.{Accepted-at};
 ghost use Rattle.reach.specs.Marks.{Spread, waits, Swept};
 use crate::arcs;
 use transducer::MAX_STATES;
@@ -52,7 +52,7 @@ pub fn sweep(
     back: bool,
     marks: &mut [bool; MAX_STATES],
 ) -> bool
-    requires { ⌜ Opened (now table) first × (arcs ≡ length (decode (now table) .arcs)) × (length (now marks) ≡ max-states) ⌝ }
+    requires { ⌜ Accepted-at (now table) first × (arcs ≡ length (decode (now table) .arcs)) × (length (now marks) ≡ max-states) ⌝ }
     ensures { λ r. ⌜ Swept (decode (now (table .entry))) back (now (marks .entry)) (now (marks .exit)) r ⌝ }
 {
     let mut k = 0;

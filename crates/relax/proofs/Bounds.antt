@@ -19,9 +19,9 @@ use Rattle.transducer.proofs.Good.{finals-light, arc-light}
 use Rattle.transducer.proofs.Paths.{Runs, runs-cons}
 use Rattle.transducer.proofs.Weights.{sums, sum, In-range, good-range, good-fits}
 use Rattle.reach.proofs.Sized.{Sized}
-use Rattle.least.specs.Costs.{cost-from}
+use Rattle.cycles.specs.Costs.{cost-from}
 use Rattle.relax.specs.Size.{Size}
-use Rattle.relax.specs.Nearest.{Sizes, unreached, cost-at, onward, cost-by, own-cost, Reached, Cells, least-cost}
+use Rattle.relax.specs.Tentative.{Sizes, unreached, cost-at, onward, cost-by, own-cost, Reached, Cells, least-cost}
 use Rattle.relax.proofs.Packed.{pack-unpack}
 
 -- A cost is at most so far from zero.

@@ -12,23 +12,23 @@ use borrow.Author.Tests.{ne-eqb}
 use Rattle.wire.specs.Bytes.{Bytes}
 use Rattle.wire.proofs.Bool.{by-test}
 use Rattle.transducer.specs.declared.Final.{Final}
-use Rattle.transducer.specs.declared.Looked.{Looked}
+use Rattle.transducer.specs.declared.Validation.{Validation}
 use Rattle.transducer.specs.declared.preparing.Shape.{Shape}
 use Rattle.transducer.specs.Format.{Transducer, max-states, weight-good, refusal, decode, head-finals, final-at}
 use Rattle.transducer.specs.Path.{arc, is-final, final-weight, ends}
 use Rattle.transducer.specs.Weight.{Weight, no-weight, At-most, Below, code-of}
-use Rattle.transducer.specs.Leaf.{Finals-by-state, Looked-says}
+use Rattle.transducer.specs.Accepted.{Finals-by-state, Validation-says}
 use Rattle.transducer.proofs.Finals.{final-code-some, weight-final-code, Coded, coded-first, coded-state, coded-weight, coded-next, coded-stop}
 use Rattle.transducer.proofs.Good.{finals-light, final-state-below}
 use Rattle.transducer.proofs.Offsets.{length-finals, final-offset, accepted-good}
 use Rattle.transducer.proofs.Runs.{Accepting, nil-accepting}
 use Rattle.transducer.proofs.Weights.{sums, most-trans, In-range, good-range, code-some, weight-code}
 use Rattle.reach.proofs.Sized.{Sized}
-use Rattle.least.specs.Costs.{cost-from}
-use Rattle.least.proofs.Costs.{cost-nil}
+use Rattle.cycles.specs.Costs.{cost-from}
+use Rattle.cycles.proofs.Costs.{cost-nil}
 use Rattle.relax.specs.Size.{Size, size-of}
-use Rattle.relax.specs.Nearest.{unpacked, Sizes, unreached, cost-at, by-state, no-size, No-worse, Writes, Rising, Plain-costs, Forward}
-use Rattle.relax.specs.Nearest.{own-cost, code-cost, Reached, Nearing, Cells, least-cost}
+use Rattle.relax.specs.Tentative.{unpacked, Sizes, unreached, cost-at, by-state, no-size, No-worse, Writes, Rising, Plain-costs, Forward}
+use Rattle.relax.specs.Tentative.{own-cost, code-cost, Reached, Tentative, Cells, least-cost}
 use Rattle.relax.specs.Begun.{Cleared, No-costs, Own-costs, Begun}
 use Rattle.relax.proofs.Nearer.{no-worse-same, size-nil}
 use Rattle.relax.proofs.Packed.{unpack-none}
@@ -75,7 +75,7 @@ own-reached t z c l s b ec el = on (is-final (t .finals) s) refl ec
 -- The costs of the empty paths, with no arcs.
 pub nearing-first : (t : Transducer) → Sized t → (codes : List ℕ) (cs : List Weight) (ls : Sizes) → Finals-by-state t codes
     → ((s : ℕ) → s < t .states → cost-at cs s ≡ code-cost (getD codes s 0))
-    → ((s : ℕ) → by-state ls s ≡ no-size) → Nearing t (cost-at cs) (by-state ls)
+    → ((s : ℕ) → by-state ls s ≡ no-size) → Tentative t (cost-at cs) (by-state ls)
 nearing-first t z codes cs ls f e zeros =
     record {
       high = λ s b. rw (is s b) (own-most t z s .0);
@@ -239,16 +239,16 @@ plain-rising t z codes cs f e n {least} light writes k =
           rw is at (k .costs s (omega (arith, n)));
     }
 
--- What the two calls begin with, by what a look told and arrays of zeros.
-module _ {bs : List ℕ} {shape : Shape} {cs : List Weight} {ls : Sizes} {seen : Looked} (z : Sized (decode bs)) (k : Begun bs shape cs)
-    (look : Looked-says bs seen) (none : Cleared {A = ℕ} 0 (decode bs .states) ls) where
+-- What the two calls begin with, by what validation told and arrays of zeros.
+module _ {bs : List ℕ} {shape : Shape} {cs : List Weight} {ls : Sizes} {seen : Validation} (z : Sized (decode bs)) (k : Begun bs shape cs)
+    (look : Validation-says bs seen) (none : Cleared {A = ℕ} 0 (decode bs .states) ls) where
   abbrev t : Transducer
   t = decode bs
 
   ok : refusal bs ≡ 0
   ok = k .shaped .opened .accepted
 
-  pub begun-nearing : Nearing (decode bs) (cost-at cs) (by-state ls)
+  pub begun-nearing : Tentative (decode bs) (cost-at cs) (by-state ls)
   begun-nearing = nearing-first t z (k .own .codes) cs ls (k .own .finals) (k .own .made) (none-yet none)
 
   pub begun-cells : Cells (decode bs .states) cs ls
@@ -262,12 +262,13 @@ module _ {bs : List ℕ} {shape : Shape} {cs : List Weight} {ls : Sizes} {seen :
         few = λ s. rw (none-yet none s) (omega arith);
       }
 
-  pub begun-rising : {r : Bool} → (r ≡ true → (seen .writes ≡ true) × Plain-costs (seen .least) (shape .states) cs) → r ≡ true → Rising (decode bs)
+  pub begun-rising : {r : Bool} → (r ≡ true → (seen .«no_output_epsilon» ≡ true) × Plain-costs (seen .least) (shape .states) cs) → r ≡ true → Rising (decode bs)
   begun-rising told e =
       plain-rising t z (k .own .codes) cs (k .own .finals) (k .own .made) (k .shaped .states-are) (look .light ok) (look .written ok (told e .0)) (told e .1)
 
   pub begun-forward : {r : Bool}
-      → (r ≡ true → (seen .writes ≡ true) × (seen .up ≡ true) × (weight-good (seen .least) ≡ true) × At-most (seen .least) no-weight) → r ≡ true
+      → (r ≡ true → (seen .«no_output_epsilon» ≡ true) × (seen .«top_sorted» ≡ true) × (weight-good (seen .least) ≡ true)
+      × At-most (seen .least) no-weight) → r ≡ true
       → Forward (decode bs) (seen .least)
   begun-forward told e =
       let known = told e in

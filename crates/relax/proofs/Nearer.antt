@@ -14,9 +14,9 @@ use Rattle.transducer.specs.Path.{arc, non-empty, written-by}
 use Rattle.transducer.specs.Weight.{Weight, plus, At-most, at-most, below}
 use Rattle.transducer.proofs.Weights.{sums}
 use Rattle.transducer.proofs.Paths.{written-by-short}
-use Rattle.least.proofs.Labels.{labels-append}
+use Rattle.cycles.proofs.Labels.{labels-append}
 use Rattle.relax.specs.Size.{Size, size-of, nearer}
-use Rattle.relax.specs.Nearest.{labels-of, longer, No-worse, Nearer}
+use Rattle.relax.specs.Tentative.{labels-of, longer, No-worse, Nearer}
 
 -- A cost and a size before another.
 

@@ -7,7 +7,7 @@ use native.Mathlib.Omega.{arith}
 use lib.Dec.{ltb, leb, lit<}
 use borrow.Author.Tests.{ltb-true, ltb-false, leb-true, leb-false, lt-ltb, le-ltb}
 use Rattle.transducer.proofs.Fields.{low-of}
-use Rattle.relax.specs.Nearest.{packed, unpacked, labels-of, longer}
+use Rattle.relax.specs.Tentative.{packed, unpacked, labels-of, longer}
 
 high-of : (a b : ℕ) → a < 65536 → (a + 65536 * b) / 65536 ≡ b
 high-of a b h = omega (arith, add-mul-div-left a b {y = 65536} (lit< tt), div-eq-of-lt h)

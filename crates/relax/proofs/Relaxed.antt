@@ -19,17 +19,17 @@ use Rattle.transducer.specs.Weight.{Weight, no-weight, amount, plus, At-most, B
 use Rattle.transducer.proofs.Weights.{sums, sum, either, magnitude-is}
 use Rattle.transducer.proofs.Runs.{Accepting, AcceptingBy, accepting-nil, accepting-cons, cons-accepting, Within}
 use Rattle.transducer.proofs.Cycles.{Cycle, long-has-cycle}
-use Rattle.relax.specs.Nearest.{total}
+use Rattle.relax.specs.Tentative.{total}
 use Rattle.relax.proofs.Totals.{total-grows}
 use Rattle.reach.proofs.Sized.{Sized}
-use Rattle.least.specs.Costs.{cost-from}
-use Rattle.least.specs.Cycles.{Falling}
-use Rattle.least.proofs.Costs.{cost-nil, cost-cons, cost-round}
-use Rattle.least.proofs.Cycles.{cycle-falling}
+use Rattle.cycles.specs.Costs.{cost-from}
+use Rattle.cycles.specs.Cycles.{Negative-cycle-from}
+use Rattle.cycles.proofs.Costs.{cost-nil, cost-cons, cost-round}
+use Rattle.cycles.proofs.Cycles.{cycle-falling}
 use Rattle.relax.specs.Size.{Size, size-of, nearer}
-use Rattle.relax.specs.Nearest.{packed, unpacked, Sizes, unreached, cost-at, by-state, no-size, labels-of, longer, No-worse, Nearer, onward, cost-by}
-use Rattle.relax.specs.Nearest.{size-by, own-cost, Rising, is-nearest, Reached, Nearing}
-use Rattle.relax.specs.Nearest.{least-cost, height, Cells, No-better, kept, better, too-long, Relaxed}
+use Rattle.relax.specs.Tentative.{packed, unpacked, Sizes, unreached, cost-at, by-state, no-size, labels-of, longer, No-worse, Nearer, onward, cost-by}
+use Rattle.relax.specs.Tentative.{size-by, own-cost, Rising, is-nearest, Reached, Tentative}
+use Rattle.relax.specs.Tentative.{least-cost, height, Cells, No-better, kept, better, too-long, Relaxed}
 use Rattle.relax.proofs.Nearer.{nearer-true, nearer-false, nearer-not, nearer-no-worse, nearer-through, no-worse-through, no-worse-same}
 use Rattle.relax.proofs.Nearer.{size-cons, size-few, size-behind}
 use Rattle.relax.proofs.Bounds.{Bounded, reached-bounded, cost-by-some, cost-by-none, cost-by-there, own-most}
@@ -66,7 +66,7 @@ rising-cost t w r s (i ∷ p) h a =
     rising-cost t w r (arc t i .target) p (w .arrives i (b .below)) (b .rest) in
     rw (cost-cons t s i p) (omega (arith, sums))
 
-rising-by : (t : Transducer) → Sized t → Rising t → (c : ℕ → Weight) (l : ℕ → Size) → Nearing t c l → (i : ℕ) → i < length (t .arcs)
+rising-by : (t : Transducer) → Sized t → Rising t → (c : ℕ → Weight) (l : ℕ → Size) → Tentative t c l → (i : ℕ) → i < length (t .arcs)
     → At-most no-weight (cost-by t c i)
 rising-by t z r c l n i b = on (either (c u) unreached)
   where
@@ -96,7 +96,7 @@ none-nearer t c l i some bar up x k h =
     let one : labels-of (arc t i .output) ≡ 1 = writes-one (arc t i .output) some in
     record { cost = omega (arith, sums, up); labels = λ _. omega arith; arcs = λ _ q. omega arith }
 
-pub nothing-nearer : (t : Transducer) → Sized t → Rising t → (c : ℕ → Weight) (l : ℕ → Size) → Nearing t c l → (i : ℕ) → i < length (t .arcs)
+pub nothing-nearer : (t : Transducer) → Sized t → Rising t → (c : ℕ → Weight) (l : ℕ → Size) → Tentative t c l → (i : ℕ) → i < length (t .arcs)
     → (x : Weight) (k : Size) → is-nearest no-weight x k ≡ true → No-worse x k (cost-by t c i) (size-by t l i)
 nothing-nearer t z r c l n i b = none-nearer t c l i (r .writes i b) no-weight (rising-by t z r c l n i b)
 
@@ -105,7 +105,7 @@ rise-is : (x : Weight) → At-most least-cost x → plus x (amount 2000000000) �
 rise-is x h = omega (arith, sums, magnitude-is (plus x (amount 2000000000)), size (plus x (amount 2000000000)), sum x (amount 2000000000))
 
 -- An arc that would make its source better.
-module _ (t : Transducer) (z : Sized t) (c : ℕ → Weight) (l : ℕ → Size) (n : Nearing t c l) (i : ℕ) (b : i < length (t .arcs))
+module _ (t : Transducer) (z : Sized t) (c : ℕ → Weight) (l : ℕ → Size) (n : Tentative t c l) (i : ℕ) (b : i < length (t .arcs))
     (win : Nearer (cost-by t c i) (size-by t l i) (c (arc t i .source)) (l (arc t i .source))) where
   abbrev src : ℕ
   src = arc t i .source
@@ -186,7 +186,7 @@ module _ (t : Transducer) (z : Sized t) (c : ℕ → Weight) (l : ℕ → Size) 
       behind .cycles lead cycle rest whole some (rw (← same) at back)
 
   -- A path of as many arcs as there are states comes back to a state.
-  pub way-falls : t .states ≤ size-by t l i .arcs → Falling t (arc t i .source)
+  pub way-falls : t .states ≤ size-by t l i .arcs → Negative-cycle-from t (arc t i .source)
   way-falls h =
       let r : Cycle t src way = long-has-cycle t (z .within) src way (z .within .leaves i b) (way-accepts .goes) (omega (arith, way-arcs)) in
       cycle-falling t src way r way-accepts (way-cycles (r .lead) (r .cycle) (r .rest) (r .whole) (r .some) (r .back))
@@ -242,7 +242,7 @@ module _ (t : Transducer) (z : Sized t) (c : ℕ → Weight) (l : ℕ → Size) 
           cycles = r .cycles;
         }
 
-    pub put-nearing : Nearing t c' l'
+    pub put-nearing : Tentative t c' l'
     put-nearing =
         record {
           high = λ x h. high x h (ℕ-discrete x src);
@@ -336,7 +336,7 @@ pub record Relaxes (t : Transducer) (i : ℕ) (cs : List Weight) (ls : Sizes) (s
   pub put : r ≡ true → unpacked len .arcs < t .states → Relaxed t i cs ls (set cs s cost) (set ls s len) better
 
 -- Relaxing an arc, as it was read and with the sums as they were made.
-module _ (t : Transducer) (z : Sized t) (cs : List Weight) (ls : Sizes) (cells : Cells (t .states) cs ls) (n : Nearing t (cost-at cs) (by-state ls)) (i : ℕ)
+module _ (t : Transducer) (z : Sized t) (cs : List Weight) (ls : Sizes) (cells : Cells (t .states) cs ls) (n : Tentative t (cost-at cs) (by-state ls)) (i : ℕ)
     (b : i < length (t .arcs)) (a : Arc) (is : a ≡ arc t i) where
   abbrev c : ℕ → Weight
   c = cost-at cs
@@ -360,7 +360,7 @@ module _ (t : Transducer) (z : Sized t) (cs : List Weight) (ls : Sizes) (cells :
         others = λ u o. refl;
         settles = λ x old short free. on x old;
         falls = omega arith;
-        falling = λ e. absurd (omega arith);
+        negative-cycle = λ e. absurd (omega arith);
       }
     where
       on : (x : ℕ) → (x ≡ i) ⊎ No-better t cs ls x → No-better t cs ls x
@@ -377,7 +377,7 @@ module _ (t : Transducer) (z : Sized t) (cs : List Weight) (ls : Sizes) (cells :
         others = λ u o. refl;
         settles = λ x old short free. absurd (short refl);
         falls = omega arith;
-        falling = λ e. way-falls t z c l n i b w h;
+        negative-cycle = λ e. way-falls t z c l n i b w h;
       }
 
   put : (len : ℕ) → unpacked len ≡ size-by t l i → Nearer (cost-by t c i) (size-by t l i) (c s) (l s) → size-by t l i .arcs < t .states
@@ -399,7 +399,7 @@ module _ (t : Transducer) (z : Sized t) (cs : List Weight) (ls : Sizes) (cells :
         others = put-cost .others;
         settles = λ x old short free. put-settles t z c l n i b w few c' l' put-cost put-arcs x old (free refl);
         falls = omega (arith, put-falls t z c l n i b w few c' l' put-cost put-arcs (cells .low));
-        falling = λ e. absurd (omega arith);
+        negative-cycle = λ e. absurd (omega arith);
       }
     where
       c' : ℕ → Weight

@@ -6,7 +6,7 @@ use native.Mathlib.Nat.{not-suc-le-zero}
 use native.Mathlib.Omega.{arith}
 use lib.Dec.{eqb}
 use borrow.Author.Tests.{eqb-true, eqb-false}
-use Rattle.relax.specs.Nearest.{total}
+use Rattle.relax.specs.Tentative.{total}
 
 -- Sweeps come to an end: the sum falls with each change.
 

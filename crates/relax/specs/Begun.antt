@@ -6,10 +6,10 @@ use Prim.Native.Nat.{ℕ, _≤_, _<_}
 use lib.ListN.{length, getD}
 use Rattle.transducer.specs.declared.preparing.Shape.{Shape}
 use Rattle.transducer.specs.Format.{decode}
-use Rattle.transducer.specs.Leaf.{Finals-by-state}
+use Rattle.transducer.specs.Accepted.{Finals-by-state}
 use Rattle.transducer.specs.Prepare.{Shaped}
 use Rattle.transducer.specs.Weight.{Weight, At-most}
-use Rattle.relax.specs.Nearest.{unreached, cost-at, code-cost, least-cost}
+use Rattle.relax.specs.Tentative.{unreached, cost-at, code-cost, least-cost}
 
 -- A table of at most so many states has arrays of as many cells.
 abbrev pub small : ℕ

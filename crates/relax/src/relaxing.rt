@@ -3,8 +3,8 @@ ghost use mathlib.Core.Path.{_≡_};
 ghost use Prim.Native.Nat.{_<_};
 ghost use lib.ListN.{length};
 ghost use Rattle.transducer.specs.Format.{decode};
-ghost use Rattle.transducer.specs.Leaf.{Opened};
-ghost use Rattle.relax.specs.Nearest.{cost-at, by-state, Nearing, Cells, Relaxed};
+ghost use Rattle.transducer.specs.Accepted.{Accepted-at};
+ghost use Rattle.relax.specs.Tentative.{cost-at, by-state, Tentative, Cells, Relaxed};
 use crate::sizes::arc_size;
 use crate::sizes::arcs_of;
 use crate::sizes::comes_first;
@@ -27,8 +27,8 @@ pub fn relax(
     costs: &mut [i32],
     lens: &mut [u32],
 ) -> u8
-    requires { ⌜ Opened (now table) first × (i < length (decode (now table) .arcs)) × (states ≡ decode (now table) .states)
-        × Nearing (decode (now table)) (cost-at (now costs)) (by-state (now lens)) × Cells (decode (now table) .states) (now costs) (now lens) ⌝ }
+    requires { ⌜ Accepted-at (now table) first × (i < length (decode (now table) .arcs)) × (states ≡ decode (now table) .states)
+        × Tentative (decode (now table)) (cost-at (now costs)) (by-state (now lens)) × Cells (decode (now table) .states) (now costs) (now lens) ⌝ }
     ensures { λ r. ⌜ Relaxed (decode (now (table .entry))) i (now (costs .entry)) (now (lens .entry))
         (now (costs .exit)) (now (lens .exit)) r ⌝ }
 {

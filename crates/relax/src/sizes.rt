@@ -5,7 +5,7 @@ ghost use mathlib.Core.Bool.{true};
 ghost use Rattle.transducer.specs.Format.{weight-good};
 ghost use Rattle.transducer.specs.Weight.{At-most};
 ghost use Rattle.relax.specs.Size.{nearer};
-ghost use Rattle.relax.specs.Nearest.{unpacked, labels-of, onward, least-cost};
+ghost use Rattle.relax.specs.Tentative.{unpacked, labels-of, onward, least-cost};
 
 // The cost of a state from which no path is known. A path costs at most 1,024,000,000, of either sign, so that sums with a weight are exact in 32 bits.
 pub const UNREACHED: i32 = 2000000000;

@@ -16,13 +16,13 @@ use Rattle.transducer.proofs.Answers.{or-else-none, none-or-else, cost-unless-n
 use Rattle.transducer.proofs.Runs.{Accepting, accepts-accepting, accepting-accepts}
 use Rattle.reach.specs.Reach.{coaccessible}
 use Rattle.reach.proofs.Reach.{coaccessible-path, path-coaccessible}
-use Rattle.tell.specs.declared.Told.{Told}
+use Rattle.report.specs.declared.Told.{Told}
 use Rattle.reach.proofs.Sized.{Sized, sized}
-use Rattle.least.specs.Cycles.{falling, falling-anywhere}
-use Rattle.least.proofs.Costs.{cost-start}
-use Rattle.least.proofs.Falls.{falling-some}
+use Rattle.cycles.specs.Cycles.{negative-cycle, negative-cycle-anywhere}
+use Rattle.cycles.proofs.Costs.{cost-start}
+use Rattle.cycles.proofs.NegativeCycles.{negative-cycle-some}
 use Rattle.distance.specs.Distance.{no-path, least-to-come}
-use Rattle.relax.specs.Nearest.{cost-at}
+use Rattle.relax.specs.Tentative.{cost-at}
 use Rattle.distance.specs.Entry.{costs-refusal, Costs-say}
 use Rattle.distance.specs.Claim.{Least-from, Cell-claim}
 use Rattle.distance.proofs.ToCome.{cell-claimed}
@@ -33,7 +33,7 @@ use Rattle.shortest.specs.Agree.{Both-answered, Agrees, Both-agree}
 use Rattle.shortest.proofs.Cheapest.{shortest-accepts, shortest-least}
 
 -- The start's cell is the cost of the shortest path where there is one.
-module _ (t : Transducer) (z : Sized t) (rises : falling-anywhere t ≡ false) where
+module _ (t : Transducer) (z : Sized t) (rises : negative-cycle-anywhere t ≡ false) where
   abbrev s : ℕ
   s = t .start
 
@@ -43,7 +43,7 @@ module _ (t : Transducer) (z : Sized t) (rises : falling-anywhere t ≡ false) w
   start-none : coaccessible (t .states) t s ≡ false → least-to-come t s ≡ no-path
   start-none h = cell .none .1 (λ p a. clash (path-coaccessible t (z .within) s p (record { goes = a .goes; final = a .final })) h)
 
-  start-least : coaccessible (t .states) t s ≡ true → falling t ≡ false → least-to-come t s ≡ path-cost t (shortest t)
+  start-least : coaccessible (t .states) t s ≡ true → negative-cycle t ≡ false → least-to-come t s ≡ path-cost t (shortest t)
   start-least h f =
       let found = coaccessible-path (t .states) t s h in
       let a = shortest-accepts t (z .within) f (found .0) (accepting-accepts t (found .0) (found .1)) in
@@ -92,36 +92,36 @@ module _ (bs : List ℕ) (bytes : Bytes bs) (r : Told) (a a' b b' : List ℕ) (n
   short = ltb (length a) max-path || ltb (length b) max-path
 
   module _ (none : number ≡ 0) where
-    both : (refusal bs ≡ 0) × (falling-anywhere t ≡ false)
+    both : (refusal bs ≡ 0) × (negative-cycle-anywhere t ≡ false)
     unfolding costs-refusal
     both =
-        let rest : ℕ = cond (ltb (length c) max-states) 10 (cond (falling-anywhere t) 19 0) in
+        let rest : ℕ = cond (ltb (length c) max-states) 10 (cond (negative-cycle-anywhere t) 19 0) in
         let e = or-else-none (refusal bs) rest (sym (costs .refusal-is) ∙ none) in
-        let f = not-raised (ltb (length c) max-states) 9 (cond (falling-anywhere t) 19 0) (e .1) in
-        (e .0, not-raised (falling-anywhere t) 18 0 (f .1) .0)
+        let f = not-raised (ltb (length c) max-states) 9 (cond (negative-cycle-anywhere t) 19 0) (e .1) in
+        (e .0, not-raised (negative-cycle-anywhere t) 18 0 (f .1) .0)
 
     size : Sized t
     size = sized bs bytes (both .0)
 
-    refused-is : r .refusal ≡ last-three short accepting (falling t)
+    refused-is : r .refusal ≡ last-three short accepting (negative-cycle t)
     unfolding shortest-refusal
-    refused-is = path .refusal-is ∙ none-or-else (refusal bs) (last-three short accepting (falling t)) (both .0)
+    refused-is = path .refusal-is ∙ none-or-else (refusal bs) (last-three short accepting (negative-cycle t)) (both .0)
 
     is-least : cost-at c' (t .start) ≡ least-to-come t (t .start)
     is-least = cell-is bs (costs-refusal bs (length c)) number c c' costs none (t .start) (omega (arith, size .within .starts, size .states))
 
     same-cost : r .refusal ≡ 0 → cost-at c' (t .start) ≡ r .cost
     same-cost h =
-        let known = is-0 short accepting (falling t) (sym refused-is ∙ h) in
+        let known = is-0 short accepting (negative-cycle t) (sym refused-is ∙ h) in
         let told : r .cost ≡ path-cost t (shortest t) =
         path .cost-is ∙ cost-unless-none (shortest-refusal bs (length a) (length b)) (path-cost t (shortest t)) (sym (path .refusal-is) ∙ h) in
         is-least ∙ (start-least t size (both .1) (known .0) (known .1) ∙ sym told)
 
     same-none : r .refusal ≡ 16 → cost-at c' (t .start) ≡ no-path
-    same-none h = is-least ∙ start-none t size (both .1) (is-16 short accepting (falling t) (sym refused-is ∙ h))
+    same-none h = is-least ∙ start-none t size (both .1) (is-16 short accepting (negative-cycle t) (sym refused-is ∙ h))
 
     same-rises : r .refusal ≡ 19 → ⊥
-    same-rises h = clash (falling-some t (size .within) (is-19 short accepting (falling t) (sym refused-is ∙ h))) (both .1)
+    same-rises h = clash (negative-cycle-some t (size .within) (is-19 short accepting (negative-cycle t) (sym refused-is ∙ h))) (both .1)
 
   agrees : Agrees t r number c'
   agrees = record { cost = same-cost; none = same-none; rises = same-rises }

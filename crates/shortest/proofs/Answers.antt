@@ -15,18 +15,18 @@ use Rattle.transducer.specs.Path.{accepts, runs, path-cost}
 use Rattle.transducer.specs.Entry.{or-else}
 use Rattle.transducer.specs.Weight.{Weight, At-most, Below}
 use Rattle.transducer.proofs.Runs.{accepting-accepts}
-use Rattle.tell.specs.declared.Told.{Told}
+use Rattle.report.specs.declared.Told.{Told}
 use Rattle.reach.specs.Reach.{accessible, coaccessible}
 use Rattle.reach.proofs.Reach.{accessible-start, path-coaccessible}
-use Rattle.least.specs.Cycles.{Falling, falling}
-use Rattle.least.proofs.Costs.{cost-start}
-use Rattle.least.proofs.Cycles.{falling-accepting}
-use Rattle.least.proofs.Falls.{falls-start, falling-true}
-use Rattle.tell.specs.Tell.{Tells}
-use Rattle.tell.proofs.PathTold.{refused-told, told-refused, told-found}
+use Rattle.cycles.specs.Cycles.{Negative-cycle-from, negative-cycle}
+use Rattle.cycles.proofs.Costs.{cost-start}
+use Rattle.cycles.proofs.Cycles.{negative-cycle-accepting}
+use Rattle.cycles.proofs.NegativeCycles.{falls-start, negative-cycle-true}
+use Rattle.report.specs.Tell.{Tells}
+use Rattle.report.proofs.PathTold.{refused-told, told-refused, told-found}
 use Rattle.reach.proofs.Sized.{Sized}
 use Rattle.relax.specs.Size.{Size}
-use Rattle.relax.specs.Nearest.{Sizes, unreached, cost-at, by-state, Settled}
+use Rattle.relax.specs.Tentative.{Sizes, unreached, cost-at, by-state, Settled}
 use Rattle.distance.specs.Ended.{Distances-say}
 use Rattle.distance.proofs.Settled.{few-arcs, reached-accepting, no-path-none}
 use Rattle.shortest.specs.Shortest.{shortest}
@@ -37,7 +37,7 @@ use Rattle.shortest.proofs.Followed.{Followed, followed, rises, follow-
 -- The shortest path along an arc for each state.
 pub record Found (t : Transducer) (v : ℕ → ℕ) (start len : ℕ) : Type 0 where
   pub some : coaccessible (t .states) t (t .start) ≡ true
-  pub rises : falling t ≡ false
+  pub rises : negative-cycle t ≡ false
   pub goes : runs t start (follow len t v start) ≡ true
   pub few : len ≤ max-path
   pub many : length (follow len t v start) ≡ len
@@ -156,11 +156,11 @@ module _ (bs : List ℕ) {a b : List ℕ} {r : Told} where
       → r ≡ refused-told 19 → Shortest-says bs (accepted-shortest-refusal (decode bs)) r a a b b
   shortest-falls {cs} {ls} size says off h =
       let t : Transducer = decode bs in
-      let f : Falling t (t .start) = falls-start t (says .falls off) in
+      let f : Negative-cycle-from t (t .start) = falls-start t (says .falls off) in
       let some : coaccessible (t .states) t (t .start) ≡ true =
-      path-coaccessible t (size .within) (t .start) (f .lead ++ (f .cycle ++ f .rest)) (falling-accepting t (t .start) f) in
+      path-coaccessible t (size .within) (t .start) (f .lead ++ (f .cycle ++ f .rest)) (negative-cycle-accepting t (t .start) f) in
       told-refused (decode bs) (shortest (decode bs)) (accepted-shortest-refusal (decode bs)) 19 r a b
-      (rw (some, falling-true t (size .within) f)) (λ q'. omega arith) h
+      (rw (some, negative-cycle-true t (size .within) f)) (λ q'. omega arith) h
 
   pub shortest-told : {v : ℕ → ℕ} {start len : ℕ} {a' b' : List ℕ} → max-path ≤ length a → Found (decode bs) v start len
       → a' ≡ filled (length a) (follow len (decode bs) v start)

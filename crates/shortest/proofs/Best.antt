@@ -13,7 +13,7 @@ use Rattle.transducer.specs.Path.{path-cost}
 use Rattle.paths.specs.Count.{before}
 use Rattle.paths.proofs.Order.{Compared, earlier, same, after, before-total, before-irreflexive, before-transitive}
 use Rattle.relax.specs.Size.{size-of}
-use Rattle.relax.specs.Nearest.{No-worse, Nearer}
+use Rattle.relax.specs.Tentative.{No-worse, Nearer}
 use Rattle.relax.proofs.Nearer.{nearer-true, true-nearer, nearer-false, false-nearer, nearer-no-worse, nearer-not, nearer-through}
 use Rattle.relax.proofs.Nearer.{through-nearer, no-worse-through, no-worse-same}
 use Rattle.shortest.specs.Shortest.{nearer-path, better, best-of, best}

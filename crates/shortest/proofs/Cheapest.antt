@@ -23,16 +23,16 @@ use Rattle.paths.proofs.Listed.{in-paths-from, paths-from-has}
 use Rattle.relax.specs.Size.{size-of}
 use Rattle.relax.proofs.Nearer.{no-worse-through}
 use Rattle.shortest.specs.Shortest.{better, shortest}
-use Rattle.least.specs.Cycles.{falling}
-use Rattle.least.proofs.Costs.{cost-start}
-use Rattle.least.proofs.Cycles.{Shorter, shorter}
-use Rattle.least.proofs.Falls.{falling-true}
+use Rattle.cycles.specs.Cycles.{negative-cycle}
+use Rattle.cycles.proofs.Costs.{cost-start}
+use Rattle.cycles.proofs.Cycles.{Shorter, shorter}
+use Rattle.cycles.proofs.NegativeCycles.{negative-cycle-true}
 use Rattle.shortest.proofs.Best.{Near, Not-better, better-false, not-better, neither-better-same, best-in, best-least}
 
-module _ (t : Transducer) (w : Within t) (rises : falling t ≡ false) (p : List ℕ) (a : accepts t p ≡ true) where
+module _ (t : Transducer) (w : Within t) (rises : negative-cycle t ≡ false) (p : List ℕ) (a : accepts t p ≡ true) where
   -- An accepting path that is listed, no dearer and no longer, by labels and by arcs.
   listed : Shorter t (t .start) p
-  listed = shorter t w (t .start) p (w .starts) (λ f. clash (falling-true t w f) rises) (accepts-accepting t p a)
+  listed = shorter t w (t .start) p (w .starts) (λ f. clash (negative-cycle-true t w f) rises) (accepts-accepting t p a)
 
   listed-in : Mem (listed .path) (paths-from (t .states) t (t .start))
   listed-in = paths-from-has (t .states) t (t .start) (listed .path) (listed .accepting) (omega (arith, listed .few))
@@ -81,7 +81,7 @@ module _ (t : Transducer) (w : Within t) (rises : falling t ≡ false) (p : List
   shortest-least = better-false t p (shortest t) nothing-better .near .cost
 
 -- The shortest path again, of which no more is asked than that something accepts.
-pub shortest-short : (t : Transducer) → Within t → falling t ≡ false → (p : List ℕ) → accepts t p ≡ true → length (shortest t) < t .states
+pub shortest-short : (t : Transducer) → Within t → negative-cycle t ≡ false → (p : List ℕ) → accepts t p ≡ true → length (shortest t) < t .states
 unfolding size-of
 shortest-short t w f p a =
     let m : List ℕ = shortest t in
@@ -92,7 +92,7 @@ shortest-short t w f p a =
     omega (arith, q .few)
 
 -- An accepting path that none is better than is the shortest one.
-pub shortest-is : (t : Transducer) → Within t → falling t ≡ false → (p : List ℕ) → accepts t p ≡ true
+pub shortest-is : (t : Transducer) → Within t → negative-cycle t ≡ false → (p : List ℕ) → accepts t p ≡ true
     → ((q : List ℕ) → accepts t q ≡ true → better t q p ≡ false) → p ≡ shortest t
 shortest-is t w f p a h =
     neither-better-same t p (shortest t) (nothing-better t w f p a) (h (shortest t) (shortest-accepts t w f p a))

@@ -20,11 +20,11 @@ use Rattle.transducer.proofs.RoundTrip.{accepted-good}
 use Rattle.transducer.proofs.Runs.{Within, good-within, accepting-accepts}
 use Rattle.reach.specs.Reach.{coaccessible}
 use Rattle.reach.proofs.Reach.{coaccessible-path}
-use Rattle.tell.specs.declared.Told.{Told}
-use Rattle.least.specs.Cycles.{Falling, falling}
-use Rattle.least.proofs.Cycles.{falling-accepting}
-use Rattle.least.proofs.Falls.{falling-true, true-falling}
-use Rattle.least.proofs.NoLeast.{falling-no-least}
+use Rattle.report.specs.declared.Told.{Told}
+use Rattle.cycles.specs.Cycles.{Negative-cycle-from, negative-cycle}
+use Rattle.cycles.proofs.Cycles.{negative-cycle-accepting}
+use Rattle.cycles.proofs.NegativeCycles.{negative-cycle-true, true-falling}
+use Rattle.cycles.proofs.NoLeast.{negative-cycle-no-least}
 use Rattle.shortest.specs.Shortest.{shortest}
 use Rattle.shortest.specs.Entry.{shortest-refusal, Shortest-says}
 use Rattle.shortest.specs.Claim.{Shortest-path, Answered, No-least-cost, Best-of-all, Tells-path, Shortest-claim}
@@ -49,33 +49,33 @@ module _ (bs : List ℕ) (r : Told) (a a' b b' : List ℕ) (ok : refusal bs ≡ 
   abbrev t : Transducer
   t = decode bs
 
-  -- Whether anything accepts; `falling t` is whether a cycle below zero lies on an accepting path.
+  -- Whether anything accepts; `negative-cycle t` is whether a cycle below zero lies on an accepting path.
   abbrev accepting : Bool
   accepting = coaccessible (t .states) t (t .start)
 
   abbrev number : ℕ
   number = shortest-refusal bs (length a) (length b)
 
-  number-is : number ≡ last-two accepting (falling t)
+  number-is : number ≡ last-two accepting (negative-cycle t)
   unfolding shortest-refusal
   number-is =
-      none-or-else (refusal bs) (cond (ltb (length a) 1023 || ltb (length b) 1023) 10 (last-two accepting (falling t))) ok
+      none-or-else (refusal bs) (cond (ltb (length a) 1023 || ltb (length b) 1023) 10 (last-two accepting (negative-cycle t))) ok
       ∙ (rw (le-ltb (length a) 1023 room-a, le-ltb (length b) 1023 room-b))
 
-  refused-is : r .refusal ≡ last-two accepting (falling t)
+  refused-is : r .refusal ≡ last-two accepting (negative-cycle t)
   refused-is = says .refusal-is ∙ number-is
 
   -- 16
 
   none : (r .refusal ≡ 16) ↔ ((p : List ℕ) → accepts t p ≡ false)
   none = (
-    λ h. nothing-accepts t within .0 (is-16 accepting (falling t) (sym refused-is ∙ h)),
-    λ h. refused-is ∙ ap (λ (b : Bool). last-two b (falling t)) (nothing-accepts t within .1 h),
+    λ h. nothing-accepts t within .0 (is-16 accepting (negative-cycle t) (sym refused-is ∙ h)),
+    λ h. refused-is ∙ ap (λ (b : Bool). last-two b (negative-cycle t)) (nothing-accepts t within .1 h),
   )
 
   -- The best of all
 
-  module _ (h : accepting ≡ true) (f : falling t ≡ false) where
+  module _ (h : accepting ≡ true) (f : negative-cycle t ≡ false) where
     accepted : accepts t (shortest t) ≡ true
     accepted =
         let p = coaccessible-path (t .states) t (t .start) h in
@@ -109,21 +109,21 @@ module _ (bs : List ℕ) (r : Told) (a a' b b' : List ℕ) (ok : refusal bs ≡ 
   -- 19
 
   -- Where a cycle below zero lies on a path, that path accepts.
-  some-accepts : Falling t (t .start) → accepting ≡ true
+  some-accepts : Negative-cycle-from t (t .start) → accepting ≡ true
   some-accepts f =
       by-test accepting (λ e. e)
-      (λ e. clash (accepting-accepts t _ (falling-accepting t (t .start) f)) (nothing-accepts t within .0 e _))
+      (λ e. clash (accepting-accepts t _ (negative-cycle-accepting t (t .start) f)) (nothing-accepts t within .0 e _))
 
-  refused-19 : Falling t (t .start) → r .refusal ≡ 19
-  refused-19 f = refused-is ∙ (rw (some-accepts f, falling-true t within f))
+  refused-19 : Negative-cycle-from t (t .start) → r .refusal ≡ 19
+  refused-19 f = refused-is ∙ (rw (some-accepts f, negative-cycle-true t within f))
 
-  falls : (r .refusal ≡ 19) ↔ Falling t (t .start)
-  falls = (λ h. true-falling t (is-19 accepting (falling t) (sym refused-is ∙ h)), refused-19)
+  falls : (r .refusal ≡ 19) ↔ Negative-cycle-from t (t .start)
+  falls = (λ h. true-falling t (is-19 accepting (negative-cycle t) (sym refused-is ∙ h)), refused-19)
 
   -- Where there is no least cost, a cycle below zero lies on an accepting path: otherwise the shortest one has the least.
-  no-least-falls : No-least-cost t → falling t ≡ true
+  no-least-falls : No-least-cost t → negative-cycle t ≡ true
   no-least-falls h =
-      by-test (falling t) (λ f. f)
+      by-test (negative-cycle t) (λ f. f)
       (λ f.
       let first = h no-weight in
       let s : accepts t (shortest t) ≡ true = shortest-accepts t within f (first .0) (first .1) in
@@ -132,7 +132,7 @@ module _ (bs : List ℕ) (r : Told) (a a' b b' : List ℕ) (ok : refusal bs ≡ 
 
   bottomless : (r .refusal ≡ 19) ↔ No-least-cost t
   bottomless = (
-    λ h. falling-no-least t (is-19 accepting (falling t) (sym refused-is ∙ h)),
+    λ h. negative-cycle-no-least t (is-19 accepting (negative-cycle t) (sym refused-is ∙ h)),
     λ h. refused-19 (true-falling t (no-least-falls h)),
   )
 
@@ -140,7 +140,7 @@ module _ (bs : List ℕ) (r : Told) (a a' b b' : List ℕ) (ok : refusal bs ≡ 
   told bad worse =
       by-test accepting
       (λ e.
-      by-test (falling t) (λ f. absurd (worse (refused-19 (true-falling t f))))
+      by-test (negative-cycle t) (λ f. absurd (worse (refused-19 (true-falling t f))))
       (λ f. (refused-is ∙ (rw (e, f)), shortest t, best-of-all e f, tells-path e f)))
       (λ e. absurd (bad (none .1 (nothing-accepts t within .0 e))))
 

@@ -18,9 +18,9 @@ use Rattle.transducer.proofs.Weights.{sums, magnitude-is}
 use Rattle.reach.proofs.Sized.{Sized, good-sized}
 use Rattle.paths.specs.Count.{endless}
 use Rattle.paths.proofs.Endless.{not-endless-short}
-use Rattle.least.specs.Cycles.{falling}
-use Rattle.least.proofs.Costs.{cost-start}
-use Rattle.least.proofs.NoLeast.{falling-no-least}
+use Rattle.cycles.specs.Cycles.{negative-cycle}
+use Rattle.cycles.proofs.Costs.{cost-start}
+use Rattle.cycles.proofs.NoLeast.{negative-cycle-no-least}
 use Rattle.relax.proofs.Bounds.{Bounded, cost-bounded}
 
 -- The most that a path of 1,023 arcs costs, on either side of zero.
@@ -37,11 +37,11 @@ module _ (t : Transducer) (good : Good t) (finite : endless t ≡ false) where
       record { up = omega (arith, sums, b .up, l, z .states); down = omega (arith, sums, b .down, l, z .states) }
 
   -- 19 cannot arise: round such a cycle cost falls below any bound.
-  pub few-rises : falling t ≡ false
+  pub few-rises : negative-cycle t ≡ false
   few-rises =
-      is-false (falling t)
+      is-false (negative-cycle t)
       (λ f.
-      let r = falling-no-least t f (negsuc most-cost) in
+      let r = negative-cycle-no-least t f (negsuc most-cost) in
       let b : Bounded most-cost (path-cost t (r .0)) = few-bounded (r .0) (r .1) in
       omega (arith, sums, b .down, r .2))
 

@@ -17,11 +17,11 @@ use Rattle.reach.proofs.Reach.{accessible-start}
 use Rattle.paths.specs.Count.{before}
 use Rattle.paths.proofs.Order.{before-cons}
 use Rattle.reach.proofs.Sized.{Sized}
-use Rattle.least.specs.Costs.{cost-from}
-use Rattle.least.specs.Cycles.{falling}
-use Rattle.least.proofs.Costs.{cost-start, cost-cons}
+use Rattle.cycles.specs.Costs.{cost-from}
+use Rattle.cycles.specs.Cycles.{negative-cycle}
+use Rattle.cycles.proofs.Costs.{cost-start, cost-cons}
 use Rattle.relax.specs.Size.{Size, size-of}
-use Rattle.relax.specs.Nearest.{unreached, labels-of, longer, No-worse, cost-by, size-by, Reached, Settled}
+use Rattle.relax.specs.Tentative.{unreached, labels-of, longer, No-worse, cost-by, size-by, Reached, Settled}
 use Rattle.relax.proofs.Nearer.{no-worse-both, same-size, size-nil, size-cons}
 use Rattle.relax.proofs.Bounds.{cost-by-some, cost-by-there}
 use Rattle.distance.proofs.Settled.{By, by, Best, best, reached, reached-accepts, none-nearer, settled-rises}
@@ -197,8 +197,8 @@ module _ (t : Transducer) (z : Sized t) (c : ℕ → Weight) (l : ℕ → Size) 
 
   -- From the start.
 
-  pub rises : falling t ≡ false
-  unfolding falling
+  pub rises : negative-cycle t ≡ false
+  unfolding negative-cycle
   rises = settled-rises t z counts c l k
 
   pub follow-shortest : Below (c (t .start)) unreached → follow (l (t .start) .arcs) t next-arc (t .start) ≡ shortest t

@@ -11,11 +11,11 @@ use Rattle.wire.proofs.Bool.{clash}
 use Rattle.transducer.specs.Format.{Transducer}
 use Rattle.transducer.specs.Path.{arc}
 use Rattle.transducer.specs.Weight.{Weight}
-use Rattle.transducer.specs.Leaf.{arcs-below}
+use Rattle.transducer.specs.Accepted.{arcs-below}
 use Rattle.transducer.proofs.Good.{Content}
 use Rattle.transducer.proofs.Index.{arcs-below-length, arcs-below-mono, arcs-of-state, state-of-arcs}
 use Rattle.relax.specs.Size.{Size, nearer}
-use Rattle.relax.specs.Nearest.{No-worse, cost-by, size-by}
+use Rattle.relax.specs.Tentative.{No-worse, cost-by, size-by}
 use Rattle.relax.proofs.Nearer.{no-worse-same, no-worse-both, nearer-false, false-nearer}
 use Rattle.shortest.specs.Tight.{Tight, First, gives, first-giving, first-tight}
 

@@ -6,10 +6,10 @@ use lib.ListN.{length}
 use Rattle.wire.specs.Bytes.{Bytes}
 use Rattle.transducer.specs.Format.{Transducer, decode}
 use Rattle.transducer.specs.Weight.{Weight}
-use Rattle.tell.specs.declared.Told.{Told}
+use Rattle.report.specs.declared.Told.{Told}
 use Rattle.distance.specs.Distance.{no-path}
 use Rattle.distance.specs.Entry.{costs-refusal, Costs-say}
-use Rattle.relax.specs.Nearest.{cost-at}
+use Rattle.relax.specs.Tentative.{cost-at}
 use Rattle.shortest.specs.Entry.{shortest-refusal, Shortest-says}
 
 -- Both calls on one table, each answered as its contract says, whatever they were lent. That the table is bytes holds of slices of bytes.

@@ -9,8 +9,8 @@ use Rattle.wire.specs.Bytes.{Bytes}
 use Rattle.transducer.specs.Format.{max-path, Transducer, refusal}
 use Rattle.transducer.specs.Path.{accepts, written-by, path-cost}
 use Rattle.transducer.specs.Weight.{Weight, At-most, Below}
-use Rattle.tell.specs.declared.Told.{Told}
-use Rattle.least.specs.Cycles.{Falling}
+use Rattle.report.specs.declared.Told.{Told}
+use Rattle.cycles.specs.Cycles.{Negative-cycle-from}
 use Rattle.shortest.specs.Shortest.{better}
 use Rattle.shortest.specs.Entry.{shortest-refusal, Shortest-says}
 
@@ -56,7 +56,7 @@ pub record Tells-path (t : Transducer) (path : List ℕ) (r : Told) (arcs-left l
 -- the best of all paths is told.
 pub record Shortest-claim (t : Transducer) (r : Told) (arcs-left labels-left : List ℕ) : Type 0 where
   pub none : (r .refusal ≡ 16) ↔ ((p : List ℕ) → accepts t p ≡ false)
-  pub falls : (r .refusal ≡ 19) ↔ Falling t (t .start)
+  pub falls : (r .refusal ≡ 19) ↔ Negative-cycle-from t (t .start)
   pub bottomless : (r .refusal ≡ 19) ↔ No-least-cost t
   pub told : (r .refusal ≡ 16 → ⊥) → (r .refusal ≡ 19 → ⊥)
       → (r .refusal ≡ 0) × (p : List ℕ) × Best-of-all t p × Tells-path t p r arcs-left labels-left

@@ -5,15 +5,15 @@ use Prim.Native.Nat.{ℕ}
 use lib.Dec.{ltb}
 use Rattle.transducer.specs.Format.{Transducer, max-path, refusal, decode}
 use Rattle.transducer.specs.Entry.{or-else}
-use Rattle.tell.specs.declared.Told.{Told}
+use Rattle.report.specs.declared.Told.{Told}
 use Rattle.reach.specs.Reach.{coaccessible}
-use Rattle.tell.specs.Tell.{Path-told}
-use Rattle.least.specs.Cycles.{falling}
+use Rattle.report.specs.Tell.{Path-told}
+use Rattle.cycles.specs.Cycles.{negative-cycle}
 use Rattle.shortest.specs.Shortest.{shortest}
 
 -- What the shortest path refuses of accepted bytes: 16 if nothing accepts, then 19 if a cycle below zero lies on an accepting path.
 abbrev pub accepted-shortest-refusal : Transducer → ℕ
-accepted-shortest-refusal t = cond (not (coaccessible (t .states) t (t .start))) 16 (cond (falling t) 19 0)
+accepted-shortest-refusal t = cond (not (coaccessible (t .states) t (t .start))) 16 (cond (negative-cycle t) 19 0)
 
 -- The shortest path: 1 to 8, 10 for a buffer that is too short, 16, then 19.
 unfoldable pub shortest-refusal : List ℕ → (arcs labels : ℕ) → ℕ

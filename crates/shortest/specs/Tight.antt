@@ -7,9 +7,9 @@ use lib.ListN.{length}
 use Rattle.transducer.specs.Format.{Transducer}
 use Rattle.transducer.specs.Path.{arc}
 use Rattle.transducer.specs.Weight.{Weight}
-use Rattle.transducer.specs.Leaf.{arcs-below}
+use Rattle.transducer.specs.Accepted.{arcs-below}
 use Rattle.relax.specs.Size.{Size, nearer}
-use Rattle.relax.specs.Nearest.{cost-by, size-by}
+use Rattle.relax.specs.Tentative.{cost-by, size-by}
 
 -- An arc that begins a path of the least cost, the fewest labels and the fewest arcs from its source.
 pub record Tight (t : Transducer) (c : ℕ → Weight) (l : ℕ → Size) (i : ℕ) : Type 0 where

@@ -3,39 +3,39 @@ ghost use mathlib.Core.Path.{_≡_};
 ghost use Prim.Native.Nat.{ℕ, _≤_};
 ghost use lib.ListN.{length};
 ghost use Rattle.transducer.specs.Format.{max-path, decode};
-ghost use Rattle.transducer.specs.Leaf.{Looked-says};
+ghost use Rattle.transducer.specs.Accepted.{Validation-says};
 ghost use Rattle.transducer.specs.Weight.{no-weight};
 ghost use Rattle.relax.specs.Begun.{Cleared};
 ghost use Rattle.shortest.specs.Entry.{Shortest-says, accepted-shortest-refusal, shortest-refusal};
 use crate::walk;
-use tell::Told;
-use transducer::Looked;
+use report::Told;
+use transducer::Validation;
 
 // The shortest path of accepted bytes, by lent arrays of zeros for costs and sizes with a cell for each state.
 fn shortest_by(
     table: &[u8],
-    seen: Looked,
+    seen: Validation,
     costs: &mut [i32],
     lens: &mut [u32],
     arcs: &mut [u16],
     labels: &mut [u16],
 ) -> Told
-    requires { ⌜ Looked-says (now table) seen × (seen .refusal ≡ 0) × Cleared no-weight (decode (now table) .states) (now costs)
+    requires { ⌜ Validation-says (now table) seen × (seen .refusal ≡ 0) × Cleared no-weight (decode (now table) .states) (now costs)
         × Cleared {A = ℕ} 0 (decode (now table) .states) (now lens) × (max-path ≤ length (now arcs)) × (max-path ≤ length (now labels)) ⌝ }
     ensures { λ r. ⌜ Shortest-says (now (table .entry)) (accepted-shortest-refusal (decode (now (table .entry))))
         r (now (arcs .entry)) (now (arcs .exit)) (now (labels .entry)) (now (labels .exit)) ⌝ }
 {
     let shape = relax::begin(table, costs);
     if !distance::distances(table, shape, false, seen, costs, lens) {
-        return tell::refused(19);
+        return report::refused(19);
     }
     let start = shape.start;
     let cost = costs[start];
     if relax::UNREACHED <= cost {
-        return tell::refused(16);
+        return report::refused(16);
     }
     let len = relax::arcs_of(lens[start]);
-    walk::walk(
+    walk::follow(
         table,
         shape.first,
         shape.states,
@@ -46,15 +46,20 @@ fn shortest_by(
         lens,
         arcs,
     );
-    let end = tell::put_labels(table, shape.first, start, arcs, len, labels);
-    tell::answer(cost as i64, len, end.labels)
+    let end = report::put_labels(table, shape.first, start, arcs, len, labels);
+    report::answer(cost as i64, len, end.labels)
 }
 
 // Puts the shortest path of accepted bytes into two lent buffers that are long enough: its arc numbers, and the labels that it writes. Refuses only with
 // 16 and 19. `seen` has the facts that validation found; `distance::unvalidated` stands for them if the bytes were not validated but made by a call.
 // Linear in states and arcs where one sweep settles all, at worst states times arcs.
-pub fn shortest_accepted(table: &[u8], seen: Looked, arcs: &mut [u16], labels: &mut [u16]) -> Told
-    requires { ⌜ Looked-says (now table) seen × (seen .refusal ≡ 0) × (max-path ≤ length (now arcs)) × (max-path ≤ length (now labels)) ⌝ }
+pub fn shortest_accepted(
+    table: &[u8],
+    seen: Validation,
+    arcs: &mut [u16],
+    labels: &mut [u16],
+) -> Told
+    requires { ⌜ Validation-says (now table) seen × (seen .refusal ≡ 0) × (max-path ≤ length (now arcs)) × (max-path ≤ length (now labels)) ⌝ }
     ensures { λ r. ⌜ Shortest-says (now (table .entry)) (accepted-shortest-refusal (decode (now (table .entry))))
         r (now (arcs .entry)) (now (arcs .exit)) (now (labels .entry)) (now (labels .exit)) ⌝ }
 {
@@ -74,16 +79,16 @@ pub fn shortest_path(table: &[u8], arcs: &mut [u16], labels: &mut [u16]) -> Told
         (shortest-refusal (now (table .entry)) (length (now (arcs .entry))) (length (now (labels .entry))))
         r (now (arcs .entry)) (now (arcs .exit)) (now (labels .entry)) (now (labels .exit)) ⌝ }
 {
-    let seen = transducer::look(table, true);
+    let seen = transducer::validate(table, true);
     let number = seen.refusal;
     if number != 0 {
-        return tell::refused(number);
+        return report::refused(number);
     }
     if arcs.len() < transducer::MAX_PATH {
-        return tell::refused(10);
+        return report::refused(10);
     }
     if labels.len() < transducer::MAX_PATH {
-        return tell::refused(10);
+        return report::refused(10);
     }
     shortest_accepted(table, seen, arcs, labels)
 }

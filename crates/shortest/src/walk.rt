@@ -5,9 +5,9 @@ ghost use mathlib.Core.Bool.{true};
 ghost use lib.ListN.{length};
 ghost use Rattle.wire.specs.Bytes.{filled};
 ghost use Rattle.transducer.specs.Format.{decode};
-ghost use Rattle.transducer.specs.Leaf.{Opened, Indexed};
+ghost use Rattle.transducer.specs.Accepted.{Accepted-at, Indexed};
 ghost use Rattle.transducer.specs.Path.{runs};
-ghost use Rattle.relax.specs.Nearest.{unpacked, cost-at, by-state, cost-by, size-by, Cells};
+ghost use Rattle.relax.specs.Tentative.{unpacked, cost-at, by-state, cost-by, size-by, Cells};
 ghost use Rattle.shortest.specs.Tight.{first-giving, first-tight, follow};
 use transducer::INDEX_LEN;
 
@@ -19,7 +19,7 @@ struct Distance {
 
 // The same by way of arc `i`.
 fn by_arc(table: &[u8], first: usize, i: usize, costs: &[i32], lens: &[u32]) -> Distance
-    requires { ⌜ Opened (now table) first × (i < length (decode (now table) .arcs)) × Cells (decode (now table) .states) (now costs) (now lens) ⌝ }
+    requires { ⌜ Accepted-at (now table) first × (i < length (decode (now table) .arcs)) × Cells (decode (now table) .states) (now costs) (now lens) ⌝ }
     ensures { λ r. ⌜ (r .cost ≡ cost-by (decode (now (table .entry))) (cost-at (now (costs .entry))) i)
         × (unpacked (r .size) ≡ size-by (decode (now (table .entry))) (by-state (now (lens .entry))) i) ⌝ }
 {
@@ -41,7 +41,7 @@ fn first_giving(
     costs: &[i32],
     lens: &[u32],
 ) -> usize
-    requires { ⌜ Opened (now table) first × (s < decode (now table) .states) × (from ≤ to) × (to ≤ length (decode (now table) .arcs))
+    requires { ⌜ Accepted-at (now table) first × (s < decode (now table) .states) × (from ≤ to) × (to ≤ length (decode (now table) .arcs))
         × Cells (decode (now table) .states) (now costs) (now lens) ⌝ }
     ensures { λ r. ⌜ r ≡ first-giving (to - from) (decode (now (table .entry))) (cost-at (now (costs .entry)))
         (by-state (now (lens .entry))) s from ⌝ }
@@ -71,7 +71,7 @@ fn walk_near(
     lens: &[u32],
     out: &mut [u16],
 )
-    requires { ⌜ Opened (now table) first × (arcs ≡ length (decode (now table) .arcs)) × (start < decode (now table) .states) × (len ≤ length (now out))
+    requires { ⌜ Accepted-at (now table) first × (arcs ≡ length (decode (now table) .arcs)) × (start < decode (now table) .states) × (len ≤ length (now out))
         × (runs (decode (now table)) start
         (follow len (decode (now table)) (first-tight (decode (now table)) (cost-at (now costs)) (by-state (now lens))) start) ≡ true)
         × Cells (decode (now table) .states) (now costs) (now lens) ⌝ }
@@ -83,7 +83,7 @@ fn walk_near(
     let mut n: usize = 0;
     let mut near: usize = 0;
     while n < len {
-        let from = settle::first_arc(table, first, arcs, s, near);
+        let from = relaxation::first_arc(table, first, arcs, s, near);
         let i = first_giving(table, first, s, from, arcs, costs, lens);
         let a = transducer::arc_of(table, first, i);
         out[n] = i as u16;
@@ -105,7 +105,7 @@ fn walk_indexed(
     lens: &[u32],
     out: &mut [u16],
 )
-    requires { ⌜ Opened (now table) first × Indexed (decode (now table)) (now index) × (start < decode (now table) .states) × (len ≤ length (now out))
+    requires { ⌜ Accepted-at (now table) first × Indexed (decode (now table)) (now index) × (start < decode (now table) .states) × (len ≤ length (now out))
         × (runs (decode (now table)) start
         (follow len (decode (now table)) (first-tight (decode (now table)) (cost-at (now costs)) (by-state (now lens))) start) ≡ true)
         × Cells (decode (now table) .states) (now costs) (now lens) ⌝ }
@@ -128,7 +128,7 @@ fn walk_indexed(
 }
 
 // The same in one of the two ways.
-pub fn walk(
+pub fn follow(
     table: &[u8],
     first: usize,
     states: usize,
@@ -139,7 +139,7 @@ pub fn walk(
     lens: &[u32],
     out: &mut [u16],
 )
-    requires { ⌜ Opened (now table) first × (states ≡ decode (now table) .states) × (arcs ≡ length (decode (now table) .arcs))
+    requires { ⌜ Accepted-at (now table) first × (states ≡ decode (now table) .states) × (arcs ≡ length (decode (now table) .arcs))
         × (start < decode (now table) .states) × (len ≤ length (now out))
         × (runs (decode (now table)) start
         (follow len (decode (now table)) (first-tight (decode (now table)) (cost-at (now costs)) (by-state (now lens))) start) ≡ true)

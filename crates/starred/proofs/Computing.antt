@@ -10,7 +10,7 @@ use Rattle.transducer.specs.Format.{head-states, head-arcs, head-finals, head-s
 use Rattle.transducer.specs.Format.{all-labels-good, weights-good, first-of, content-refusal, refusal}
 use Rattle.transducer.specs.Encode.{weight-bytes, head-record, final-record, arc-record, final-records, arc-records, encode}
 use Rattle.transducer.specs.Path.{is-final, final-weight, arc, ends, non-empty, written-by, arcs-cost, path-cost}
-use Rattle.transducer.specs.Each.{by-number, each-arc, unnamed, fits, passed, named, any-refusal}
+use Rattle.transducer.specs.Each.{by-number, each-arc, unnamed, fits, passed, no-any-input, any-refusal}
 use Rattle.transducer.specs.Entry.{or-else}
 use Rattle.codec.specs.Entry.{arc-fields, read-room, read-refusal}
 use Rattle.explore.specs.Explore.{there, place, met, served, numbered, targets, arcs-here, arcs-from, finals-from, steps-from, built}
@@ -29,8 +29,8 @@ use Rattle.lattice.specs.Lattice.{lattice, lattice-origins}
 use Rattle.lattice.specs.ApplyEntry.{apply-room, apply-refusal, application-refusal}
 use Rattle.paths.specs.Count.{before, paths-from, paths, goes-on, endless, path-count, nth-path}
 use Rattle.paths.specs.Entry.{count-refusal, nth-refusal}
-use Rattle.least.specs.Costs.{cost-from}
-use Rattle.least.specs.Cycles.{some-leaving, falls-to, falls-round, some-below, falling-among, falling, falling-anywhere}
+use Rattle.cycles.specs.Costs.{cost-from}
+use Rattle.cycles.specs.Cycles.{some-leaving, negative-run, negative-cycle-at, some-below, negative-cycle-among, negative-cycle, negative-cycle-anywhere}
 use Rattle.distance.specs.Distance.{lesser, least-of, least-to-come}
 use Rattle.distance.specs.Entry.{costs-refusal, costs-to-come}
 use Rattle.relax.specs.Size.{size-of, nearer}
@@ -46,15 +46,16 @@ unfoldable pub definitions : ℕ
 unfolding two four low signed-four signed-low places every framed-from framed records-from records kind-good in-order kinds-good weight-at weight-good
     labels-good finals-in arcs-in head-states head-arcs head-finals head-start decode head-good states-good finals-rise sources-stay order-good
     all-labels-good weights-good first-of content-refusal refusal weight-bytes head-record final-record arc-record final-records arc-records encode
-    is-final final-weight arc ends non-empty written-by arcs-cost path-cost by-number each-arc unnamed fits passed named any-refusal or-else arc-fields
+    is-final final-weight arc ends non-empty written-by arcs-cost path-cost by-number each-arc unnamed fits passed no-any-input any-refusal or-else arc-fields
     read-room read-refusal there place met served numbered targets arcs-here arcs-from finals-from steps-from built built-refusal all-origins same-state
     left-alone right-alone both-step left-steps right-steps steps first-state final-state state-weight composed left-origin right-origin origin-pair
     origin-pairs compose-room compose-refusal composition-refusal string-good step arc-steps applied same-position applied-steps final-position entered
     some-arc accessible coaccessible useful arc-useful renumbered moved passing passing-numbers kept-finals trimmed origins-kept lattice lattice-origins
     apply-room apply-refusal application-refusal before paths-from paths goes-on endless path-count nth-path count-refusal nth-refusal size-of nearer
-    nearer-path better best-of best shortest some-leaving falls-to falls-round some-below falling-among falling shortest-refusal labels-in digits
+    nearer-path better best-of best shortest some-leaving negative-run negative-cycle-at some-below negative-cycle-among negative-cycle
+    shortest-refusal labels-in digits
     decimal cost-text readings-word labels-text line line-of lines counted-text listing-text applied-refusal text-unless listing-refusal text-of
-    or-refused built-or-refused keeps read-answer write-answer path-answer defined falling-anywhere cost-from lesser least-of least-to-come
+    or-refused built-or-refused keeps read-answer write-answer path-answer defined negative-cycle-anywhere cost-from lesser least-of least-to-come
     costs-refusal costs-to-come
 definitions = 0
 

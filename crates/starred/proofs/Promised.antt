@@ -23,8 +23,8 @@ use Rattle.compose.specs.Entry.{compose-room, compose-refusal, Compose-says, or
 use Rattle.lattice.specs.Lattice.{lattice, lattice-origins}
 use Rattle.lattice.specs.ApplyEntry.{apply-room, apply-refusal, Apply-says}
 use Rattle.paths.specs.Count.{path-count, nth-path}
-use Rattle.tell.specs.declared.Told.{Told}
-use Rattle.tell.specs.Tell.{Path-told}
+use Rattle.report.specs.declared.Told.{Told}
+use Rattle.report.specs.Tell.{Path-told}
 use Rattle.paths.specs.Entry.{count-refusal, nth-refusal, Nth-says}
 use Rattle.distance.specs.Entry.{costs-to-come, costs-refusal, Costs-say}
 use Rattle.shortest.specs.Shortest.{shortest}

@@ -12,7 +12,7 @@ use Rattle.codec.specs.Entry.{read-refusal, Read-says}
 use Rattle.compose.specs.Entry.{compose-refusal, Compose-says}
 use Rattle.lattice.specs.ApplyEntry.{apply-refusal, Apply-says}
 use Rattle.paths.specs.declared.Counted.{Counted}
-use Rattle.tell.specs.declared.Told.{Told}
+use Rattle.report.specs.declared.Told.{Told}
 use Rattle.paths.specs.Entry.{count-refusal, Count-says, nth-refusal, Nth-says}
 use Rattle.distance.specs.Entry.{costs-refusal, Costs-say}
 use Rattle.shortest.specs.Entry.{shortest-refusal, Shortest-says}

@@ -7,7 +7,7 @@ use native.Mathlib.Omega.{arith}
 use lib.ListN.{length}
 use Rattle.transducer.specs.Format.{Transducer, any, all-labels-good}
 use Rattle.transducer.specs.Path.{arc}
-use Rattle.transducer.specs.Each.{passed, named}
+use Rattle.transducer.specs.Each.{passed, no-any-input}
 use Rattle.explore.specs.Explore.{Step}
 use Rattle.steps.specs.declared.Origin.{Origin}
 use Rattle.steps.specs.declared.State.{State}
@@ -16,7 +16,7 @@ use Rattle.transducer.proofs.Fits.{passed-below, named-input}
 use Rattle.transducer.proofs.Labels.{Unbarred, arc-unbarred, arc-short}
 use Rattle.steps.proofs.Moves.{Move, by-left, by-right, by-both, step-move}
 
-module _ (t u : Transducer) (good-t : all-labels-good t ≡ true) (all : named t ≡ true) (good-u : all-labels-good u ≡ true) where
+module _ (t u : Transducer) (good-t : all-labels-good t ≡ true) (all : no-any-input t ≡ true) (good-u : all-labels-good u ≡ true) where
   left-labels : (i : ℕ) → i < length (t .arcs) → Unbarred (arc t i .input) (arc t i .output)
   left-labels i l = arc-unbarred t i good-t l (named-input t all i)
 

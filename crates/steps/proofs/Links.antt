@@ -14,15 +14,15 @@ use Rattle.wire.proofs.Low.{two-below}
 use Rattle.wire.proofs.Bool.{by-test, clash, is-false, and-true}
 use Rattle.wire.specs.Bytes.{Bytes, four}
 use Rattle.transducer.specs.Format.{max-arcs, Transducer, any, decode}
-use Rattle.transducer.specs.Leaf.{Opened, Rest, Leaving}
+use Rattle.transducer.specs.Accepted.{Accepted-at, Rest, Leaving}
 use Rattle.transducer.specs.Path.{arc}
-use Rattle.transducer.specs.Each.{unnamed, fits, named}
+use Rattle.transducer.specs.Each.{unnamed, fits, no-any-input}
 use Rattle.transducer.proofs.Fits.{named-input, label-at, label-none, label-named, label-any, fits-label}
-use Rattle.steps.specs.Lookup.{label-buckets, label-bucket, reads, in-bucket, first-of, first-from, Heads, Chain, Again, Lookup, Leads}
+use Rattle.steps.specs.Lookup.{label-buckets, label-bucket, reads, in-bucket, first-of, first-from, Heads, Chain, Next-same-label, Lookup, Leads}
 use Rattle.steps.specs.declared.Run.{Run}
 use Rattle.steps.specs.Runs.{fitting-from, reading-from, Takeable}
 use Rattle.transducer.proofs.Leaving.{rest-from, leaving-unnamed}
-use Rattle.transducer.proofs.Opened.{source-in-place, input-in-place}
+use Rattle.transducer.proofs.AcceptedAt.{source-in-place, input-in-place}
 use Rattle.steps.proofs.Reading.{First-passing, first-is, first-unique, first-at-within, Next-step, next-together}
 
 -- first-of
@@ -134,7 +134,7 @@ module _ (u : Transducer) (q label : ℕ) where
       clash (rw (both .0, both .1) (eq-eqb (label-bucket q label) (label-bucket q label) refl)) out)
 
 -- Source and label of an arc stand side by side, as one number of four bytes.
-module _ (bs : List ℕ) (bytes : Bytes bs) (first : ℕ) (opened : Opened bs first) (q label : ℕ) (j : ℕ) (l : j < length (decode bs .arcs)) where
+module _ (bs : List ℕ) (bytes : Bytes bs) (first : ℕ) (opened : Accepted-at bs first) (q label : ℕ) (j : ℕ) (l : j < length (decode bs .arcs)) where
   side-by-side : four bs (first + 16 * j + 4) ≡ arc (decode bs) j .source + 65536 * arc (decode bs) j .input
   unfolding four
   side-by-side =
@@ -240,7 +240,7 @@ pub record Filling (u : Transducer) (from : ℕ) (heads chain again : List ℕ) 
   pub few : length (u .arcs) ≤ max-arcs
   pub headed : Heads u from heads
   pub chained : Chain u from chain
-  pub repeated : Again u from again
+  pub repeated : Next-same-label u from again
 
 pub filling-first : (u : Transducer) (from : ℕ) (heads chain again : List ℕ) → from ≡ length (u .arcs) → length (u .arcs) ≤ max-arcs
     → heads ≡ replicate label-buckets 0 → length (u .arcs) ≤ length chain → length (u .arcs) ≤ length again → Filling u from heads chain again
@@ -358,7 +358,7 @@ module _ {u : Transducer} {q from to : ℕ} (label link : ℕ) (l : Leaving u q 
   fit-some more = let e : suc (link - 1) ≡ link = omega arith in link-some label (l .rest) (link - 1) (e ∙ is ∙ leaving-links label l)
 
 -- The look-up of the next arc that reads what arc j reads.
-module _ {u : Transducer} {again : List ℕ} (a : Again u 0 again) (j to : ℕ) (l : j < to) (r : Rest u (arc u j .source) j to) where
+module _ {u : Transducer} {again : List ℕ} (a : Next-same-label u 0 again) (j to : ℕ) (l : j < to) (r : Rest u (arc u j .source) j to) where
   repeats : getD again j 0 ≡ first-from u (reads u (arc u j .source) (arc u j .input)) (suc j)
   repeats = a .are j (omega arith) (omega (arith, r .within))
 
@@ -409,8 +409,8 @@ module _ {u : Transducer} {q from to : ℕ} (label k : ℕ) (l : Leaving u q fro
       is ∙ sym (fitting-label label (l .rest) ∙ ap (λ (x : ℕ). reading-from u x (to - from) from) (label-none u q label z ∙ sym z))
 
 -- Where no arc is for any symbol, none is found for it.
-pub exact-any : {u : Transducer} {q from to : ℕ} → named u ≡ true → Leaving u q from to → to ≡ reading-from u any (to - from) from
-exact-any {u} {q} {from} {to} all l =
+pub no-any-none : {u : Transducer} {q from to : ℕ} → no-any-input u ≡ true → Leaving u q from to → to ≡ reading-from u any (to - from) from
+no-any-none {u} {q} {from} {to} all l =
     first-unique u (λ a. eqb (a .input) any) from to to (l .rest .order)
     (record {
       least = l .rest .order;
@@ -423,7 +423,8 @@ exact-any {u} {q} {from} {to} all l =
     })
 
 -- The next step of a run by the link of the right arc at hand: the arcs that fit its label all read what this one reads.
-module _ {u : Transducer} {r : Run} {again : List ℕ} (a : Again u 0 again) (j to : ℕ) (ready : Takeable u r j to) (l : j < to) (together : r .alone ≡ false)
+module _ {u : Transducer} {r : Run} {again : List ℕ} (a : Next-same-label u 0 again) (j to : ℕ) (ready : Takeable u r j to) (l : j < to)
+    (together : r .alone ≡ false)
   where
     rest-here : Rest u (arc u j .source) j to
     rest-here = ready .rest together l

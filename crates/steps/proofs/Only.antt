@@ -8,8 +8,8 @@ use borrow.Author.Tests.{eq-eqb, ltb-true, ltb-false}
 use Rattle.transducer.specs.Format.{Transducer, any}
 use Rattle.transducer.specs.Path.{arc}
 use Rattle.transducer.specs.Each.{fits}
-use Rattle.transducer.specs.Leaf.{Leaving}
-use Rattle.transducer.proofs.Fits.{Fitting, by-name, as-any, fits-cases}
+use Rattle.transducer.specs.Accepted.{Leaving}
+use Rattle.transducer.proofs.Fits.{Fitting, no-any, as-any, fits-cases}
 use Rattle.wire.proofs.Bool.{by-test}
 use Rattle.steps.specs.Runs.{fitting-from, reading-from, several, Fits-only}
 use Rattle.steps.proofs.Reading.{First-passing, first-is}
@@ -32,7 +32,7 @@ one-fits {u} {q} {from} {to} wild l is none some one = record { no-other = λ le
     wild-first = rw is (first-is u (λ a. eqb (a .input) any) from to (l .rest .order))
 
     on : {label : ℕ} → (label ≡ arc u from .input → ⊥) → Fitting u label (arc u from) → ⊥
-    on other (by-name e) = other (sym e)
+    on other (no-any e) = other (sym e)
     on other (as-any e writes free) = wild-first .before from (omega arith) (omega arith) (eq-eqb (arc u from .input) any e)
 
     at-end : (label : ℕ) → (label ≡ arc u from .input → ⊥) → to ≤ fitting-from u label (to - from) from

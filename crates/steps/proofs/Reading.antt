@@ -11,7 +11,7 @@ use borrow.Author.Tests.{eqb-true, eqb-false, eq-eqb, ne-eqb, ltb-true, ltb-fals
 use Rattle.transducer.specs.declared.Arc.{Arc}
 use Rattle.transducer.specs.Format.{max-states, Transducer, Good}
 use Rattle.transducer.specs.Path.{arc}
-use Rattle.transducer.specs.Leaf.{arcs-below, Rest}
+use Rattle.transducer.specs.Accepted.{arcs-below, Rest}
 use Rattle.transducer.specs.Each.{fits}
 use Rattle.wire.proofs.Bool.{by-test, never, clash}
 use Rattle.steps.specs.declared.Begin.{Begin}

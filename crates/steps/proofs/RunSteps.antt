@@ -12,7 +12,7 @@ use Rattle.transducer.specs.declared.Arc.{Arc}
 use Rattle.transducer.specs.Format.{max-arcs, Transducer, barred, sources-stay, Good}
 use Rattle.transducer.specs.Path.{arc}
 use Rattle.transducer.specs.Each.{each-arc, fits}
-use Rattle.transducer.specs.Leaf.{arcs-below}
+use Rattle.transducer.specs.Accepted.{arcs-below}
 use Rattle.transducer.proofs.Ranges.{from-to, from-to-same, from-to-skip, map-from-to, each-arc-range}
 use Rattle.transducer.proofs.Index.{arcs-below-length, arcs-below-mono}
 use Rattle.transducer.proofs.Fits.{fits-none}

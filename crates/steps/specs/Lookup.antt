@@ -42,7 +42,7 @@ pub record Chain (u : Transducer) (from : ℕ) (chain : List ℕ) : Type 0 where
   pub are : (j : ℕ) → from ≤ j → j < length (u .arcs)
       → getD chain j 0 ≡ first-from u (in-bucket u (label-bucket (arc u j .source) (arc u j .input))) (suc j)
 
-pub record Again (u : Transducer) (from : ℕ) (again : List ℕ) : Type 0 where
+pub record Next-same-label (u : Transducer) (from : ℕ) (again : List ℕ) : Type 0 where
   pub long : length (u .arcs) ≤ length again
   pub are : (j : ℕ) → from ≤ j → j < length (u .arcs) → getD again j 0 ≡ first-from u (reads u (arc u j .source) (arc u j .input)) (suc j)
 
@@ -50,7 +50,7 @@ pub record Again (u : Transducer) (from : ℕ) (again : List ℕ) : Type 0 where
 pub record Lookup (u : Transducer) (heads chain again : List ℕ) : Type 0 where
   pub headed : Heads u 0 heads
   pub chained : Chain u 0 chain
-  pub repeated : Again u 0 again
+  pub repeated : Next-same-label u 0 again
 
 -- A head leads to the chain, from `from` on, of the bucket of a state and a label.
 pub record Leads (u : Transducer) (q label from : ℕ) (chain : List ℕ) (head : ℕ) : Type 0 where

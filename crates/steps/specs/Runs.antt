@@ -9,7 +9,7 @@ use Rattle.transducer.specs.declared.Arc.{Arc}
 use Rattle.transducer.specs.Format.{weight-good, barred, any, Transducer}
 use Rattle.transducer.specs.Path.{arc}
 use Rattle.transducer.specs.Each.{fits, passed}
-use Rattle.transducer.specs.Leaf.{Rest}
+use Rattle.transducer.specs.Accepted.{Rest}
 use Rattle.transducer.specs.Weight.{no-weight, plus}
 use Rattle.explore.specs.Explore as explore
 use Rattle.steps.specs.declared.State.{State}

@@ -5,8 +5,8 @@ ghost use mathlib.Core.Bool.{true};
 ghost use Prim.Native.Nat.{ℕ, _+_, _*_, _-_, _≤_, _<_};
 ghost use lib.ListN.{length, replicate};
 ghost use Rattle.transducer.specs.Format.{any, decode};
-ghost use Rattle.transducer.specs.Each.{named};
-ghost use Rattle.transducer.specs.Leaf.{Opened, Leaving};
+ghost use Rattle.transducer.specs.Each.{no-any-input};
+ghost use Rattle.transducer.specs.Accepted.{Accepted-at, Leaving};
 ghost use Rattle.steps.specs.Lookup.{label-buckets, label-bucket, reads, first-from, Leads, Heads, Chain, Lookup};
 ghost use Rattle.steps.specs.Runs.{reading-from};
 use transducer::ARC_BYTES;
@@ -26,7 +26,7 @@ fn label_bucket(state: u16, label: u16) -> usize
 // The link to the first arc that leaves state `q` and reads `label`, along the chain that `head` leads to. An arc's source and label stand side
 // by side and are compared as one number.
 fn along(right: &[u8], rfirst: usize, chain: &[u16], head: u16, q: u16, label: u16) -> u16
-    requires { ⌜ Opened (now right) rfirst × ((from : ℕ) × Leads (decode (now right)) q label from (now chain) head) ⌝ }
+    requires { ⌜ Accepted-at (now right) rfirst × ((from : ℕ) × Leads (decode (now right)) q label from (now chain) head) ⌝ }
     ensures { λ r. ⌜ ((from : ℕ) → Leads (decode (now (right .entry))) q label from (now (chain .entry)) head →
         r ≡ first-from (decode (now (right .entry))) (reads (decode (now (right .entry))) q label) from) ⌝ }
 {
@@ -42,7 +42,7 @@ fn along(right: &[u8], rfirst: usize, chain: &[u16], head: u16, q: u16, label: u
     0
 }
 
-// Puts the right arcs in chains, from the last to the first; `again` leads from each arc to the next one that leaves
+// Puts the right arcs in chains, from the last to the first; `next_same_label` leads from each arc to the next one that leaves
 // the same state and reads the same label.
 pub fn put_chains(
     right: &[u8],
@@ -50,11 +50,11 @@ pub fn put_chains(
     arcs: usize,
     heads: &mut [u16; LABEL_BUCKETS],
     chain: &mut [u16],
-    again: &mut [u16],
+    next_same_label: &mut [u16],
 )
-    requires { ⌜ Opened (now right) rfirst × (arcs ≡ length (decode (now right) .arcs)) × (now heads ≡ replicate label-buckets 0)
-        × (arcs ≤ length (now chain)) × (arcs ≤ length (now again)) ⌝ }
-    ensures { λ _. ⌜ Lookup (decode (now (right .entry))) (now (heads .exit)) (now (chain .exit)) (now (again .exit)) ⌝ }
+    requires { ⌜ Accepted-at (now right) rfirst × (arcs ≡ length (decode (now right) .arcs)) × (now heads ≡ replicate label-buckets 0)
+        × (arcs ≤ length (now chain)) × (arcs ≤ length (now «next_same_label»)) ⌝ }
+    ensures { λ _. ⌜ Lookup (decode (now (right .entry))) (now (heads .exit)) (now (chain .exit)) (now («next_same_label» .exit)) ⌝ }
 {
     let mut left = arcs;
     while 0 < left {
@@ -66,7 +66,7 @@ pub fn put_chains(
         let label = wire::u16_at(right, place + 2);
         let b = label_bucket(q, label);
         let head = heads[b];
-        again[j] = along(right, rfirst, chain, head, q, label);
+        next_same_label[j] = along(right, rfirst, chain, head, q, label);
         chain[j] = head;
         heads[b] = link;
     }
@@ -82,7 +82,7 @@ pub fn first_reading(
     label: u16,
     to: usize,
 ) -> usize
-    requires { ⌜ Opened (now right) rfirst × Heads (decode (now right)) 0 (now heads) × Chain (decode (now right)) 0 (now chain) ⌝ }
+    requires { ⌜ Accepted-at (now right) rfirst × Heads (decode (now right)) 0 (now heads) × Chain (decode (now right)) 0 (now chain) ⌝ }
     ensures { λ r. ⌜ ((from : ℕ) → Leaving (decode (now (right .entry))) q from to →
         r ≡ reading-from (decode (now (right .entry))) label (to - from) from) ⌝ }
 {
@@ -97,22 +97,22 @@ pub fn first_reading(
     link - 1
 }
 
-// The first arc of right state `q` for any symbol; `to` where there is none. Where no arc at all is, which `exact` tells, nothing is looked up.
+// The first arc of right state `q` for any symbol; `to` where there is none. Where no arc at all is, which `no_any_input` tells, nothing is looked up.
 pub fn first_any(
     right: &[u8],
     rfirst: usize,
     heads: &[u16; LABEL_BUCKETS],
     chain: &[u16],
-    exact: bool,
+    no_any_input: bool,
     q: u16,
     to: usize,
 ) -> usize
-    requires { ⌜ Opened (now right) rfirst × Heads (decode (now right)) 0 (now heads) × Chain (decode (now right)) 0 (now chain)
-        × (exact ≡ true → named (decode (now right)) ≡ true) ⌝ }
+    requires { ⌜ Accepted-at (now right) rfirst × Heads (decode (now right)) 0 (now heads) × Chain (decode (now right)) 0 (now chain)
+        × («no_any_input» ≡ true → no-any-input (decode (now right)) ≡ true) ⌝ }
     ensures { λ r. ⌜ ((from : ℕ) → Leaving (decode (now (right .entry))) q from to →
         r ≡ reading-from (decode (now (right .entry))) any (to - from) from) ⌝ }
 {
-    if exact {
+    if no_any_input {
         return to;
     }
     first_reading(right, rfirst, heads, chain, q, transducer::ANY, to)

@@ -5,7 +5,7 @@ ghost use lib.Dec.{eqb};
 ghost use Prim.Native.Nat.{ℕ, _+_, _*_, _-_, _≤_, _<_};
 ghost use lib.ListN.{length};
 ghost use Rattle.transducer.specs.Format.{Transducer, max-arcs, weight-good, decode, barred, any};
-ghost use Rattle.transducer.specs.Leaf.{Opened, Leaving};
+ghost use Rattle.transducer.specs.Accepted.{Accepted-at, Leaving};
 ghost use Rattle.steps.specs.Steps.{left-origin, right-origin};
 ghost use Rattle.steps.specs.Lookup.{Heads, Chain};
 ghost use Rattle.steps.specs.Packing.{Bounded};
@@ -43,7 +43,7 @@ pub fn only_label(
     first: usize,
     last: usize,
 ) -> u32
-    requires { ⌜ Opened (now right) rfirst × (from ≤ to) × (to ≤ length (decode (now right) .arcs)) × (first ≤ last) × (last ≤ max-arcs) ⌝ }
+    requires { ⌜ Accepted-at (now right) rfirst × (from ≤ to) × (to ≤ length (decode (now right) .arcs)) × (first ≤ last) × (last ≤ max-arcs) ⌝ }
     ensures { λ r. ⌜ ((q : ℕ) → Leaving (decode (now (right .entry))) q from to →
         wild ≡ reading-from (decode (now (right .entry))) any (to - from) from → Fits-only (decode (now (right .entry))) from to r) ⌝ }
 {
@@ -64,7 +64,7 @@ pub fn only_label(
 
 // The first left arc from `i` on that writes nothing or `only`: those before it have no step. Where several labels may fit it is `i`.
 fn pass_over(left: &[u8], lfirst: usize, i: usize, last: usize, only: u32) -> usize
-    requires { ⌜ Opened (now left) lfirst × (i ≤ last) × (last ≤ length (decode (now left) .arcs)) ⌝ }
+    requires { ⌜ Accepted-at (now left) lfirst × (i ≤ last) × (last ≤ length (decode (now left) .arcs)) ⌝ }
     ensures { λ r. ⌜ (r ≤ last) × ((u : Transducer) (filter from to : ℕ) → from ≤ to → Fits-only u from to only →
         begin-from (decode (now (left .entry))) u filter from (to - from) (last - r) r
         ≡ begin-from (decode (now (left .entry))) u filter from (to - from) (last - i) i) ⌝ }
@@ -104,8 +104,8 @@ pub fn next_run(
     wild: usize,
     to: usize,
 ) -> Begin
-    requires { ⌜ Opened (now left) lfirst × (i ≤ last) × (last ≤ length (decode (now left) .arcs)) ⌝ }
-    requires { ⌜ Opened (now right) rfirst × Heads (decode (now right)) 0 (now heads) × Chain (decode (now right)) 0 (now chain) ⌝ }
+    requires { ⌜ Accepted-at (now left) lfirst × (i ≤ last) × (last ≤ length (decode (now left) .arcs)) ⌝ }
+    requires { ⌜ Accepted-at (now right) rfirst × Heads (decode (now right)) 0 (now heads) × Chain (decode (now right)) 0 (now chain) ⌝ }
     ensures { λ r. ⌜ ((from : ℕ) → Leaving (decode (now (right .entry))) q from to →
         wild ≡ reading-from (decode (now (right .entry))) any (to - from) from → Fits-only (decode (now (right .entry))) from to only →
         r ≡ begin-from (decode (now (left .entry))) (decode (now (right .entry))) filter from (to - from) (last - i) i) ⌝ }
@@ -150,7 +150,7 @@ pub fn next_run(
 
 // The run that begins there.
 pub fn run_of(left: &[u8], lfirst: usize, at: Begin, last: usize, x: State) -> Run
-    requires { ⌜ Opened (now left) lfirst × (at .i ≤ last) × (at .alone ≡ true → at .i < last) × (last ≤ length (decode (now left) .arcs)) ⌝ }
+    requires { ⌜ Accepted-at (now left) lfirst × (at .i ≤ last) × (at .alone ≡ true → at .i < last) × (last ≤ length (decode (now left) .arcs)) ⌝ }
     ensures { λ r. ⌜ r ≡ run-at (decode (now (left .entry))) last x at ⌝ }
 {
     let i = at.i;
@@ -210,7 +210,7 @@ fn with_right(left: u16, j: u16) -> Origin
 
 // The step of a run with right arc `j`.
 pub fn step_of(run: Run, right: &[u8], rfirst: usize, j: usize) -> Step
-    requires { ⌜ Opened (now right) rfirst × (run .alone ≡ false → j < length (decode (now right) .arcs))
+    requires { ⌜ Accepted-at (now right) rfirst × (run .alone ≡ false → j < length (decode (now right) .arcs))
         × Bounded (run .target) × (weight-good (run .weight) ≡ true) ⌝ }
     ensures { λ r. ⌜ r ≡ run-step (decode (now (right .entry))) run j ⌝ }
 {

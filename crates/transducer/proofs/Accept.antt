@@ -17,7 +17,7 @@ use Rattle.transducer.specs.Format.{weight-good}
 use Rattle.transducer.specs.Format.{Transducer, framed, records, kinds-good, decode, head-states, head-arcs, head-finals, head-start}
 use Rattle.transducer.specs.Format.{head-good, finals-rise, sources-stay, content-refusal, refusal}
 use Rattle.transducer.specs.Path.{no-arc, arc}
-use Rattle.transducer.specs.Check.{walked}
+use Rattle.transducer.specs.Check.{diagnosis}
 use Rattle.transducer.proofs.Good.{Content, content-good, finals-rise-good, sources-stay-good}
 use Rattle.transducer.proofs.Good.{final-state-below, arc-states-below, arc-labels-below, final-light, arc-light}
 use Rattle.transducer.proofs.Laid.{Laid, laid-framed, laid-kinds, laid-finals-count, laid-arcs-count, kinds-laid}
@@ -39,8 +39,8 @@ counted-laid {bs} b fr ks cs =
     let m : length (decode bs .arcs) ≡ head-arcs bs = eqb-true (length (decode bs .arcs)) (head-arcs bs) (both .1) in
     rw (← f, ← m) (kinds-laid b fr ks)
 
-pub refused-early : {bs : List ℕ} → Bytes bs → (Laid bs (head-finals bs) (head-arcs bs) → ⊥) → refusal bs ≡ walked bs
-unfolding refusal walked
+pub refused-early : {bs : List ℕ} → Bytes bs → (Laid bs (head-finals bs) (head-arcs bs) → ⊥) → refusal bs ≡ diagnosis bs
+unfolding refusal diagnosis
 refused-early {bs} b never =
     by-test (framed bs)
     (λ fr.
@@ -52,8 +52,8 @@ refused-early {bs} b never =
     (λ ks. rw (fr, ks)))
     (λ fr. rw fr)
 
-pub refused-head : (bs : List ℕ) → head-good (head-states bs) (head-arcs bs) (head-finals bs) (head-start bs) ≡ false → refusal bs ≡ walked bs
-unfolding refusal walked
+pub refused-head : (bs : List ℕ) → head-good (head-states bs) (head-arcs bs) (head-finals bs) (head-start bs) ≡ false → refusal bs ≡ diagnosis bs
+unfolding refusal diagnosis
 refused-head bs hd =
     by-test (framed bs)
     (λ fr. by-test (kinds-good (records bs)) (λ ks. rw (fr, ks, hd)) (λ ks. rw (fr, ks)))

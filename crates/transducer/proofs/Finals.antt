@@ -16,7 +16,7 @@ use Rattle.wire.proofs.Bool.{and-true, true-and, by-test}
 use Rattle.transducer.specs.declared.Final.{Final}
 use Rattle.transducer.specs.Format.{head-bytes, final-bytes, max-states, decode, refusal, finals-rise, head-finals, final-at, weight-good}
 use Rattle.transducer.specs.Path.{is-final, final-weight}
-use Rattle.transducer.specs.Leaf.{final-code, max-code, Finals-by-state}
+use Rattle.transducer.specs.Accepted.{final-code, max-code, Finals-by-state}
 use Rattle.transducer.specs.Weight.{Weight, code-of, weight-of}
 use Rattle.transducer.proofs.Good.{finals-rise-good, final-state-below, final-light, finals-light}
 use Rattle.transducer.proofs.Offsets.{length-accepted, decode-states, decode-finals, length-finals, final-offset, accepted-within, accepted-good}

@@ -15,7 +15,7 @@ use Rattle.transducer.specs.declared.Arc.{Arc}
 use Rattle.transducer.specs.Format.{arc-bytes, arcs-at, index-long, max-arcs, max-states}
 use Rattle.transducer.specs.Format.{Transducer, decode, refusal, sources-stay, head-arcs, head-finals, arc-at}
 use Rattle.transducer.specs.Path.{arc, no-arc}
-use Rattle.transducer.specs.Leaf.{Opened, arcs-below, Ends-marked, Indexed}
+use Rattle.transducer.specs.Accepted.{Accepted-at, arcs-below, Ends-marked, Indexed}
 use Rattle.transducer.proofs.Good.{sources-stay-good, arc-states-below}
 use Rattle.transducer.proofs.Index.{arcs-below-append, arcs-below-zero, arcs-below-length, arcs-below-lt, arcs-below-ge, stay-rises, stay-take}
 use Rattle.transducer.proofs.Index.{stay-before}
@@ -98,7 +98,7 @@ set-twice (x ∷ xs) zero a b = refl
 set-twice (x ∷ xs) (suc i) a b = ap (λ (l : List ℕ). x ∷ l) (set-twice xs i a b)
 
 module _ (bs : List ℕ) (bytes : Bytes bs) (ok : refusal bs ≡ 0) where
-  pub opened-small : {first : ℕ} → Opened bs first → Small bs first
+  pub opened-small : {first : ℕ} → Accepted-at bs first → Small bs first
   opened-small o =
       let within = accepted-within bs bytes ok in
       record {

@@ -10,7 +10,7 @@ use borrow.Author.Tests.{eqb-true, eqb-false, eq-eqb, ne-eqb}
 use Rattle.wire.proofs.Bool.{by-test, and-true, true-and}
 use Rattle.transducer.specs.Format.{Transducer}
 use Rattle.transducer.specs.Path.{arc, non-empty, read-by, written-by}
-use Rattle.transducer.specs.Each.{fits, passed, symbol-for, left-by, path-fits, path-passed, named, plain}
+use Rattle.transducer.specs.Each.{fits, passed, symbol-for, left-by, path-fits, path-passed, no-any-input, plain}
 use Rattle.transducer.proofs.Fits.{fits-reads, fits-empty, reads-fits, passed-output, named-input, plain-named, plain-output}
 use Rattle.transducer.proofs.Paths.{empty-passed, symbol-kept}
 
@@ -79,7 +79,7 @@ read-path-fits t (i ∷ p) =
     ∙ true-and (fits t (arc t i .input) (arc t i)) (path-fits t (read-by t p) p) (reads-fits t (arc t i .input) (arc t i) refl) (read-path-fits t p)))
 
 -- Without an arc for any symbol a path fits only what it reads.
-pub path-fits-named : (t : Transducer) → named t ≡ true → (cs p : List ℕ) → path-fits t cs p ≡ true → read-by t p ≡ cs
+pub path-fits-named : (t : Transducer) → no-any-input t ≡ true → (cs p : List ℕ) → path-fits t cs p ≡ true → read-by t p ≡ cs
 unfolding read-by
 path-fits-named t all cs [] h = sym (path-fits-end t cs h)
 path-fits-named t all cs (i ∷ p) h = on (path-took t i p cs h) (λ cs' h'. path-fits-named t all cs' p h')

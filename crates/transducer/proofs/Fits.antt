@@ -16,7 +16,7 @@ use Rattle.wire.proofs.Places.{every-getD, getD-every}
 use Rattle.transducer.specs.declared.Arc.{Arc}
 use Rattle.transducer.specs.Format.{Transducer, any, all-labels-good}
 use Rattle.transducer.specs.Path.{arc, no-arc}
-use Rattle.transducer.specs.Each.{unnamed, fits, passed, named, plain}
+use Rattle.transducer.specs.Each.{unnamed, fits, passed, no-any-input, plain}
 use Rattle.transducer.proofs.Labels.{arc-unbarred}
 
 -- unnamed
@@ -46,7 +46,7 @@ module _ (t : Transducer) (q s : ℕ) where
 module _ (t : Transducer) (s : ℕ) (a : Arc) where
   -- The arc reads the symbol, or it is for any symbol, there is one, and no arc of its state names it.
   pub data Fitting : Type 0 where
-    by-name : a .input ≡ s → Fitting
+    no-any : a .input ≡ s → Fitting
     as-any : a .input ≡ any → (s ≡ 0 → ⊥) → unnamed t (a .source) s ≡ true → Fitting
 
   pub fits-cases : fits t s a ≡ true → Fitting
@@ -54,7 +54,7 @@ module _ (t : Transducer) (s : ℕ) (a : Arc) where
   fits-cases h = on (or-true (eqb (a .input) s) (eqb (a .input) any && (not (eqb s 0) && unnamed t (a .source) s)) h)
     where
       on : (eqb (a .input) s ≡ true) ⊎ (eqb (a .input) any && (not (eqb s 0) && unnamed t (a .source) s) ≡ true) → Fitting
-      on (inl e) = by-name (eqb-true (a .input) s e)
+      on (inl e) = no-any (eqb-true (a .input) s e)
       on (inr e) =
           let p = and-true (eqb (a .input) any) (not (eqb s 0) && unnamed t (a .source) s) e in
           let r = and-true (not (eqb s 0)) (unnamed t (a .source) s) (p .1) in
@@ -72,7 +72,7 @@ module _ (t : Transducer) (s : ℕ) (a : Arc) where
   fits-reads l h = on (fits-cases h)
     where
       on : Fitting → a .input ≡ s
-      on (by-name e) = e
+      on (no-any e) = e
       on (as-any is some free) = absurd (omega arith)
 
   -- A symbol is fitted only by an arc that reads.
@@ -80,7 +80,7 @@ module _ (t : Transducer) (s : ℕ) (a : Arc) where
   fits-some some h = on (fits-cases h)
     where
       on : Fitting → a .input ≡ 0 → ⊥
-      on (by-name e) = λ z. some (sym e ∙ z)
+      on (no-any e) = λ z. some (sym e ∙ z)
       on (as-any is other free) = λ z. omega arith
 
   -- An arc that fits a symbol without reading it by name reads.
@@ -88,7 +88,7 @@ module _ (t : Transducer) (s : ℕ) (a : Arc) where
   fits-other unread h = on (fits-cases h)
     where
       on : Fitting → a .input ≡ 0 → ⊥
-      on (by-name e) = λ z. unread e
+      on (no-any e) = λ z. unread e
       on (as-any is some free) = λ z. omega arith
 
 -- Nothing is fitted only by an arc that reads nothing.
@@ -96,7 +96,7 @@ pub fits-empty : (t : Transducer) (a : Arc) → fits t 0 a ≡ true → a .input
 fits-empty t a h = on (fits-cases t 0 a h)
   where
     on : Fitting t 0 a → a .input ≡ 0
-    on (by-name e) = e
+    on (no-any e) = e
     on (as-any is some free) = absurd (some (omega arith))
 
 -- What an arc that reads fits is a symbol.
@@ -139,7 +139,7 @@ module _ (t : Transducer) (q s : ℕ) where
 -- The arcs of a state that fit a symbol are those of one input.
 module _ (t : Transducer) (q s i : ℕ) (l : i < length (t .arcs)) (leaves : arc t i .source ≡ q) where
   fitting-input : Fitting t s (arc t i) → arc t i .input ≡ label-at t q s
-  fitting-input (by-name e) = e ∙ sym (label-named t q s i l leaves e)
+  fitting-input (no-any e) = e ∙ sym (label-named t q s i l leaves e)
   fitting-input (as-any is some free) = is ∙ sym (label-any t q s some (subst (λ (x : ℕ). unnamed t x s ≡ true) leaves free))
 
   input-fits : arc t i .input ≡ label-at t q s → fits t s (arc t i) ≡ true
@@ -181,8 +181,8 @@ beyond : (t : Transducer) (i : ℕ) → length (t .arcs) ≤ i → arc t i ≡ n
 unfolding arc
 beyond t i h = List·getD-eq-default (t .arcs) no-arc h
 
-pub named-input : (t : Transducer) → named t ≡ true → (i : ℕ) → arc t i .input < any
-unfolding named arc
+pub named-input : (t : Transducer) → no-any-input t ≡ true → (i : ℕ) → arc t i .input < any
+unfolding no-any-input arc
 named-input t all i = on (decLe (length (t .arcs)) i)
   where
     on : Dec (length (t .arcs) ≤ i) → getD (t .arcs) i no-arc .input < any
@@ -208,17 +208,17 @@ module _ (t : Transducer) (none : plain t ≡ true) where
   pub plain-output : (i : ℕ) → arc t i .output < any
   plain-output i = plain-both i .1
 
-pub each-named : (t : Transducer) → ((i : ℕ) → i < length (t .arcs) → arc t i .input < any) → named t ≡ true
-unfolding named arc
+pub each-named : (t : Transducer) → ((i : ℕ) → i < length (t .arcs) → arc t i .input < any) → no-any-input t ≡ true
+unfolding no-any-input arc
 each-named t h = getD-every (λ a. ltb (a .input) any) (t .arcs) no-arc (λ i l. lt-ltb (arc t i .input) any (h i l))
 
 -- Only an arc for any symbol passes it on: without the one there is neither.
-pub named-plain : (t : Transducer) → all-labels-good t ≡ true → named t ≡ true → plain t ≡ true
+pub named-plain : (t : Transducer) → all-labels-good t ≡ true → no-any-input t ≡ true → plain t ≡ true
 unfolding plain arc
 named-plain t good all =
     getD-every (λ a. ltb (a .input) any && ltb (a .output) any) (t .arcs) no-arc
     (λ i l. let r = arc-unbarred t i good l (named-input t all i) in
     true-and (ltb (arc t i .input) any) (ltb (arc t i .output) any) (lt-ltb (arc t i .input) any (r .read)) (lt-ltb (arc t i .output) any (r .written)))
 
-pub plain-named : (t : Transducer) → plain t ≡ true → named t ≡ true
+pub plain-named : (t : Transducer) → plain t ≡ true → no-any-input t ≡ true
 plain-named t none = each-named t (λ i l. plain-input t none i)

@@ -7,11 +7,11 @@ use lib.ListN.{length}
 use Rattle.wire.specs.Bytes.{Bytes}
 use Rattle.transducer.specs.declared.Header.{Header}
 use Rattle.transducer.specs.Format.{max-states, max-arcs, head-bytes, arcs-at, decode, refusal, head-arcs, head-finals, head-start}
-use Rattle.transducer.specs.Leaf.{header-of, Opened}
+use Rattle.transducer.specs.Accepted.{header-of, Accepted-at}
 use Rattle.transducer.proofs.Offsets.{length-accepted, accepted-within, decode-states, decode-start, length-finals, length-arcs}
 
 pub record Headed (bs : List ℕ) (head : Header) : Type 0 where
-  pub opened : Opened bs (arcs-at (head .finals))
+  pub opened : Accepted-at bs (arcs-at (head .finals))
   pub states-are : head .states ≡ decode bs .states
   pub arcs-are : head .arcs ≡ length (decode bs .arcs)
   pub start-is : head .start ≡ decode bs .start
@@ -51,5 +51,5 @@ headed bs bytes ok head e =
     }
 
 -- Where the arcs begin, as it is computed.
-pub headed-opened : (bs : List ℕ) (head : Header) (first : ℕ) → Headed bs head → first ≡ arcs-at (head .finals) → Opened bs first
+pub headed-opened : (bs : List ℕ) (head : Header) (first : ℕ) → Headed bs head → first ≡ arcs-at (head .finals) → Accepted-at bs first
 headed-opened bs head first h e = rw e (h .opened)

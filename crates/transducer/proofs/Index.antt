@@ -14,7 +14,7 @@ use Rattle.wire.proofs.Bool.{and-true, true-and}
 use Rattle.transducer.specs.declared.Arc.{Arc}
 use Rattle.transducer.specs.Format.{Transducer, sources-stay}
 use Rattle.transducer.specs.Path.{arc, no-arc}
-use Rattle.transducer.specs.Leaf.{arcs-below}
+use Rattle.transducer.specs.Accepted.{arcs-below}
 use Rattle.transducer.proofs.Good.{Content, sources-stay-good, arc-states-below}
 
 -- arcs-below

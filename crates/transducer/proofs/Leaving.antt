@@ -8,11 +8,11 @@ use native.Mathlib.Omega.{arith}
 use lib.ListN.{length}
 use Rattle.transducer.specs.Format.{Transducer, Good, any}
 use Rattle.transducer.specs.Path.{arc}
-use Rattle.transducer.specs.Leaf.{arcs-below, Rest, Leaving, Fitting-label}
+use Rattle.transducer.specs.Accepted.{arcs-below, Rest, Leaving, Fitting-label}
 use Rattle.transducer.proofs.Good.{content-good}
 use Rattle.transducer.proofs.Index.{arcs-of-state, state-of-arcs}
 use Rattle.transducer.proofs.Index.{arcs-below-length, arcs-below-mono}
-use Rattle.transducer.specs.Each.{unnamed, named}
+use Rattle.transducer.specs.Each.{unnamed, no-any-input}
 use Rattle.transducer.proofs.Fits.{none-unnamed, label-at, label-any, label-named, fits-label, fits-named, fits-none, named-input}
 
 -- A part of the rest, up to the same end.
@@ -57,8 +57,8 @@ leaving-unnamed {u} {q} {from} {to} s l none =
 
 module _ (t : Transducer) (from to s : ℕ) where
   -- Those that read it: where no arc is for any symbol, for no symbol, and where one of them reads it.
-  pub exact-label : named t ≡ true → Fitting-label t s from to s
-  exact-label all = λ i l h. fits-named t s (arc t i) (named-input t all i)
+  pub no-any-label : no-any-input t ≡ true → Fitting-label t s from to s
+  no-any-label all = λ i l h. fits-named t s (arc t i) (named-input t all i)
 
   pub no-label : s ≡ 0 → Fitting-label t s from to s
   no-label z = rw z (λ i l h. fits-none t (arc t i))

@@ -9,7 +9,7 @@ pub mod Labels
 pub mod Good
 pub mod Checked
 pub mod Fields
-pub mod Glance
+pub mod FastCheck
 -- Acceptance of bytes: which refusal it is, what no refusal gives, and what it is to fit a symbol.
 pub mod Accept
 pub mod Most
@@ -30,7 +30,7 @@ pub mod Finals
 pub mod Members
 pub mod Each
 pub mod Ranges
-pub mod Opened
+pub mod AcceptedAt
 pub mod Named
 pub mod Leaving
 -- Paths, their costs, and cycles on them.

@@ -9,7 +9,7 @@ use borrow.Author.Tests.{lt-ltb, le-ltb}
 use Rattle.wire.specs.Bytes.{Bytes, two, every, places}
 use Rattle.transducer.specs.declared.Arc.{Arc}
 use Rattle.transducer.specs.Format.{arc-bytes, arcs-at, any, arc-at, head-finals, head-arcs, refusal, decode}
-use Rattle.transducer.specs.Each.{named}
+use Rattle.transducer.specs.Each.{no-any-input}
 use Rattle.transducer.proofs.Offsets.{decode-arcs}
 
 -- Whether none of `count` arcs from a place on is for any symbol.
@@ -47,6 +47,6 @@ module _ {bs : List ℕ} {at count place i : ℕ} (s : Name-search bs at count p
   searching-stop l = let none : count - i ≡ 0 = omega arith in rw none at (s .same)
 
 pub named-decode : (bs : List ℕ) (count at : ℕ) → Bytes bs → refusal bs ≡ 0 → count ≡ head-arcs bs → at ≡ arcs-at (head-finals bs)
-    → named-from bs count at ≡ named (decode bs)
-unfolding named
+    → named-from bs count at ≡ no-any-input (decode bs)
+unfolding no-any-input
 named-decode bs count at bytes ok count-is at-is = rw (count-is, at-is) (ap (every (λ (a : Arc). ltb (a .input) any)) (sym (decode-arcs bs bytes ok)))

@@ -13,7 +13,7 @@ use Rattle.transducer.specs.declared.Arc.{Arc}
 use Rattle.transducer.specs.Format.{Transducer, sources-stay}
 use Rattle.transducer.specs.Path.{arc, no-arc}
 use Rattle.transducer.specs.Each.{by-number, each-arc}
-use Rattle.transducer.specs.Leaf.{arcs-below}
+use Rattle.transducer.specs.Accepted.{arcs-below}
 use Rattle.transducer.proofs.Index.{stay-none}
 
 -- What a function gives for each of `count` numbers from i on, one after the other.

@@ -9,31 +9,31 @@ use lib.ListN.{length}
 use Rattle.wire.specs.Bytes.{Bytes, four, places, every}
 use Rattle.wire.proofs.Bool.{and-true, true-and, clash}
 use Rattle.transducer.specs.declared.Arc.{Arc}
-use Rattle.transducer.specs.declared.Looked.{Looked}
+use Rattle.transducer.specs.declared.Validation.{Validation}
 use Rattle.transducer.specs.Format.{head-bytes, final-bytes, decode, head-states, head-arcs, head-finals, head-start, head-good, first-of}
 use Rattle.transducer.specs.Format.{refusal, arcs-at, arc-bytes, arc-at}
 use Rattle.transducer.specs.Format.{min-weight, weight-good}
 use Rattle.transducer.specs.Path.{arc}
-use Rattle.transducer.specs.Check.{head-word, final-word, arc-word, all-checked, walked, None-below, Each-up, Each-writes, Each-named}
-use Rattle.transducer.specs.Leaf.{Looked-says}
+use Rattle.transducer.specs.Check.{head-word, final-word, arc-word, all-checked, diagnosis, None-below, Each-up, Each-writes, Each-named}
+use Rattle.transducer.specs.Accepted.{Validation-says}
 use Rattle.transducer.proofs.Laid.{Laid, laid-decode}
 use Rattle.transducer.proofs.Accept.{refused-early, laid-refusal, accepted-content, content-range}
 use Rattle.transducer.proofs.Checked.{all-checked-heads, all-checked-content}
-use Rattle.transducer.proofs.Glance.{none-below-good}
+use Rattle.transducer.proofs.FastCheck.{none-below-good}
 use Rattle.transducer.proofs.Offsets.{arc-offset, length-arcs}
 use Rattle.transducer.proofs.Fits.{each-named}
 
-pub refused-short : (bs : List ℕ) → Bytes bs → length bs < 12 → refusal bs ≡ walked bs
+pub refused-short : (bs : List ℕ) → Bytes bs → length bs < 12 → refusal bs ≡ diagnosis bs
 refused-short bs b h = refused-early b (λ l. omega (arith, l .long))
 
-pub refused-head-word : (bs : List ℕ) → Bytes bs → (four bs 0 ≡ head-word → ⊥) → refusal bs ≡ walked bs
+pub refused-head-word : (bs : List ℕ) → Bytes bs → (four bs 0 ≡ head-word → ⊥) → refusal bs ≡ diagnosis bs
 refused-head-word bs b h = refused-early b (λ l. h (l .head))
 
-pub refused-long : (bs : List ℕ) → Bytes bs → (length bs ≡ arcs-at (head-finals bs) + arc-bytes * head-arcs bs → ⊥) → refusal bs ≡ walked bs
+pub refused-long : (bs : List ℕ) → Bytes bs → (length bs ≡ arcs-at (head-finals bs) + arc-bytes * head-arcs bs → ⊥) → refusal bs ≡ diagnosis bs
 refused-long bs b h = refused-early b (λ l. h (l .long))
 
 pub refused-heads : (bs : List ℕ) → Bytes bs → all-checked bs (head-states bs) (head-arcs bs) (head-finals bs) .heads ≡ false →
-    refusal bs ≡ walked bs
+    refusal bs ≡ diagnosis bs
 refused-heads bs b h =
     refused-early b
     (λ l.
@@ -65,13 +65,14 @@ refusal-checked bs b word good long heads =
     (ap (λ (d : _). d .arcs) (laid-decode b l))
     ∙ sym (laid-refusal b l good)
 
--- What a look tells beside the refusal: no arc of accepted bytes weighs less than a weight that none of their good arcs is below, and each leads up where
+-- What validation tells beside the refusal: no arc of accepted bytes weighs less than a weight that none of their good arcs is below, and each leads up where
 -- each record says so; the same of labels and of arcs for any symbol.
-pub looked-light : (bs : List ℕ) → Bytes bs → (r : Looked) → r .refusal ≡ refusal bs → None-below bs (arcs-at (head-finals bs)) (head-arcs bs) (r .least) →
-    (r .up ≡ true → Each-up bs (arcs-at (head-finals bs)) (head-arcs bs)) →
-    (r .writes ≡ true → Each-writes bs (arcs-at (head-finals bs)) (head-arcs bs)) →
-    (r .named ≡ true → Each-named bs (arcs-at (head-finals bs)) (head-arcs bs)) → Looked-says bs r
-looked-light bs b r e below up writes named =
+pub validation-light : (bs : List ℕ) → Bytes bs → (r : Validation) → r .refusal ≡ refusal bs
+    → None-below bs (arcs-at (head-finals bs)) (head-arcs bs) (r .least) →
+    (r .«top_sorted» ≡ true → Each-up bs (arcs-at (head-finals bs)) (head-arcs bs)) →
+    (r .«no_output_epsilon» ≡ true → Each-writes bs (arcs-at (head-finals bs)) (head-arcs bs)) →
+    (r .«no_any_input» ≡ true → Each-named bs (arcs-at (head-finals bs)) (head-arcs bs)) → Validation-says bs r
+validation-light bs b r e below up writes named =
     record {
       refusal-is = e;
       light = λ h i l.
@@ -86,15 +87,16 @@ looked-light bs b r e below up writes named =
       written = λ h u i l.
           let same : arc (decode bs) i ≡ arc-at bs (arcs-at (head-finals bs) + arc-bytes * i) = arc-offset bs b h i l in
           rw same (writes u .some i (omega (arith, l, length-arcs bs b h)));
-      by-name = λ h u.
+      no-any = λ h u.
           each-named (decode bs)
           (λ i l.
           let same : arc (decode bs) i ≡ arc-at bs (arcs-at (head-finals bs) + arc-bytes * i) = arc-offset bs b h i l in
-          rw same (named u .by-name i (omega (arith, l, length-arcs bs b h))));
+          rw same (named u .no-any i (omega (arith, l, length-arcs bs b h))));
     }
 
-pub looked-misplaced : (bs : List ℕ) → Bytes bs → (r : Looked) → r .refusal ≡ refusal bs → r .least ≡ min-weight → r .up ≡ false → r .writes ≡ false →
-    r .named ≡ false → Looked-says bs r
-looked-misplaced bs b r e f not-up not-writes not-named =
-    looked-light bs b r e (rw f (none-below-good bs (arcs-at (head-finals bs)) (head-arcs bs))) (λ u. clash u not-up) (λ u. clash u not-writes)
+pub validation-misplaced : (bs : List ℕ) → Bytes bs → (r : Validation) → r .refusal ≡ refusal bs → r .least ≡ min-weight → r .«top_sorted» ≡ false
+    → r .«no_output_epsilon» ≡ false →
+    r .«no_any_input» ≡ false → Validation-says bs r
+validation-misplaced bs b r e f not-up not-writes not-named =
+    validation-light bs b r e (rw f (none-below-good bs (arcs-at (head-finals bs)) (head-arcs bs))) (λ u. clash u not-up) (λ u. clash u not-writes)
     (λ u. clash u not-named)

@@ -15,7 +15,7 @@ pub use Rattle.wire.proofs.Ints.{sums, sum, either}
 use Rattle.wire.proofs.Ints.{over, under, size, minus}
 use Rattle.wire.proofs.Signed.{signed-four-small}
 use Rattle.transducer.specs.Format.{weight-limit, max-weight, min-weight, weight-good, weight-at}
-use Rattle.transducer.specs.Leaf.{max-code}
+use Rattle.transducer.specs.Accepted.{max-code}
 use Rattle.transducer.specs.Weight.{Weight, no-weight, rebate, plus, At-most, magnitude, code-of, weight-of}
 
 -- Sums

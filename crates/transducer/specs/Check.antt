@@ -8,7 +8,7 @@ use Rattle.wire.specs.Bytes.{two, four}
 use Rattle.transducer.specs.declared.Arc.{Arc}
 use Rattle.transducer.specs.declared.Final.{Final}
 use Rattle.transducer.specs.declared.Checks.{Checks}
-use Rattle.transducer.specs.declared.check.Glance.{Glance}
+use Rattle.transducer.specs.declared.check.FastCheck.{FastCheck}
 use Rattle.transducer.specs.Format.{head-bytes, final-bytes, arc-bytes, arcs-at, weight-good, labels-good, final-at, arc-at, framed, kinds-good, records}
 use Rattle.transducer.specs.Format.{head-good, head-states, head-arcs, head-finals, head-start, barred, max-weight, weight-at}
 use Rattle.transducer.specs.Weight.{Weight, rebate, At-most}
@@ -86,7 +86,7 @@ target-of fields = fields / 281474976710656
 -- is a state.
 pub record Good-up-to (any : ℕ) : Type 0 where
   pub labels-are : (input output : ℕ) → input ≤ input-of any → output ≤ output-of any → labels-good input output ≡ true
-  pub by-name : input-of any < barred
+  pub no-any : input-of any < barred
 
 pub record Good-fields (any n : ℕ) (each : Bool) : Type 0 where
   pub labels : Good-up-to any
@@ -109,7 +109,7 @@ pub record Between (low weight high : Weight) : Type 0 where
 
 -- What is seen of the arcs up to a place, of `count` from `at` on: if the last source is a state and the gathered fields are good, then each passes each
 -- test. No weight is below `least`, no source is above the last, no input above that of `any`, and no target and no output is below that of `all`.
-pub record Glanced (bs : List ℕ) (at count n : ℕ) (each : Bool) (floor last any all : ℕ) (least : Weight) (place : ℕ) : Type 0 where
+pub record Fast-checked (bs : List ℕ) (at count n : ℕ) (each : Bool) (floor last any all : ℕ) (least : Weight) (place : ℕ) : Type 0 where
   pub arcs : ℕ
   pub within : arcs ≤ count
   pub there : place ≡ at + arc-bytes * arcs
@@ -131,15 +131,15 @@ pub record Passing (bs : List ℕ) (place n : ℕ) (each : Bool) (before : ℕ) 
 -- A run from one place to another: whatever was known of the arcs before it goes on.
 abbrev pub Goes-on : (bs : List ℕ) (from end n : ℕ) (each : Bool) (last any all : ℕ) (least : Weight) (before most lowest place : ℕ) → Type 0
 Goes-on bs from end n each last any all least before most lowest place =
-    (at count floor : ℕ) → end ≡ at + arc-bytes * count → Glanced bs at count n each floor last any all least from →
-    Glanced bs at count n each floor before most lowest least place
+    (at count floor : ℕ) → end ≡ at + arc-bytes * count → Fast-checked bs at count n each floor last any all least from →
+    Fast-checked bs at count n each floor before most lowest least place
 
 -- What a first run leaves.
 abbrev pub Seen : (bs : List ℕ) (at end n : ℕ) (each : Bool) (floor last any all place : ℕ) → Type 0
 Seen bs at end n each floor last any all place =
-    (count : ℕ) → end ≡ at + arc-bytes * count → Glanced bs at count n each floor last any all (rebate 0) place
+    (count : ℕ) → end ≡ at + arc-bytes * count → Fast-checked bs at count n each floor last any all (rebate 0) place
 
--- What a glance at arcs answers: `unsure`, or the source of the last where each passes each test, the floor where there are none.
+-- What the fast check of arcs answers: `unsure`, or the source of the last where each passes each test, the floor where there are none.
 abbrev pub unsure : ℕ
 unsure = 4294967295
 
@@ -160,14 +160,14 @@ pub record Each-writes (bs : List ℕ) (at count : ℕ) : Type 0 where
 
 -- None of them is for any symbol.
 pub record Each-named (bs : List ℕ) (at count : ℕ) : Type 0 where
-  pub by-name : (k : ℕ) → k < count → arc-at bs (at + arc-bytes * k) .input < barred
+  pub no-any : (k : ℕ) → k < count → arc-at bs (at + arc-bytes * k) .input < barred
 
-pub record Glance-says (bs : List ℕ) (at count n floor : ℕ) (g : Glance) : Type 0 where
+pub record Fast-check-says (bs : List ℕ) (at count n floor : ℕ) (g : FastCheck) : Type 0 where
   pub plain : Plain bs at count n floor (g .last)
   pub light : None-below bs at count (g .least)
-  pub up : g .up ≡ true → Each-up bs at count
-  pub writes : g .writes ≡ true → Each-writes bs at count
-  pub named : (g .last ≡ unsure → ⊥) → Each-named bs at count
+  pub top-sorted : g .«top_sorted» ≡ true → Each-up bs at count
+  pub no-output-epsilon : g .«no_output_epsilon» ≡ true → Each-writes bs at count
+  pub no-any-input : (g .last ≡ unsure → ⊥) → Each-named bs at count
 
 -- The tests of all records, at the places that f finals and m arcs give.
 unfoldable pub all-checked : List ℕ → (n m f : ℕ) → Checks
@@ -176,8 +176,8 @@ all-checked bs n m f =
     arcs-checked m (arcs-at f) arc-bytes n (four bs) (arc-at bs) (from-0 finals)
 
 -- Which of 1 to 3 holds, else 4.
-unfoldable pub walked : List ℕ → ℕ
-walked bs =
+unfoldable pub diagnosis : List ℕ → ℕ
+diagnosis bs =
     cond (not (framed bs)) 1
     (cond (not (kinds-good (records bs))) 2
     (cond (not (head-good (head-states bs) (head-arcs bs) (head-finals bs) (head-start bs))) 3 4))

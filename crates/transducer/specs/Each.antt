@@ -48,12 +48,12 @@ path-passed t cs [] = []
 path-passed t cs (i ∷ is) = non-empty (passed (symbol-for (arc t i) cs) (arc t i)) (path-passed t (left-by (arc t i) cs) is)
 
 -- Whether no arc is for any symbol; and whether no arc bears 65,535 at all.
-unfoldable pub named : Transducer → Bool
-named t = every (λ a. ltb (a .input) any) (t .arcs)
+unfoldable pub no-any-input : Transducer → Bool
+no-any-input t = every (λ a. ltb (a .input) any) (t .arcs)
 
 unfoldable pub plain : Transducer → Bool
 plain t = every (λ a. ltb (a .input) any && ltb (a .output) any) (t .arcs)
 
 -- 18: an arc for any symbol, in a transducer that may have none
 unfoldable pub any-refusal : Transducer → ℕ
-any-refusal t = cond (named t) 0 18
+any-refusal t = cond (no-any-input t) 0 18

@@ -7,5 +7,5 @@ pub mod Each
 pub mod Entry
 -- What only inner contracts cite
 pub mod Check
-pub mod Leaf
+pub mod Accepted
 pub mod Prepare

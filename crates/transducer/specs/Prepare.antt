@@ -5,11 +5,11 @@ use Prim.Native.Nat.{ℕ, _≤_, _<_}
 use lib.ListN.{length}
 use Rattle.transducer.specs.declared.preparing.Shape.{Shape}
 use Rattle.transducer.specs.Format.{max-states, decode, head-finals}
-use Rattle.transducer.specs.Leaf.{Opened, Indexed, Finals-by-state}
+use Rattle.transducer.specs.Accepted.{Accepted-at, Indexed, Finals-by-state}
 
 -- The bytes are accepted and their arcs begin at `first`; the shape has the numbers of their transducer.
 pub record Shaped (bs : List ℕ) (shape : Shape) : Type 0 where
-  pub opened : Opened bs (shape .first)
+  pub opened : Accepted-at bs (shape .first)
   pub states-are : shape .states ≡ decode bs .states
   pub arcs-are : shape .arcs ≡ length (decode bs .arcs)
   pub finals-are : shape .finals ≡ head-finals bs

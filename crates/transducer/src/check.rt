@@ -8,13 +8,13 @@ ghost use mir.Val.{toZ};
 ghost use Rattle.wire.specs.Bytes.{four};
 ghost use Rattle.transducer.specs.Format.{final-bytes, arc-bytes, final-at, arc-at, first-of, weight-limit, min-weight, max-weight};
 ghost use Rattle.transducer.specs.Check.{final-checked, arc-checked, finals-checked, arcs-checked, from-0, unsure};
-ghost use Rattle.transducer.specs.Check.{eight, Good-up-to, Good-fields, Plain, Rows, Between, Passing, Goes-on, Seen, Glance-says};
+ghost use Rattle.transducer.specs.Check.{eight, Good-up-to, Good-fields, Plain, Rows, Between, Passing, Goes-on, Seen, Fast-check-says};
 ghost use Rattle.transducer.specs.Weight.{rebate};
 use crate::Arc;
 use crate::Checks;
 use crate::Final;
 
-// No source: a closer look is needed.
+// No source: the arcs have to be tested one by one.
 pub const UNSURE: u32 = 4294967295;
 
 // What is gathered by `&` begins with this.
@@ -128,7 +128,7 @@ pub fn check_finals(bytes: &[u8], at: usize, count: usize, n: u32, c: Checks) ->
     checks
 }
 
-// The tests of `count` arcs whose records begin at `at`, with what a glance told of them.
+// The tests of `count` arcs whose records begin at `at`, with what the fast check told of them.
 pub fn check_arcs(bytes: &[u8], at: usize, count: usize, n: u32, c: Checks, last: u32) -> Checks
     requires { ⌜ (at + arc-bytes * count ≤ length (now bytes)) × Plain (now bytes) at count n (c .floor) last ⌝ }
     ensures { λ r. ⌜ r ≡ arcs-checked count at arc-bytes n (four (now (bytes .entry))) (arc-at (now (bytes .entry))) c ⌝ }
@@ -146,34 +146,43 @@ pub fn check_arcs(bytes: &[u8], at: usize, count: usize, n: u32, c: Checks, last
     }
 }
 
-// What a glance at arcs tells: the source of the last, or UNSURE; a weight that none is below; and where the glance is close, `up` only where each leads to a
-// higher state and `writes` only where each writes a label.
-pub struct Glance {
+// What the fast check of arcs tells: the source of the last, or UNSURE; a weight that none is below; and where `close` is set, `top_sorted` only where each
+// leads to a
+// higher state and `no_output_epsilon` only where each writes a label.
+pub struct FastCheck {
     pub last: u32,
     pub least: i32,
-    pub up: bool,
-    pub writes: bool,
+    pub top_sorted: bool,
+    pub no_output_epsilon: bool,
 }
 
 // No arc is known to pass; no good weight is below this one.
-fn not_sure() -> Glance
-    ensures { λ r. ⌜ (r .last ≡ unsure) × (r .least ≡ min-weight) × (r .up ≡ false) × (r .writes ≡ false) ⌝ }
+fn not_sure() -> FastCheck
+    ensures { λ r. ⌜ (r .last ≡ unsure) × (r .least ≡ min-weight) × (r .«top_sorted» ≡ false) × (r .«no_output_epsilon» ≡ false) ⌝ }
 {
-    Glance {
+    FastCheck {
         last: UNSURE,
         least: bounds::MIN_WEIGHT,
-        up: false,
-        writes: false,
+        top_sorted: false,
+        no_output_epsilon: false,
     }
 }
 
-// The source of the last of these arcs, `floor` where there are none, if it is seen at a glance that each passes each test; else UNSURE.
+// The source of the last of these arcs, `floor` where there are none, if the fast check shows that each passes each test; else UNSURE.
 // Most often no weight is below zero. Else the run of arcs goes on with the weight that ended it, as long as that is lower than before.
-// Where the number of states is a power of two, targets gathered by `|` tell as much as each by itself, so none is tested alone. Only a `close` glance gathers
+// Where the number of states is a power of two, targets gathered by `|` tell as much as each by itself, so none is tested alone. Only if `close` is set are
+// fields gathered
 // by `&`, so that it costs nothing where it is not asked for.
-pub fn glance_at(bytes: &[u8], at: usize, count: usize, n: u32, floor: u32, close: bool) -> Glance
+pub fn fast_check(
+    bytes: &[u8],
+    at: usize,
+    count: usize,
+    n: u32,
+    floor: u32,
+    close: bool,
+) -> FastCheck
     requires { ⌜ at + arc-bytes * count ≤ length (now bytes) ⌝ }
-    ensures { λ r. ⌜ Glance-says (now (bytes .entry)) at count n floor r ⌝ }
+    ensures { λ r. ⌜ Fast-check-says (now (bytes .entry)) at count n floor r ⌝ }
 {
     let end = at + bounds::ARC_BYTES * count;
     let each = n & std::num::wrapping_sub_u32(n, 1) != 0;
@@ -202,19 +211,19 @@ pub fn glance_at(bytes: &[u8], at: usize, count: usize, n: u32, floor: u32, clos
     if n <= last {
         return not_sure();
     }
-    if !good_at_a_glance(any, n, each) {
-        return Glance {
+    if !fields_good(any, n, each) {
+        return FastCheck {
             last: UNSURE,
             least: minus(below),
-            up: false,
-            writes: false,
+            top_sorted: false,
+            no_output_epsilon: false,
         };
     }
-    Glance {
+    FastCheck {
         last,
         least: minus(below),
-        up: wide64(last) < all >> 48,
-        writes: 0 < (all >> 32) & FIELD,
+        top_sorted: wide64(last) < all >> 48,
+        no_output_epsilon: 0 < (all >> 32) & FIELD,
     }
 }
 
@@ -378,10 +387,10 @@ fn first_run(
 }
 
 // If true, all labels up to these are good, and unless each target was tested, all targets up to these are states.
-fn good_at_a_glance(any: u64, n: u32, each: bool) -> bool
+fn fields_good(any: u64, n: u32, each: bool) -> bool
     ensures { λ r. ⌜ (r ≡ true → Good-fields any n each) ⌝ }
 {
-    if !labels_at_a_glance(any) {
+    if !labels_bounded(any) {
         return false;
     }
     if each {
@@ -391,7 +400,7 @@ fn good_at_a_glance(any: u64, n: u32, each: bool) -> bool
 }
 
 // If true, all labels up to these are good.
-fn labels_at_a_glance(any: u64) -> bool
+fn labels_bounded(any: u64) -> bool
     ensures { λ r. ⌜ (r ≡ true → Good-up-to any) ⌝ }
 {
     if bounds::BARRED as u64 <= (any >> 16) & FIELD {

@@ -1,13 +1,22 @@
 // A weighted transducer's bytes: refusals 1 to 8, arcs and finals read straight from accepted bytes, and records written.
 ghost use mathlib.Core.Path.{_≡_};
 
+mod accepted;
 mod check;
-mod leaf;
 mod naming;
 mod preparing;
+mod refusals;
 mod store;
-mod walk;
 
+pub use accepted::arc_of;
+pub use accepted::final_codes;
+pub use accepted::first_arcs;
+pub use accepted::first_arcs_by_blocks;
+pub use accepted::header as head_of;
+pub use accepted::plus;
+pub use accepted::put_codes;
+pub use accepted::put_index;
+pub use accepted::weight_of;
 pub use bounds::ANY;
 pub use bounds::ARC_BYTES;
 pub use bounds::BARRED;
@@ -35,26 +44,17 @@ pub use check::load_arc;
 pub use check::load_final;
 pub use check::number;
 pub use check::restart;
-pub use leaf::arc_of;
-pub use leaf::final_codes;
-pub use leaf::first_arcs;
-pub use leaf::first_arcs_by_blocks;
-pub use leaf::header as head_of;
-pub use leaf::plus;
-pub use leaf::put_codes;
-pub use leaf::put_index;
-pub use leaf::weight_of;
-pub use naming::all_named;
 pub use naming::label_at;
+pub use naming::no_any_input;
 pub use naming::passed;
 pub use preparing::Shape;
 pub use preparing::prepare;
 pub use preparing::shape_of;
+pub use refusals::refusal;
+pub use refusals::validate;
 pub use store::put_arc;
 pub use store::put_final;
 pub use store::put_head;
-pub use walk::look;
-pub use walk::refusal;
 
 // An arc: from its source, reading one label and writing one, to its target, at a weight.
 pub struct Arc {
@@ -81,14 +81,15 @@ pub struct Checks {
     pub floor: u32,
 }
 
-// What a look at bytes tells: the refusal or 0, and where they are accepted a weight that none of the arcs is below; `up` only where each arc leads to a
-// higher state, `writes` only where each writes a label, `named` only where none is for any symbol.
-pub struct Looked {
+// What validating bytes tells: the refusal or 0, and where they are accepted a weight that none of the arcs is below; `top_sorted` only where each arc leads
+// to a
+// higher state, `no_output_epsilon` only where each writes a label, `no_any_input` only where none is for any symbol.
+pub struct Validation {
     pub refusal: u32,
     pub least: i32,
-    pub up: bool,
-    pub writes: bool,
-    pub named: bool,
+    pub top_sorted: bool,
+    pub no_output_epsilon: bool,
+    pub no_any_input: bool,
 }
 
 // What reading answers: the refusal or 0, then the head's numbers, 0 on refusal.

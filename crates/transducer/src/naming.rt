@@ -6,13 +6,13 @@ ghost use lib.Dec.{ltb};
 ghost use lib.ListN.{length};
 ghost use Rattle.wire.specs.Bytes.{every, places};
 ghost use Rattle.transducer.specs.Format.{any, arc-bytes, arc-at, refusal, decode};
-ghost use Rattle.transducer.specs.Each.{passed, named};
-ghost use Rattle.transducer.specs.Leaf.{Opened, Leaving, Fitting-label};
+ghost use Rattle.transducer.specs.Each.{passed, no-any-input};
+ghost use Rattle.transducer.specs.Accepted.{Accepted-at, Leaving, Fitting-label};
 use crate::Arc;
-use crate::leaf;
+use crate::accepted;
 
 // Whether none of the `count` arcs whose records begin at `at` is for any symbol.
-fn inputs_named(bytes: &[u8], at: usize, count: usize) -> bool
+fn no_any_among(bytes: &[u8], at: usize, count: usize) -> bool
     requires { ⌜ at + arc-bytes * count ≤ length (now bytes) ⌝ }
     ensures { λ r. ⌜ r ≡ every (λ a. ltb (a .input) any) (places count at arc-bytes (arc-at (now (bytes .entry)))) ⌝ }
 {
@@ -28,16 +28,16 @@ fn inputs_named(bytes: &[u8], at: usize, count: usize) -> bool
     true
 }
 
-// Whether no arc of accepted bytes is for any symbol. Where a look has told so, which is `known`, no arc is asked.
-pub fn all_named(bytes: &[u8], known: bool) -> bool
-    requires { ⌜ (refusal (now bytes) ≡ 0) × (known ≡ true → named (decode (now bytes)) ≡ true) ⌝ }
-    ensures { λ r. ⌜ r ≡ named (decode (now (bytes .entry))) ⌝ }
+// Whether no arc of accepted bytes is for any symbol. If validation has told so, which is `known`, no arc is asked.
+pub fn no_any_input(bytes: &[u8], known: bool) -> bool
+    requires { ⌜ (refusal (now bytes) ≡ 0) × (known ≡ true → no-any-input (decode (now bytes)) ≡ true) ⌝ }
+    ensures { λ r. ⌜ r ≡ no-any-input (decode (now (bytes .entry))) ⌝ }
 {
     if known {
         return true;
     }
-    let head = leaf::header(bytes);
-    inputs_named(
+    let head = accepted::header(bytes);
+    no_any_among(
         bytes,
         bounds::arcs_at(head.finals as usize),
         head.arcs as usize,
@@ -45,13 +45,20 @@ pub fn all_named(bytes: &[u8], known: bool) -> bool
 }
 
 // What the arcs of a state, those from `from` to below `to`, read that fit a symbol, 0 standing for none: the symbol where one of them reads it, else 65,535.
-// Where no arc at all is for any symbol, which `exact` tells, none is asked.
-pub fn label_at(bytes: &[u8], first: usize, exact: bool, from: usize, to: usize, symbol: u16) -> u16
-    requires { ⌜ Opened (now bytes) first × (exact ≡ true → named (decode (now bytes)) ≡ true) ⌝ }
+// Where no arc at all is for any symbol, which `no_any_input` tells, none is asked.
+pub fn label_at(
+    bytes: &[u8],
+    first: usize,
+    no_any_input: bool,
+    from: usize,
+    to: usize,
+    symbol: u16,
+) -> u16
+    requires { ⌜ Accepted-at (now bytes) first × («no_any_input» ≡ true → no-any-input (decode (now bytes)) ≡ true) ⌝ }
     requires { ⌜ ((q : ℕ) × Leaving (decode (now bytes)) q from to) ⌝ }
     ensures { λ r. ⌜ Fitting-label (decode (now (bytes .entry))) symbol from to r ⌝ }
 {
-    if exact | (symbol == 0) {
+    if no_any_input | (symbol == 0) {
         return symbol;
     }
     let mut i = from;

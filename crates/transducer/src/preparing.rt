@@ -3,7 +3,7 @@ ghost use mathlib.Core.Path.{_≡_};
 ghost use lib.ListN.{replicate};
 ghost use Rattle.transducer.specs.Format.{max-states, index-long, refusal};
 ghost use Rattle.transducer.specs.Prepare.{Shaped, Prepared};
-use crate::leaf;
+use crate::accepted;
 
 // Where the arcs begin, the numbers of states, arcs and finals, and the start.
 pub struct Shape {
@@ -19,7 +19,7 @@ pub fn shape_of(bytes: &[u8]) -> Shape
     requires { ⌜ refusal (now bytes) ≡ 0 ⌝ }
     ensures { λ r. ⌜ Shaped (now (bytes .entry)) r ⌝ }
 {
-    let head = leaf::header(bytes);
+    let head = accepted::header(bytes);
     let finals = head.finals as usize;
     let first = bounds::arcs_at(finals);
     Shape {
@@ -41,7 +41,7 @@ pub fn prepare(
     ensures { λ r. ⌜ Prepared (now (bytes .entry)) r (now (index .exit)) (now (codes .exit)) ⌝ }
 {
     let shape = shape_of(bytes);
-    leaf::put_index(bytes, shape.first, shape.states, shape.arcs, index);
-    leaf::put_codes(bytes, shape.finals, codes);
+    accepted::put_index(bytes, shape.first, shape.states, shape.arcs, index);
+    accepted::put_codes(bytes, shape.finals, codes);
     shape
 }

@@ -4,7 +4,7 @@ ghost use mathlib.Core.Bool.{true, false, _&&_, cond};
 ghost use Prim.Native.Nat.{ℕ, _≤_, _<_};
 ghost use lib.ListN.{length, getD};
 ghost use Rattle.transducer.specs.Format.{Transducer, max-states, decode, head-finals};
-ghost use Rattle.transducer.specs.Leaf.{Opened};
+ghost use Rattle.transducer.specs.Accepted.{Accepted-at};
 ghost use Rattle.reach.specs.Reach.{All-accessible};
 ghost use Rattle.trim.specs.Trim.{useful};
 ghost use Rattle.trim.specs.Parts.{Renumbered};
@@ -52,7 +52,7 @@ pub fn renumber(
     start: usize,
     all_accessible: bool,
 ) -> [u16; MAX_STATES + 1]
-    requires { ⌜ Opened (now table) first × (states ≡ decode (now table) .states) × (arcs ≡ length (decode (now table) .arcs))
+    requires { ⌜ Accepted-at (now table) first × (states ≡ decode (now table) .states) × (arcs ≡ length (decode (now table) .arcs))
         × (finals ≡ head-finals (now table)) × (start ≡ decode (now table) .start) × (states ≤ max-states)
         × («all_accessible» ≡ true → All-accessible (decode (now table))) ⌝ }
     ensures { λ r. ⌜ Renumbered (decode (now (table .entry))) r ⌝ }

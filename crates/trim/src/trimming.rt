@@ -7,7 +7,7 @@ ghost use lib.Seq.{sets};
 ghost use Rattle.transducer.specs.Format.{max-states, max-arcs, max-bytes, head-bytes, arc-bytes, arcs-at};
 ghost use Rattle.transducer.specs.Format.{refusal, decode, head-finals};
 ghost use Rattle.transducer.specs.Encode.{final-records};
-ghost use Rattle.transducer.specs.Leaf.{Opened};
+ghost use Rattle.transducer.specs.Accepted.{Accepted-at};
 ghost use Rattle.trim.specs.Trim.{arc-useful, moved, kept-finals};
 ghost use Rattle.trim.specs.Passing.{Passing-put};
 ghost use Rattle.reach.specs.Reach.{All-accessible};
@@ -60,7 +60,7 @@ fn put_arcs(
     out: &mut [u8],
     origins: &mut [u16],
 ) -> usize
-    requires { ⌜ Opened (now bytes) first × (arcs ≡ length (decode (now bytes) .arcs)) × Renumbered (decode (now bytes)) (now index)
+    requires { ⌜ Accepted-at (now bytes) first × (arcs ≡ length (decode (now bytes) .arcs)) × Renumbered (decode (now bytes)) (now index)
         × (at + arc-bytes * arcs ≤ length (now out)) × (arcs ≤ length (now origins)) ⌝ }
     ensures { λ r. ⌜ Passing-put (arc-useful (decode (now (bytes .entry)))) (moved (decode (now (bytes .entry)))) (decode (now (bytes .entry)) .arcs)
         at r (now (out .entry)) (now (out .exit)) (now (origins .entry)) (now (origins .exit)) ⌝ }

@@ -10,7 +10,7 @@ use Rattle.starred.specs.Answer.Call.{reading, composing, applying, counting, k
 use Rattle.starred.specs.Cases.{weight-1000000, weight-1000001, weight-1, weight-4, one-arc, one-final, like-arcs}
 use Rattle.worked.specs.Tables.{label, any, units, rebate-1000000, rebate-1000001, rebate-600000, rebate-400000, rebate-400001, head, final, arc}
 use Rattle.worked.specs.Tables.{nothing, any-arc, left-alone, named-elsewhere, named-in-vain, fewer-labels, lesser-cost, fewer-arcs, all-final}
-use Rattle.worked.specs.Tables.{falling-loop, falling-in-vain, falling-aside, falling-unreached, level-cycle}
+use Rattle.worked.specs.Tables.{negative-cycle-loop, negative-cycle-in-vain, negative-cycle-aside, negative-cycle-unreached, level-cycle}
 
 -- Point 5: input 65,535 fits each symbol and never the empty label. An output other than 65,535 is written as it is, 0 as the empty label; 65,535 passes on
 -- the symbol read. Here that is a symbol of a string.
@@ -100,11 +100,11 @@ order-rows =
 -- nor does one that sums to zero.
 abbrev pub cycle-rows : List Case
 cycle-rows =
-    (shortest-path falling-loop gives refused 19)
-    ∷ (counting falling-loop gives refused 14)
-    ∷ (shortest-path falling-in-vain gives refused 16)
-    ∷ (shortest-path falling-aside gives tells 0 [] [])
-    ∷ (shortest-path falling-unreached gives tells 0 [] [])
+    (shortest-path negative-cycle-loop gives refused 19)
+    ∷ (counting negative-cycle-loop gives refused 14)
+    ∷ (shortest-path negative-cycle-in-vain gives refused 16)
+    ∷ (shortest-path negative-cycle-aside gives tells 0 [] [])
+    ∷ (shortest-path negative-cycle-unreached gives tells 0 [] [])
     ∷ (shortest-path level-cycle gives tells 0 [] [])
     ∷ []
 
@@ -119,9 +119,9 @@ distance-rows =
     (distances nothing gives costs [])
     ∷ (distances lesser-cost gives costs (amount 2 ∷ amount 1 ∷ amount 0 ∷ []))
     ∷ (distances level-cycle gives costs (amount 0 ∷ rebate 1 ∷ []))
-    ∷ (distances falling-aside gives costs (amount 0 ∷ []))
-    ∷ (distances falling-loop gives refused 19)
-    ∷ (distances falling-unreached gives refused 19)
+    ∷ (distances negative-cycle-aside gives costs (amount 0 ∷ []))
+    ∷ (distances negative-cycle-loop gives refused 19)
+    ∷ (distances negative-cycle-unreached gives refused 19)
     ∷ []
 
 -- The table: rows on labels, and rows on weights, costs and the order of paths.

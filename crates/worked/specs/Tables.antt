@@ -84,18 +84,18 @@ all-final =
     ++ arc 0 (label 1) (label 2) 1 (units 1) ++ arc 0 (label 1) (label 3) 2 (units 1) ++ arc 1 (label 2) (label 4) 2 (units 1)
 
 -- A loop of weight -1 at the only state, final or not.
-abbrev pub falling-loop : List ℕ
-falling-loop = head 1 1 1 0 ++ final 0 (units 0) ++ arc 0 (label 0) (label 7) 0 rebate-1
+abbrev pub negative-cycle-loop : List ℕ
+negative-cycle-loop = head 1 1 1 0 ++ final 0 (units 0) ++ arc 0 (label 0) (label 7) 0 rebate-1
 
-abbrev pub falling-in-vain : List ℕ
-falling-in-vain = head 1 1 0 0 ++ arc 0 (label 0) (label 7) 0 rebate-1
+abbrev pub negative-cycle-in-vain : List ℕ
+negative-cycle-in-vain = head 1 1 0 0 ++ arc 0 (label 0) (label 7) 0 rebate-1
 
 -- State 0 is the start and final. State 1 has a loop of weight -1: reached from state 0, from which it leads nowhere; and not reached, but leading there.
-abbrev pub falling-aside : List ℕ
-falling-aside = head 2 2 1 0 ++ final 0 (units 0) ++ arc 0 (label 1) (label 2) 1 (units 1) ++ arc 1 (label 1) (label 2) 1 rebate-1
+abbrev pub negative-cycle-aside : List ℕ
+negative-cycle-aside = head 2 2 1 0 ++ final 0 (units 0) ++ arc 0 (label 1) (label 2) 1 (units 1) ++ arc 1 (label 1) (label 2) 1 rebate-1
 
-abbrev pub falling-unreached : List ℕ
-falling-unreached = head 2 2 1 0 ++ final 0 (units 0) ++ arc 1 (label 1) (label 2) 0 (units 1) ++ arc 1 (label 1) (label 2) 1 rebate-1
+abbrev pub negative-cycle-unreached : List ℕ
+negative-cycle-unreached = head 2 2 1 0 ++ final 0 (units 0) ++ arc 1 (label 1) (label 2) 0 (units 1) ++ arc 1 (label 1) (label 2) 1 rebate-1
 
 -- A cycle of 1 and -1, which does not sum below zero.
 abbrev pub level-cycle : List ℕ

@@ -8,7 +8,7 @@ use lib.ListN.{length, take, replicate, length-replicate}
 use lib.Seq.{length-take-le}
 use Rattle.wire.specs.Bytes.{Bytes}
 use Rattle.transducer.specs.Format.{max-arcs, max-bytes, max-origins, max-states, refusal, decode}
-use Rattle.transducer.specs.Each.{named}
+use Rattle.transducer.specs.Each.{no-any-input}
 use Rattle.compose.proofs.Called.{Composed-call}
 use Rattle.claim.proofs.ReadingsSays.{says-uncomposed, made-fits, made-accepted, made-named, says-counted}
 use Rattle.claim.proofs.readings.Statement.{statement}
@@ -58,7 +58,7 @@ table-fits c = made-fits (left-bytes (composing c)) (right-bytes (composing c)) 
 table-accepted : (c : tie.Else1) → refusal (take (composing c .compose .result .len) (composing c .compose .last .1 .1 .0)) ≡ 0
 table-accepted c = made-accepted (left-bytes (composing c)) (right-bytes (composing c)) (compose-said (composing c)) (c .if1 .left)
 
-table-named : (c : tie.Else1) → named (decode (take (composing c .compose .result .len) (composing c .compose .last .1 .1 .0))) ≡ true
+table-named : (c : tie.Else1) → no-any-input (decode (take (composing c .compose .result .len) (composing c .compose .last .1 .1 .0))) ≡ true
 table-named c = made-named (left-bytes (composing c)) (right-bytes (composing c)) (compose-said (composing c)) (c .if1 .left)
 
 slice-aggregate-compose : tie.Need-slice-aggregate-compose
@@ -103,7 +103,7 @@ count-string-requires : tie.Need-count-string-requires
 count-string-requires c κs =
     let else1 = c .before .before .before .before .before in
     record {
-      table = record { accepted = table-accepted else1; all-named = λ e. table-named else1 };
+      table = record { accepted = table-accepted else1; no-any-says = λ e. table-named else1 };
       lattice-long = omega (arith, length-replicate {A = ℕ} max-bytes 0);
       origins-long = omega (arith, length-replicate {A = ℕ} max-arcs 0);
       pairs-long = omega (arith, length-replicate {A = ℕ} max-states 0);

@@ -30,8 +30,8 @@ light c =
 weight-ok-requires : tie.Need-weight-ok-requires
 weight-ok-requires c κs = search needs
 
-cast-dear : tie.Need-cast-dear
-cast-dear c = search needs
+cast-overflow : tie.Need-cast-overflow
+cast-overflow c = search needs
 
 mul-put-arc : tie.Need-mul-put-arc
 mul-put-arc c = search needs
@@ -52,9 +52,9 @@ returns c =
     record {
       states-stay = refl;
       full-stays = refl;
-      one-more = λ as' dear held.
-          arcs-held-next as' dear (a .w) _ (a .table .now) (a .arc) held _ (fits c .if1 .taken) refl
-          (ap (λ (b : Bool). bitOr (a .w .dear) (boolByte (not b))) (light at)) (c .before .before .put-arc .ensures);
+      one-more = λ as' overflow held.
+          arcs-held-next as' overflow (a .w) _ (a .table .now) (a .arc) held _ (fits c .if1 .taken) refl
+          (ap (λ (b : Bool). bitOr (a .w .overflow) (boolByte (not b))) (light at)) (c .before .before .put-arc .ensures);
     }
 
 add-t13 : tie.Need-add-t13
@@ -67,9 +67,9 @@ returns-2 c =
     record {
       states-stay = refl;
       full-stays = refl;
-      one-more = λ as' dear held.
-          arcs-held-full as' dear (a .w) _ (a .table .now) (a .arc) held (c .if1 .left) refl
-          (ap (λ (b : Bool). bitOr (a .w .dear) (boolByte (not b))) (light at));
+      one-more = λ as' overflow held.
+          arcs-held-full as' overflow (a .w) _ (a .table .now) (a .arc) held (c .if1 .left) refl
+          (ap (λ (b : Bool). bitOr (a .w .overflow) (boolByte (not b))) (light at));
     }
 
 pub record-arc-spec : {M : Type 1} → statement M
@@ -77,7 +77,7 @@ record-arc-spec =
     tie.close
     (tie.spec
     weight-ok-requires
-    cast-dear
+    cast-overflow
     mul-put-arc
     put-arc-requires
     add-t12

@@ -65,7 +65,7 @@ apply-into-requires c κs =
     let x = start (tested else1) in
     record {
       good = sym (fine else1);
-      all-named = x .pre .table .all-named;
+      no-any-says = x .pre .table .no-any-says;
       accepted = x .pre .table .accepted;
       lattice-long = x .pre .lattice-long;
       origins-long = x .pre .origins-long;

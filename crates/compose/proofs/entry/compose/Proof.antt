@@ -6,7 +6,7 @@ use mathlib.Core.Bool.{true}
 use native.Mathlib.Omega.{arith}
 use Rattle.wire.specs.Bytes.{Bytes}
 use Rattle.transducer.specs.Format.{refusal, decode}
-use Rattle.transducer.specs.Each.{named}
+use Rattle.transducer.specs.Each.{no-any-input}
 use Rattle.compose.proofs.ComposeSays.{
   says-left,
   says-any,
@@ -21,13 +21,13 @@ use Rattle.compose.proofs.entry.compose.Statement.{statement}
 use Rattle.compose.proofs.entry.compose.Tie as tie
 
 -- Places to look back to: the start, the left table looked at and asked for arcs for any symbol, both tables passed.
-abbrev entry : tie.After-look → tie.Start
+abbrev entry : tie.After-validate → tie.Start
 entry c = c .before .before .before .before .before .before
 
-abbrev first : tie.After-all-named → tie.After-look
+abbrev first : tie.After-no-any-input → tie.After-validate
 first c = c .before .before
 
-abbrev left-asked : tie.After-look2 → tie.After-all-named
+abbrev left-asked : tie.After-validate2 → tie.After-no-any-input
 left-asked c = c .before .before
 
 abbrev passed : tie.Else6 → tie.Else3
@@ -40,33 +40,34 @@ abbrev composed-into : tie.After-slice-known6 → tie.After-compose-into
 composed-into c = c .before .before .before .before .before .before
 
 -- The bytes are bytes.
-left-bytes : (c : tie.After-look) → Bytes (entry c .args .left .now)
+left-bytes : (c : tie.After-validate) → Bytes (entry c .args .left .now)
 left-bytes c = λ i. omega (arith, c .before .before .before .before .before .shared-slice-known .given i)
 
-right-bytes : (c : tie.After-look) → Bytes (entry c .args .right .now)
+right-bytes : (c : tie.After-validate) → Bytes (entry c .args .right .now)
 right-bytes c = λ i. omega (arith, c .before .before .before .before .shared-slice-known2 .given i)
 
 -- What the tests say: the left table is accepted and has no arc for any symbol, and the right one is accepted.
 left-ok : (c : tie.Else1) → refusal (entry (c .before) .args .left .now) ≡ 0
-left-ok c = sym (c .before .look .ensures .refusal-is) ∙ c .if1 .left
+left-ok c = sym (c .before .validate .ensures .refusal-is) ∙ c .if1 .left
 
-all-ok : (c : tie.Else2) → named (decode (entry (first (c .before)) .args .left .now)) ≡ true
-all-ok c = let n = c .before .all-named in sym (n .ensures) ∙ not-false (n .result) (c .if2 .left)
+all-ok : (c : tie.Else2) → no-any-input (decode (entry (first (c .before)) .args .left .now)) ≡ true
+all-ok c = let n = c .before .no-any-input in sym (n .ensures) ∙ not-false (n .result) (c .if2 .left)
 
 right-ok : (c : tie.Else3) → refusal (entry (first (left-asked (c .before))) .args .right .now) ≡ 0
-right-ok c = sym (c .before .look2 .ensures .refusal-is) ∙ c .if3 .left
+right-ok c = sym (c .before .validate2 .ensures .refusal-is) ∙ c .if3 .left
 
-look-requires : tie.Need-look-requires
-look-requires c κs = search needs
+validate-requires : tie.Need-validate-requires
+validate-requires c κs = search needs
 
 refused-requires : tie.Need-refused-requires
 refused-requires c κs = tt
 
 returns : tie.Need-returns
-returns c = let a = c .before .before .look in says-left _ _ _ _ _ (a .result .refusal) (a .ensures .refusal-is) (c .before .if1 .taken) _ (c .refused .ensures)
+returns c = let a = c .before .before .validate in says-left _ _ _ _ _ (a .result .refusal) (a .ensures .refusal-is) (c .before .if1 .taken) _
+    (c .refused .ensures)
 
-all-named-requires : tie.Need-all-named-requires
-all-named-requires c κs = (left-ok c, c .before .look .ensures .by-name (left-ok c))
+no-any-input-requires : tie.Need-no-any-input-requires
+no-any-input-requires c κs = (left-ok c, c .before .validate .ensures .no-any (left-ok c))
 
 refused-requires-2 : tie.Need-refused-requires-2
 refused-requires-2 c κs = tt
@@ -74,11 +75,11 @@ refused-requires-2 c κs = tt
 returns-2 : tie.Need-returns-2
 returns-2 c =
     let left = c .before .before in
-    let n = left .all-named in
+    let n = left .no-any-input in
     says-any _ _ _ _ _ (left-ok (left .before)) (sym (n .ensures) ∙ not-true (n .result) (c .before .if2 .taken)) _ (c .refused2 .ensures)
 
-look-requires-2 : tie.Need-look-requires-2
-look-requires-2 c κs = search needs
+validate-requires-2 : tie.Need-validate-requires-2
+validate-requires-2 c κs = search needs
 
 refused-requires-3 : tie.Need-refused-requires-3
 refused-requires-3 c κs = tt
@@ -86,7 +87,7 @@ refused-requires-3 c κs = tt
 returns-3 : tie.Need-returns-3
 returns-3 c =
     let right = c .before .before in
-    let b = right .look2 in
+    let b = right .validate2 in
     says-right _ _ _ _ _ (left-ok (left-asked right .before)) (all-ok (right .before)) (b .result .refusal) (b .ensures .refusal-is)
     (c .before .if3 .taken) _ (c .refused3 .ensures)
 
@@ -120,19 +121,19 @@ returns-6 c =
     says-states _ _ _ _ _ (left-ok (left-asked right .before)) (all-ok (right .before)) (right-ok both) (long .before .if4 .left) (long .if5 .left)
     (c .before .if6 .taken) _ (c .refused6 .ensures)
 
-all-named-requires-2 : tie.Need-all-named-requires-2
-all-named-requires-2 c κs = let both = passed c in (right-ok both, both .before .look2 .ensures .by-name (right-ok both))
+no-any-input-requires-2 : tie.Need-no-any-input-requires-2
+no-any-input-requires-2 c κs = let both = passed c in (right-ok both, both .before .validate2 .ensures .no-any (right-ok both))
 
 compose-into-requires : tie.Need-compose-into-requires
 compose-into-requires c κs =
-    let exact = c .before .before .before in
-    let else6 = exact .before in
+    let no-any = c .before .before .before in
+    let else6 = no-any .before in
     let both = passed else6 in
     let right = both .before in
     let x = entry (first (left-asked right)) .args in (
       composable (x .left .now) (x .right .now) (x .table .now) (x .origins .now) (x .states .now) (left-ok (left-asked right .before))
           (all-ok (right .before)) (right-ok both) (else6 .before .before .if4 .left) (else6 .before .if5 .left) (else6 .if6 .left),
-      λ e. sym (exact .all-named2 .ensures) ∙ e,
+      λ e. sym (no-any .no-any-input2 .ensures) ∙ e,
     )
 
 same-length : tie.Need-same-length
@@ -157,13 +158,13 @@ pub compose-spec : {M : Type 1} → statement M
 compose-spec =
     tie.close
     (tie.spec
-    look-requires
+    validate-requires
     refused-requires
     returns
-    all-named-requires
+    no-any-input-requires
     refused-requires-2
     returns-2
-    look-requires-2
+    validate-requires-2
     refused-requires-3
     returns-3
     refused-requires-4
@@ -172,7 +173,7 @@ compose-spec =
     returns-5
     refused-requires-6
     returns-6
-    all-named-requires-2
+    no-any-input-requires-2
     compose-into-requires
     same-length
     same-length-2

@@ -22,7 +22,7 @@ compose-with-room-requires-2 c κs =
     let kept = into .compose-with-room .kept .1 .1 .1 .1 in (
       record {
         left-accepted = pre .0 .left-accepted;
-        left-named = pre .0 .left-named;
+        left-no-any = pre .0 .left-no-any;
         right-accepted = pre .0 .right-accepted;
         table-long = omega (arith, kept .0, pre .0 .table-long);
         origins-long = omega (arith, kept .1 .0, pre .0 .origins-long);
@@ -51,7 +51,7 @@ returns c =
     let said = whole .compose-with-room2 .ensures in
     let lent = s .before .before .before .before .before .before .before in
     says-same _ _ (λ i. omega (arith, lent .before .shared-slice-known .given i)) (λ i. omega (arith, lent .shared-slice-known2 .given i))
-    (pre .left-accepted) (pre .left-named) (pre .right-accepted) _ _ _ _ _ _ _ _ _ _ (kept .0) (kept .1 .0) (kept .1 .1 .0)
+    (pre .left-accepted) (pre .left-no-any) (pre .right-accepted) _ _ _ _ _ _ _ _ _ _ (kept .0) (kept .1 .0) (kept .1 .1 .0)
     (said .says (said .enough (omega arith)))
 
 same-length-4 : tie.Need-same-length-4

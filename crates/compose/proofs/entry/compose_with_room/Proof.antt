@@ -6,7 +6,7 @@ use lib.ListN.{length}
 use Rattle.wire.specs.Bytes.{Bytes}
 use Rattle.transducer.specs.Format.{decode}
 use Rattle.transducer.proofs.Headed.{Headed, headed, head-inside}
-use Rattle.transducer.proofs.Opened.{opened-few}
+use Rattle.transducer.proofs.AcceptedAt.{opened-few}
 use Rattle.compose.proofs.ComposeSays.{says-11, says-12, attempted, attempted-same}
 use Rattle.compose.proofs.WalkCode.{first-key}
 use Rattle.compose.proofs.entry.compose_with_room.Statement.{statement}
@@ -158,7 +158,7 @@ walk-indexed-requires c κs =
         left-index = left-indexed (p .before) .put-index .ensures;
         right-open = r .opened;
         right-index = p .before .put-index2 .ensures;
-        right-named = entry k .pre .1;
+        right-no-any = entry k .pre .1;
       },
       (
         (r .arcs-are, omega (arith, r .arcs-are, opened-few (entry k .args .right .now) (right-bytes k) _ (r .opened))),
@@ -193,8 +193,8 @@ returns c =
     let k = lent (heads (packed w .before) .before) in
     let pre = entry k .pre .0 in
     let said = w .walk-indexed .ensures in
-    attempted _ _ (left-bytes k) (right-bytes k) (pre .left-accepted) (pre .left-named) (pre .right-accepted) (c .finished .ensures)
-    (says-11 _ _ (left-bytes k) (right-bytes k) (pre .left-accepted) (pre .left-named) (pre .right-accepted) _ _ _ _ _ _ _ _ _ _
+    attempted _ _ (left-bytes k) (right-bytes k) (pre .left-accepted) (pre .left-no-any) (pre .right-accepted) (c .finished .ensures)
+    (says-11 _ _ (left-bytes k) (right-bytes k) (pre .left-accepted) (pre .left-no-any) (pre .right-accepted) _ _ _ _ _ _ _ _ _ _
     (said .full (full .if1 .taken)) (table-kept w) (said .origins-kept) (said .states-kept) (refuse .refuse .ensures))
 
 refuse-requires-2 : tie.Need-refuse-requires-2
@@ -220,8 +220,8 @@ returns-2 c =
     let k = lent (heads (packed w .before) .before) in
     let pre = entry k .pre .0 in
     let said = w .walk-indexed .ensures in
-    attempted _ _ (left-bytes k) (right-bytes k) (pre .left-accepted) (pre .left-named) (pre .right-accepted) (c .finished2 .ensures)
-    (says-12 _ _ (left-bytes k) (right-bytes k) (pre .left-accepted) (pre .left-named) (pre .right-accepted) _ _ _ _
+    attempted _ _ (left-bytes k) (right-bytes k) (pre .left-accepted) (pre .left-no-any) (pre .right-accepted) (c .finished2 .ensures)
+    (says-12 _ _ (left-bytes k) (right-bytes k) (pre .left-accepted) (pre .left-no-any) (pre .right-accepted) _ _ _ _
     (said .done (over .before .if1 .left)) _ _ _ _ _ _ _ _ (over .if2 .taken) (table-kept w) (said .origins-kept) (said .states-kept)
     (refuse .refuse2 .ensures))
 
@@ -249,7 +249,7 @@ write-out-requires c κs =
     let said = w .walk-indexed .ensures in (
       record {
         left-accepted = pre .left-accepted;
-        left-named = pre .left-named;
+        left-no-any = pre .left-no-any;
         right-accepted = pre .right-accepted;
         table-long = omega (arith, table-kept w, pre .table-long);
         origins-long = omega (arith, said .origins-kept, pre .origins-long);
@@ -279,7 +279,7 @@ returns-3 c =
     let k = lent (heads (packed w .before) .before) in
     let pre = entry k .pre .0 in
     let said = w .walk-indexed .ensures in
-    attempted-same _ _ (left-bytes k) (right-bytes k) (pre .left-accepted) (pre .left-named) (pre .right-accepted) _ _ _ _ _ _ _ _ _ _
+    attempted-same _ _ (left-bytes k) (right-bytes k) (pre .left-accepted) (pre .left-no-any) (pre .right-accepted) _ _ _ _ _ _ _ _ _ _
     (table-kept w) (said .origins-kept) (said .states-kept) (written c .write-out .ensures)
 
 pub compose-with-room-spec : {M : Type 1} → statement M

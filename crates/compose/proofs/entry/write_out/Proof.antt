@@ -39,14 +39,14 @@ arcs-moved c = c .before .before .before .before
 abbrev refused-arcs : tie.After-slice-known7 → tie.After-refuse
 refused-arcs c = c .before .before .before .before .before .before
 
-abbrev dear-arcs : tie.After-refuse → tie.Then1
-dear-arcs c = c .before .before .before .before
+abbrev overflow-arcs : tie.After-refuse → tie.Then1
+overflow-arcs c = c .before .before .before .before
 
 abbrev refused-finals : tie.After-slice-known10 → tie.After-refuse2
 refused-finals c = c .before .before .before .before .before .before
 
-abbrev dear-finals : tie.After-refuse2 → tie.Then2
-dear-finals c = c .before .before .before .before
+abbrev overflow-finals : tie.After-refuse2 → tie.Then2
+overflow-finals c = c .before .before .before .before
 
 abbrev in-range : tie.After-put-head-arg → tie.Else3
 in-range c = c .before .before .before .before .before
@@ -77,7 +77,7 @@ fits : (c : tie.After-put-finals) → Writable (entry (lent (c .before)) .args .
 fits c =
     let k = lent (c .before) in
     let pre = entry k .pre in
-    writable _ _ (left-bytes k) (right-bytes k) (pre .0 .left-accepted) (pre .0 .left-named) (pre .0 .right-accepted) _ _ _ _
+    writable _ _ (left-bytes k) (right-bytes k) (pre .0 .left-accepted) (pre .0 .left-no-any) (pre .0 .right-accepted) _ _ _ _
     (pre .1 .1 .0 .told) _ (pre .1 .1 .0 .few-arcs) _ _ (pre .1 .0 .0) (pre .1 .0 .1) _ _ (c .put-finals .ensures)
 
 -- There is room for at most 1,024 finals.
@@ -88,7 +88,7 @@ put-finals-requires : tie.Need-put-finals-requires
 put-finals-requires c κs =
     let k = lent c in
     let pre = entry k .pre in
-    finishable _ _ (left-bytes k) (right-bytes k) (pre .0 .left-accepted) (pre .0 .left-named) (pre .0 .right-accepted) _ _ _ _
+    finishable _ _ (left-bytes k) (right-bytes k) (pre .0 .left-accepted) (pre .0 .left-no-any) (pre .0 .right-accepted) _ _ _ _
     (pre .1 .1 .0 .told) _ (pre .1 .1 .0 .few-arcs) _ _ (pre .1 .0 .0) (pre .1 .0 .1) (pre .0 .table-long) (pre .0 .states-long)
 
 refuse-requires : tie.Need-refuse-requires
@@ -108,14 +108,14 @@ same-length-3 c = search needs
 
 returns : tie.Need-returns
 returns c =
-    let dear = refused-arcs (c .before) in
-    let put = tested (dear-arcs dear .before) in
+    let overflow = refused-arcs (c .before) in
+    let put = tested (overflow-arcs overflow .before) in
     let k = lent (put .before) in
     let pre = entry k .pre in
-    attempted _ _ (left-bytes k) (right-bytes k) (pre .0 .left-accepted) (pre .0 .left-named) (pre .0 .right-accepted) (c .finished .ensures)
-    (says-13-arcs _ _ (left-bytes k) (right-bytes k) (pre .0 .left-accepted) (pre .0 .left-named) (pre .0 .right-accepted) _ _ _ _
+    attempted _ _ (left-bytes k) (right-bytes k) (pre .0 .left-accepted) (pre .0 .left-no-any) (pre .0 .right-accepted) (c .finished .ensures)
+    (says-13-arcs _ _ (left-bytes k) (right-bytes k) (pre .0 .left-accepted) (pre .0 .left-no-any) (pre .0 .right-accepted) _ _ _ _
     (pre .1 .1 .0 .told) _ (pre .1 .1 .0 .few-arcs) _ _ (pre .1 .0 .0) (pre .1 .0 .1) _ _ (put .put-finals .ensures) _ _ _ _
-    (dear-arcs dear .if1 .taken) (dear .refuse .ensures))
+    (overflow-arcs overflow .if1 .taken) (overflow .refuse .ensures))
 
 refuse-requires-2 : tie.Need-refuse-requires-2
 refuse-requires-2 c κs = search needs
@@ -134,14 +134,14 @@ same-length-6 c = search needs
 
 returns-2 : tie.Need-returns-2
 returns-2 c =
-    let dear = refused-finals (c .before) in
-    let put = tested (dear-finals dear .before .before) in
+    let overflow = refused-finals (c .before) in
+    let put = tested (overflow-finals overflow .before .before) in
     let k = lent (put .before) in
     let pre = entry k .pre in
-    attempted _ _ (left-bytes k) (right-bytes k) (pre .0 .left-accepted) (pre .0 .left-named) (pre .0 .right-accepted) (c .finished2 .ensures)
-    (says-13-finals _ _ (left-bytes k) (right-bytes k) (pre .0 .left-accepted) (pre .0 .left-named) (pre .0 .right-accepted) _ _ _ _
+    attempted _ _ (left-bytes k) (right-bytes k) (pre .0 .left-accepted) (pre .0 .left-no-any) (pre .0 .right-accepted) (c .finished2 .ensures)
+    (says-13-finals _ _ (left-bytes k) (right-bytes k) (pre .0 .left-accepted) (pre .0 .left-no-any) (pre .0 .right-accepted) _ _ _ _
     (pre .1 .1 .0 .told) _ (pre .1 .1 .0 .few-arcs) _ _ (pre .1 .0 .0) (pre .1 .0 .1) _ _ (put .put-finals .ensures) _ _ _ _
-    (dear-finals dear .if2 .taken) (dear .refuse2 .ensures))
+    (overflow-finals overflow .if2 .taken) (overflow .refuse2 .ensures))
 
 refused-requires : tie.Need-refused-requires
 refused-requires c κs = tt
@@ -157,7 +157,7 @@ returns-3 c =
     let put = tested (c .before .before .before .before) in
     let k = lent (put .before) in
     let pre = entry k .pre in
-    attempted-again _ _ (left-bytes k) (right-bytes k) (pre .0 .left-accepted) (pre .0 .left-named) (pre .0 .right-accepted)
+    attempted-again _ _ (left-bytes k) (right-bytes k) (pre .0 .left-accepted) (pre .0 .left-no-any) (pre .0 .right-accepted)
     (omega (arith, c .before .if3 .taken, fits put .finals))
 
 mul-behind : tie.Need-mul-behind
@@ -184,7 +184,7 @@ move-arcs-requires c κs =
     let k = lent (put .before) in
     let pre = entry k .pre in
     let kept =
-    finals-kept _ _ (left-bytes k) (right-bytes k) (pre .0 .left-accepted) (pre .0 .left-named) (pre .0 .right-accepted) _ _ _ _
+    finals-kept _ _ (left-bytes k) (right-bytes k) (pre .0 .left-accepted) (pre .0 .left-no-any) (pre .0 .right-accepted) _ _ _ _
     (pre .1 .1 .0 .told) _ (pre .1 .1 .0 .few-arcs) _ _ (pre .1 .0 .0) (pre .1 .0 .1) _ _ (put .put-finals .ensures) in
     (omega (arith, c .before .if3 .left), omega (arith, fits put, kept, pre .0 .table-long, few-finals put))
 
@@ -208,7 +208,7 @@ clear8-requires c κs =
     let k = lent (put .before) in
     let pre = entry k .pre in
     let kept =
-    finals-kept _ _ (left-bytes k) (right-bytes k) (pre .0 .left-accepted) (pre .0 .left-named) (pre .0 .right-accepted) _ _ _ _
+    finals-kept _ _ (left-bytes k) (right-bytes k) (pre .0 .left-accepted) (pre .0 .left-no-any) (pre .0 .right-accepted) _ _ _ _
     (pre .1 .1 .0 .told) _ (pre .1 .1 .0 .few-arcs) _ _ (pre .1 .0 .0) (pre .1 .0 .1) _ _ (put .put-finals .ensures) in
     omega (arith, fits put, kept, head .put-head .kept .0, moved .move-arcs .kept .0, pre .0 .table-long)
 
@@ -245,8 +245,8 @@ returns-4 c =
     let put = finals-put else3 in
     let k = lent (put .before) in
     let pre = entry k .pre in
-    attempted _ _ (left-bytes k) (right-bytes k) (pre .0 .left-accepted) (pre .0 .left-named) (pre .0 .right-accepted) refl
-    (says-written _ _ (left-bytes k) (right-bytes k) (pre .0 .left-accepted) (pre .0 .left-named) (pre .0 .right-accepted) _ _ _ _
+    attempted _ _ (left-bytes k) (right-bytes k) (pre .0 .left-accepted) (pre .0 .left-no-any) (pre .0 .right-accepted) refl
+    (says-written _ _ (left-bytes k) (right-bytes k) (pre .0 .left-accepted) (pre .0 .left-no-any) (pre .0 .right-accepted) _ _ _ _
     (pre .1 .1 .0 .told) _ (pre .1 .1 .0 .few-arcs) _ _ (pre .1 .0 .0) (pre .1 .0 .1) _ _ (put .put-finals .ensures) (arcs-at (entry k .args .room)) _ _ _ _ _
     (else3 .before .before .if1 .left) (else3 .before .if2 .left) (pre .0 .table-long) refl (omega (arith, else3 .if3 .left))
     (all-moved c .move-arcs .ensures) (head-put written .put-head .ensures) (written .clear8 .ensures) (cleared .clear16 .ensures)

@@ -18,11 +18,11 @@ use Rattle.transducer.specs.Weight.{plus, weight-of}
 use Rattle.transducer.proofs.Weights.{plus-fits}
 
 abbrev Inv-loop : tie.InvT-loop
-Inv-loop lcodes rcodes states count table₀ finals₀ dear₀ s₀ table finals dear s =
-    Finishing (key-final lcodes rcodes) (key-weight lcodes rcodes) states count table₀ table finals dear s
+Inv-loop lcodes rcodes states count table₀ finals₀ overflow₀ s₀ table finals overflow s =
+    Finishing (key-final lcodes rcodes) (key-weight lcodes rcodes) states count table₀ table finals overflow s
 
 abbrev μ-loop : tie.MeasureT-loop
-μ-loop lcodes rcodes states count table₀ finals₀ dear₀ s₀ table finals dear s = count - s
+μ-loop lcodes rcodes states count table₀ finals₀ overflow₀ s₀ table finals overflow s = count - s
 
 -- The way back from a place to an earlier one.
 abbrev unpacking : tie.After-b Inv-loop μ-loop → tie.After-unpack Inv-loop μ-loop
@@ -81,7 +81,7 @@ element-copy-out-b c = parts (c .before .before .before) .right
 add-s : tie.Need-add-s Inv-loop μ-loop
 add-s c = omega arith
 
--- Both codes are codes of good weights, and the sum of these is exact in 32 bits.
+-- Both codes are codes of good weights, and the sum of these is no-any in 32 bits.
 weight-of-requires : tie.Need-weight-of-requires Inv-loop μ-loop
 weight-of-requires c κs =
     let here = unpacking (c .before .before) in

@@ -19,7 +19,7 @@ use Rattle.compose.specs.Walk.{keyed-step}
 use Rattle.steps.specs.Runs.{Takeable}
 use Rattle.steps.proofs.Reading.{Next-step}
 use Rattle.steps.proofs.Links.{step-last, step-more, step-link}
-use Rattle.transducer.proofs.Opened.{opened-few}
+use Rattle.transducer.proofs.AcceptedAt.{opened-few}
 use Rattle.compose.specs.Taking.{run-left}
 use Rattle.compose.proofs.WalkCode.{step-kept, run-left-first, run-left-next, run-left-none}
 use Rattle.compose.proofs.walking.take_each.Statement.{statement}
@@ -295,7 +295,8 @@ last-step c =
     step-last (start t .pre .0 .1) (t .loop .j) (start t .args .to) (t .loop .inv .1) (below (put (c .before))) (start t .pre .0 .3) (c .if4 .taken)
 
 next-step : (c : tie.Else4 Inv-loop2 μ-loop2 Inv-loop μ-loop) → let t = turn (put (c .before)) in
-    Next-step (decode (start t .args .right .now)) (start t .args .r) (t .loop .j) (start t .args .to) (getD (start t .args .again .now) (t .loop .j) 0 - 1)
+    Next-step (decode (start t .args .right .now)) (start t .args .r) (t .loop .j) (start t .args .to) (getD (start t .args .next-same-label .now)
+    (t .loop .j) 0 - 1)
 next-step c =
     let t = turn (put (c .before)) in
     step-more (start t .pre .0 .1) (t .loop .j) (start t .args .to) (t .loop .inv .1) (below (put (c .before))) (start t .pre .0 .3) (c .if4 .left)
@@ -333,7 +334,7 @@ loop-again : tie.Need-loop-again Inv-loop2 μ-loop2 Inv-loop μ-loop
 loop-again c =
     let p = put (c .before) in
     let t = turn p in (
-      gone-on p (getD (start t .args .again .now) (t .loop .j) 0 - 1) (next-step c),
+      gone-on p (getD (start t .args .next-same-label .now) (t .loop .j) 0 - 1) (next-step c),
       next-step c .ready,
       p .record-step .kept .0 ∙ t .loop .inv .2,
       p .record-step .kept .1 .0 ∙ t .loop .inv .3,

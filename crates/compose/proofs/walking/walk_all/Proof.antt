@@ -20,14 +20,14 @@ use Rattle.compose.proofs.walking.walk_all.Statement.{statement}
 use Rattle.compose.proofs.walking.walk_all.Tie as tie
 
 abbrev Inv-loop : tie.InvT-loop
-Inv-loop left lfirst lindex right rfirst rindex rheads chain again exact first table₀ origins₀ states₀ heads₀ links₀ walk₀ s₀
+Inv-loop left lfirst lindex right rfirst rindex rheads chain again no-any first table₀ origins₀ states₀ heads₀ links₀ walk₀ s₀
     table origins states heads links walk s =
     Walking pack (Within (decode left) (decode right)) 2 (key-steps (decode left) (decode right)) (pack (first-state (decode left) (decode right))) s walk
     table origins states heads links × (length table ≡ length table₀) × (length origins ≡ length origins₀)
     × (length states ≡ length states₀)
 
 abbrev μ-loop : tie.MeasureT-loop
-μ-loop left lfirst lindex right rfirst rindex rheads chain again exact first table₀ origins₀ states₀ heads₀ links₀ walk₀ s₀
+μ-loop left lfirst lindex right rfirst rindex rheads chain again no-any first table₀ origins₀ states₀ heads₀ links₀ walk₀ s₀
     table origins states heads links walk s =
     max-states - s
 
@@ -47,13 +47,13 @@ begun c = c .before .before .before
 abbrev serving : tie.After-links2 Inv-loop μ-loop → tie.Then1 Inv-loop μ-loop
 serving c = c .before .before .before .before .before
 
-abbrev turn : tie.After-serve Inv-loop μ-loop → tie.Then1 Inv-loop μ-loop
+abbrev turn : tie.After-expand-state Inv-loop μ-loop → tie.Then1 Inv-loop μ-loop
 turn c = serving (c .before)
 
 abbrev head : tie.Then1 Inv-loop μ-loop → tie.At-loop Inv-loop μ-loop
 head c = c .before .before
 
-abbrev served : tie.After-struct-known2 Inv-loop μ-loop → tie.After-serve Inv-loop μ-loop
+abbrev served : tie.After-struct-known2 Inv-loop μ-loop → tie.After-expand-state Inv-loop μ-loop
 served c = c .before .before .before .before .before .before .before
 
 -- Both transducers are good ones.
@@ -90,8 +90,8 @@ loop-holds c =
       refl,
     )
 
-serve-requires : tie.Need-serve-requires Inv-loop μ-loop
-serve-requires c κs =
+expand-state-requires : tie.Need-expand-state-requires Inv-loop μ-loop
+expand-state-requires c κs =
     let t = serving c in
     let k = lent (begun (head t)) in
     let a = start k .args in
@@ -110,28 +110,28 @@ small c = walking-small (keying (lent (begun (head c)))) 2 (head c .loop .inv .0
 same-length : tie.Need-same-length Inv-loop μ-loop
 same-length c =
     let k = served (c .before) in
-    k .serve .kept .1 .1 .1 .1 .1 .1 .1 .1 .1 .1 .1 .1 .0 ∙ head (turn k) .loop .inv .1
+    k .expand-state .kept .1 .1 .1 .1 .1 .1 .1 .1 .1 .1 .1 .1 .0 ∙ head (turn k) .loop .inv .1
 
 same-length-2 : tie.Need-same-length-2 Inv-loop μ-loop
 same-length-2 c =
     let k = served (c .before) in
-    k .serve .kept .1 .1 .1 .1 .1 .1 .1 .1 .1 .1 .1 .1 .1 .0 ∙ head (turn k) .loop .inv .2
+    k .expand-state .kept .1 .1 .1 .1 .1 .1 .1 .1 .1 .1 .1 .1 .1 .0 ∙ head (turn k) .loop .inv .2
 
 same-length-3 : tie.Need-same-length-3 Inv-loop μ-loop
 same-length-3 c =
     let k = served (c .before) in
-    k .serve .kept .1 .1 .1 .1 .1 .1 .1 .1 .1 .1 .1 .1 .1 .1 .0 ∙ head (turn k) .loop .inv .3 ∙ begun (head (turn k)) .insert .kept .0
+    k .expand-state .kept .1 .1 .1 .1 .1 .1 .1 .1 .1 .1 .1 .1 .1 .1 .0 ∙ head (turn k) .loop .inv .3 ∙ begun (head (turn k)) .insert .kept .0
 
 returns : tie.Need-returns Inv-loop μ-loop
 returns c =
     let k = served (c .before) in
     let h = head (turn k) in
     let g = h .loop .inv .0 in
-    let out = k .serve .last .1 .1 .1 .1 .1 .1 .1 .1 .1 .1 .1 .1 in
+    let out = k .expand-state .last .1 .1 .1 .1 .1 .1 .1 .1 .1 .1 .1 .1 in
     record {
       full =
-          walking-full (keying (lent (begun h))) 2 g (turn k .if1 .taken) (k .serve .result) (out .0) (out .1 .0) (out .1 .1 .0) (out .1 .1 .1 .0)
-          (out .1 .1 .1 .1 .0) (k .serve .ensures (g .sofar) (g .walked));
+          walking-full (keying (lent (begun h))) 2 g (turn k .if1 .taken) (k .expand-state .result) (out .0) (out .1 .0) (out .1 .1 .0) (out .1 .1 .1 .0)
+          (out .1 .1 .1 .1 .0) (k .expand-state .ensures (g .sofar) (g .walked));
       done = λ e. absurd (c .if2 .taken e);
       table-kept = same-length c;
       origins-kept = same-length-2 c;
@@ -149,10 +149,10 @@ loop-again c =
     let k = served (c .before) in
     let h = head (turn k) in
     let g = h .loop .inv .0 in
-    let out = k .serve .last .1 .1 .1 .1 .1 .1 .1 .1 .1 .1 .1 .1 in
-    let kept = k .serve .kept .1 .1 .1 .1 .1 .1 .1 .1 .1 .1 .1 .1 in (
-      walking-next (keying (lent (begun h))) 2 g (turn k .if1 .taken) (k .serve .result) (out .0) (out .1 .0) (out .1 .1 .0) (out .1 .1 .1 .0)
-          (out .1 .1 .1 .1 .0) (k .serve .ensures (g .sofar) (g .walked)) (c .if2 .left),
+    let out = k .expand-state .last .1 .1 .1 .1 .1 .1 .1 .1 .1 .1 .1 .1 in
+    let kept = k .expand-state .kept .1 .1 .1 .1 .1 .1 .1 .1 .1 .1 .1 .1 in (
+      walking-next (keying (lent (begun h))) 2 g (turn k .if1 .taken) (k .expand-state .result) (out .0) (out .1 .0) (out .1 .1 .0) (out .1 .1 .1 .0)
+          (out .1 .1 .1 .1 .0) (k .expand-state .ensures (g .sofar) (g .walked)) (c .if2 .left),
       kept .0 ∙ h .loop .inv .1,
       kept .1 .0 ∙ h .loop .inv .2,
       kept .1 .1 .0 ∙ h .loop .inv .3,
@@ -187,7 +187,7 @@ walk-all-spec =
     μ-loop
     insert-requires
     loop-holds
-    serve-requires
+    expand-state-requires
     same-length
     same-length-2
     same-length-3

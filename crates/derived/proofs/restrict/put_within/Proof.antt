@@ -15,7 +15,7 @@ use Rattle.transducer.specs.Path.{arc, no-arc}
 use Rattle.transducer.specs.Weight.{Weight}
 use Rattle.reach.proofs.Ends.{Arc-ends, arc-ends}
 use Rattle.reach.proofs.Sized.{Sized, sized}
-use Rattle.relax.specs.Nearest.{cost-at}
+use Rattle.relax.specs.Tentative.{cost-at}
 use Rattle.trim.specs.Passing.{Passing-put}
 use Rattle.derived.specs.Restricted.{unchanged, within-bound}
 use Rattle.trim.proofs.Passing.{Passing-so-far, passing-first, passing-skip, passing-more, passing-stop}

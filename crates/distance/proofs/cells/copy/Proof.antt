@@ -5,7 +5,7 @@ use Prim.Native.Nat.{_-_, _≤_}
 use native.Mathlib.Omega.{arith}
 use mir.Syntax.{w64}
 use mir.Facts.{toZ-ofZ}
-use Rattle.relax.specs.Nearest.{cost-at}
+use Rattle.relax.specs.Tentative.{cost-at}
 use Rattle.distance.specs.Ended.{cost-told}
 use Rattle.distance.specs.Entry.{Copied}
 use Rattle.distance.proofs.Written.{cost-back, copied-first, copied-next}

@@ -7,7 +7,7 @@ use mir.Val.{toZ, ofZ}
 use mir.Facts.{toZ-ofZ}
 use Rattle.wire.proofs.Ints.{bits, wider}
 use Rattle.transducer.specs.Weight.{Weight, below}
-use Rattle.relax.specs.Nearest.{unreached}
+use Rattle.relax.specs.Tentative.{unreached}
 use Rattle.distance.specs.Ended.{cost-told}
 use Rattle.distance.proofs.cells.told.Statement.{statement}
 use Rattle.distance.proofs.cells.told.Tie as tie

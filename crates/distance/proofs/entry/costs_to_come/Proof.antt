@@ -5,23 +5,23 @@ use Rattle.distance.proofs.Answers.{costs-bad, costs-short, costs-passe
 use Rattle.distance.proofs.entry.costs_to_come.Statement.{statement}
 use Rattle.distance.proofs.entry.costs_to_come.Tie as tie
 
-look-requires : tie.Need-look-requires
-look-requires c κs = tt
+validate-requires : tie.Need-validate-requires
+validate-requires c κs = tt
 
 returns : tie.Need-returns
 returns c =
     let a = c .before .before .before .args in
-    costs-bad (a .table .now) (a .cells .now) (c .before .look .ensures .refusal-is) (c .if1 .taken)
+    costs-bad (a .table .now) (a .cells .now) (c .before .validate .ensures .refusal-is) (c .if1 .taken)
 
 returns-2 : tie.Need-returns-2
 returns-2 c =
     let a = c .before .before .before .before .args in
-    costs-short (a .table .now) (a .cells .now) (c .before .before .look .ensures .refusal-is) (c .before .if1 .left) (c .if2 .taken)
+    costs-short (a .table .now) (a .cells .now) (c .before .before .validate .ensures .refusal-is) (c .before .if1 .left) (c .if2 .taken)
 
 costs-accepted-requires : tie.Need-costs-accepted-requires
 costs-accepted-requires c κs =
     let passed = c .before in
-    (passed .before .before .look .ensures, passed .before .if1 .left, passed .if2 .left)
+    (passed .before .before .validate .ensures, passed .before .if1 .left, passed .if2 .left)
 
 same-length : tie.Need-same-length
 same-length c = search needs
@@ -32,14 +32,14 @@ returns-3 c =
     let passed = answered .before .before in
     let looked = passed .before .before in
     let a = looked .before .before .args in
-    costs-passed (a .table .now) (a .cells .now) (looked .look .ensures .refusal-is) (passed .before .if1 .left) (passed .if2 .left)
+    costs-passed (a .table .now) (a .cells .now) (looked .validate .ensures .refusal-is) (passed .before .if1 .left) (passed .if2 .left)
     (answered .costs-accepted .ensures)
 
 pub costs-to-come-spec : {M : Type 1} → statement M
 costs-to-come-spec =
     tie.close
     (tie.spec
-    look-requires
+    validate-requires
     returns
     returns-2
     costs-accepted-requires

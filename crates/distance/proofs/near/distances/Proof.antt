@@ -27,11 +27,11 @@ size c =
     let bytes : Bytes bs = λ i. omega (arith, c .shared-slice-known .given i) in
     sized bs bytes (c .before .pre .0 .shaped .opened .accepted)
 
--- What a look told is asked, and one sweep is done.
-abbrev looked : tie.After-by-states → tie.After-is-plain
+-- What validation told is asked, and one sweep is done.
+abbrev looked : tie.After-can-sweep-by-state → tie.After-is-plain
 looked c = c .before .before
 
-abbrev asked : tie.After-sweep-once → tie.After-by-states
+abbrev asked : tie.After-sweep-once → tie.After-can-sweep-by-state
 asked c = c .before .before .before .before
 
 abbrev swept : tie.After-slice-known2 → tie.After-sweep-once
@@ -56,8 +56,8 @@ is-plain-requires c κs =
     let begun = c .before .before .before .before .pre .0 in
     omega (arith, begun .shaped .states-are, begun .own .long)
 
-by-states-requires : tie.Need-by-states-requires
-by-states-requires c κs = tt
+can-sweep-by-state-requires : tie.Need-can-sweep-by-state-requires
+can-sweep-by-state-requires c κs = tt
 
 sweep-once-requires : tie.Need-sweep-once-requires
 sweep-once-requires c κs =
@@ -71,7 +71,7 @@ sweep-once-requires c κs =
       pre .0 .shaped .states-are,
       pre .0 .shaped .arcs-are,
       begun-rising z (pre .0) (pre .1) (pre .2) (rw back at (look .is-plain .ensures)),
-      rw back (begun-forward z (pre .0) (pre .1) (pre .2) (rw back at (asked .by-states .ensures))),
+      rw back (begun-forward z (pre .0) (pre .1) (pre .2) (rw back at (asked .can-sweep-by-state .ensures))),
       begun-nearing z (pre .0) (pre .1) (pre .2),
       begun-cells z (pre .0) (pre .1) (pre .2),
     )
@@ -156,7 +156,7 @@ distances-spec =
     tie.close
     (tie.spec
     is-plain-requires
-    by-states-requires
+    can-sweep-by-state-requires
     sweep-once-requires
     same-length
     same-length-2

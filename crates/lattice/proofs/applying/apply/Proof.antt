@@ -10,10 +10,10 @@ use Rattle.lattice.proofs.applying.apply.Statement.{statement}
 use Rattle.lattice.proofs.applying.apply.Tie as tie
 
 -- Places to look back to.
-abbrev read : tie.Else2 → tie.After-look
+abbrev read : tie.Else2 → tie.After-validate
 read c = c .before .before .before
 
-abbrev entry : tie.After-look → tie.Start
+abbrev entry : tie.After-validate → tie.Start
 entry c = c .before .before .before .before .before .before
 
 abbrev all-tested : tie.After-apply-into → tie.Else5
@@ -27,20 +27,20 @@ applied-into c = c .before .before .before .before .before .before
 
 -- The table is accepted and the string is good where their tests are passed.
 accepted : (c : tie.Else1) → refusal (entry (c .before) .args .table .now) ≡ 0
-accepted c = sym (c .before .look .ensures .refusal-is) ∙ c .if1 .left
+accepted c = sym (c .before .validate .ensures .refusal-is) ∙ c .if1 .left
 
 fine : (c : tie.Else2) → true ≡ string-good (entry (read c) .args .string .now)
 fine c = let s = c .before .string-ok in sym (not-false (s .result) (c .if2 .left)) ∙ s .ensures
 
-look-requires : tie.Need-look-requires
-look-requires c κs = search needs
+validate-requires : tie.Need-validate-requires
+validate-requires c κs = search needs
 
 refused-requires : tie.Need-refused-requires
 refused-requires c κs = tt
 
 returns : tie.Need-returns
 returns c =
-    let n = c .before .before .look in
+    let n = c .before .before .validate in
     says-bytes _ _ _ _ _ (n .result .refusal) (n .ensures .refusal-is) (c .before .if1 .taken) _ (c .refused .ensures)
 
 string-ok-requires : tie.Need-string-ok-requires
@@ -82,14 +82,14 @@ returns-5 c =
     says-pairs _ _ _ _ _ (accepted (else2 .before .before)) (fine else2) (c .before .before .before .if3 .left)
     (c .before .before .if4 .left) (c .before .if5 .taken) _ (c .refused5 .ensures)
 
-all-named-requires : tie.Need-all-named-requires
-all-named-requires c κs =
+no-any-input-requires : tie.Need-no-any-input-requires
+no-any-input-requires c κs =
     let tested = string-tested c in
-    (accepted tested, tested .before .look .ensures .by-name (accepted tested))
+    (accepted tested, tested .before .validate .ensures .no-any (accepted tested))
 
 apply-into-requires : tie.Need-apply-into-requires
 apply-into-requires c κs =
-    let told = c .before .before .before .all-named in
+    let told = c .before .before .before .no-any-input in
     let else5 = c .before .before .before .before in
     let else2 = else5 .before .before .before in
     let x = entry (read else2) .args in
@@ -117,7 +117,7 @@ pub apply-spec : {M : Type 1} → statement M
 apply-spec =
     tie.close
     (tie.spec
-    look-requires
+    validate-requires
     refused-requires
     returns
     string-ok-requires
@@ -129,7 +129,7 @@ apply-spec =
     returns-4
     refused-requires-5
     returns-5
-    all-named-requires
+    no-any-input-requires
     apply-into-requires
     same-length
     same-length-2

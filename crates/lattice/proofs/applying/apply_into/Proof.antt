@@ -6,7 +6,7 @@ use native.Mathlib.Omega.{arith}
 use lib.ListN.{length}
 use Rattle.wire.specs.Bytes.{Bytes}
 use Rattle.transducer.specs.Format.{max-bytes}
-use Rattle.transducer.specs.Leaf.{Opened}
+use Rattle.transducer.specs.Accepted.{Accepted-at}
 use Rattle.transducer.proofs.Headed.{Headed, headed, headed-opened, head-inside}
 use Rattle.lattice.proofs.AppliedWritten.{says-11, says-12, Made, ends-inside, bytes-accepted, bytes-accessible}
 use Rattle.lattice.proofs.AppliedWritten.{len-small, out-long, traceable, says-lattice}
@@ -102,7 +102,7 @@ cast-f c = search needs
 arcs-at-requires : tie.Need-arcs-at-requires
 arcs-at-requires c κs = omega (arith, head-is (c .before) .few-finals)
 
-is-opened : (c : tie.After-arcs-at) → Opened (entry (lent (at-header c)) .args .bytes .now) (c .arcs-at .result)
+is-opened : (c : tie.After-arcs-at) → Accepted-at (entry (lent (at-header c)) .args .bytes .now) (c .arcs-at .result)
 is-opened c =
     let o = at-header c in
     headed-opened (entry (lent o) .args .bytes .now) (o .header .result) (c .arcs-at .result) (head-is o) (c .arcs-at .ensures)
@@ -128,7 +128,7 @@ walk-behind-requires c κs =
     let at = numbered index in
     let o = at-header at in
     let pre = entry (lent o) .pre in (
-      (record { good = pre .good; all-named = pre .all-named; opened = is-opened at; indexed = index .put-index .ensures }, head-is o .start-is),
+      (record { good = pre .good; no-any-says = pre .no-any-says; opened = is-opened at; indexed = index .put-index .ensures }, head-is o .start-is),
       (pre .lattice-long, omega arith, pre .pairs-long),
     )
 

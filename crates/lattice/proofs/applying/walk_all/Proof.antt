@@ -19,12 +19,12 @@ use Rattle.lattice.proofs.applying.walk_all.Statement.{statement}
 use Rattle.lattice.proofs.applying.walk_all.Tie as tie
 
 abbrev Inv-loop : tie.InvT-loop
-Inv-loop string bytes exact first index start table₀ origins₀ states₀ heads₀ links₀ first-key walk₀ s₀ table origins states heads links walk s =
+Inv-loop string bytes no-any first index start table₀ origins₀ states₀ heads₀ links₀ first-key walk₀ s₀ table origins states heads links walk s =
     Walking pack (State-in string (decode bytes)) 1 (next string (decode bytes)) (pack (first-state (decode bytes))) s walk table origins states heads links
     × (length table ≡ length table₀) × (length origins ≡ length origins₀) × (length states ≡ length states₀)
 
 abbrev μ-loop : tie.MeasureT-loop
-μ-loop string bytes exact first index start table₀ origins₀ states₀ heads₀ links₀ first-key walk₀ s₀ table origins states heads links walk s = max-states - s
+μ-loop string bytes no-any first index start table₀ origins₀ states₀ heads₀ links₀ first-key walk₀ s₀ table origins states heads links walk s = max-states - s
 
 -- Places to look back to.
 abbrev entry : tie.After-shared-slice-known2 Inv-loop μ-loop → tie.Start Inv-loop μ-loop
@@ -55,10 +55,10 @@ at-turn c = c .before .before
 abbrev in-turn : tie.After-links2 Inv-loop μ-loop → tie.Then1 Inv-loop μ-loop
 in-turn c = c .before .before .before .before .before
 
-abbrev at-serve : tie.After-struct-known2 Inv-loop μ-loop → tie.After-serve Inv-loop μ-loop
+abbrev at-serve : tie.After-struct-known2 Inv-loop μ-loop → tie.After-expand-state Inv-loop μ-loop
 at-serve c = c .before .before .before .before .before .before .before
 
-abbrev served-in : tie.After-serve Inv-loop μ-loop → tie.Then1 Inv-loop μ-loop
+abbrev served-in : tie.After-expand-state Inv-loop μ-loop → tie.Then1 Inv-loop μ-loop
 served-in c = in-turn (c .before)
 
 -- The transducer, and that keys stand for the states of the walk.
@@ -102,8 +102,8 @@ loop-holds c =
       refl,
     )
 
-serve-requires : tie.Need-serve-requires Inv-loop μ-loop
-serve-requires c κs =
+expand-state-requires : tie.Need-expand-state-requires Inv-loop μ-loop
+expand-state-requires c κs =
     let at = in-turn c in
     let here = at-turn at .loop in
     let l = at .if1 .taken in
@@ -118,23 +118,23 @@ serve-requires c κs =
     )
 
 same-length : tie.Need-same-length Inv-loop μ-loop
-same-length c = let at = at-serve (c .before) in at .serve .kept .1 .1 .1 .1 .1 .1 .1 .0 ∙ at-turn (served-in at) .loop .inv .1
+same-length c = let at = at-serve (c .before) in at .expand-state .kept .1 .1 .1 .1 .1 .1 .1 .0 ∙ at-turn (served-in at) .loop .inv .1
 
 same-length-2 : tie.Need-same-length-2 Inv-loop μ-loop
-same-length-2 c = let at = at-serve (c .before) in at .serve .kept .1 .1 .1 .1 .1 .1 .1 .1 .0 ∙ at-turn (served-in at) .loop .inv .2
+same-length-2 c = let at = at-serve (c .before) in at .expand-state .kept .1 .1 .1 .1 .1 .1 .1 .1 .0 ∙ at-turn (served-in at) .loop .inv .2
 
 same-length-3 : tie.Need-same-length-3 Inv-loop μ-loop
 same-length-3 c =
     let at = at-serve (c .before) in
     let turn = at-turn (served-in at) in
-    at .serve .kept .1 .1 .1 .1 .1 .1 .1 .1 .1 .0 ∙ turn .loop .inv .3 ∙ stored turn .insert .kept .0
+    at .expand-state .kept .1 .1 .1 .1 .1 .1 .1 .1 .1 .0 ∙ turn .loop .inv .3 ∙ stored turn .insert .kept .0
 
 returns : tie.Need-returns Inv-loop μ-loop
 returns c =
     let at = at-serve (c .before) in
     let turn = at-turn (served-in at) in
     let g = turn .loop .inv .0 in
-    let call = at .serve in
+    let call = at .expand-state in
     let out = call .last .1 .1 .1 .1 .1 .1 .1 in
     record {
       full = λ h.
@@ -157,7 +157,7 @@ loop-again c =
     let at = at-serve (c .before) in
     let turn = at-turn (served-in at) in
     let g = turn .loop .inv .0 in
-    let call = at .serve in
+    let call = at .expand-state in
     let out = call .last .1 .1 .1 .1 .1 .1 .1 in
     let kept = call .kept .1 .1 .1 .1 .1 .1 .1 in (
       walking-next (keys (begun (stored turn))) 1 g (served-in at .if1 .taken) (call .result)
@@ -196,7 +196,7 @@ walk-all-spec =
     pack-requires
     insert-requires
     loop-holds
-    serve-requires
+    expand-state-requires
     same-length
     same-length-2
     same-length-3

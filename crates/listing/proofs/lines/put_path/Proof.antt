@@ -16,28 +16,28 @@ use Rattle.listing.proofs.lines.put_path.Statement.{statement}
 use Rattle.listing.proofs.lines.put_path.Tie as tie
 
 -- Places to look back to.
-abbrev start : tie.After-walk → tie.Start
+abbrev start : tie.After-nth-arcs → tie.Start
 start c = c .before .before .before .before
 
 abbrev tell-of : tie.After-struct-known → tie.After-tell
 tell-of c = c .before .before .before .before
 
-abbrev behind-walk : tie.After-tell → tie.After-walk
+abbrev behind-walk : tie.After-tell → tie.After-nth-arcs
 behind-walk c = c .before .before .before .before
 
-size : (c : tie.After-walk) → Sized (decode (start c .args .table .now))
+size : (c : tie.After-nth-arcs) → Sized (decode (start c .args .table .now))
 size c =
     let x = start c in
     sized (x .args .table .now) (λ i. omega (arith, c .before .before .before .shared-slice-known .given i)) (x .pre .0 .prepared .shaped .opened .accepted)
 
-abbrev walked : tie.After-walk → List ℕ
-walked c = c .walk .last .1 .1 .1 .1 .1 .1 .1 .1 .0
+abbrev walked : tie.After-nth-arcs → List ℕ
+walked c = c .nth-arcs .last .1 .1 .1 .1 .1 .1 .1 .1 .0
 
-path : (c : tie.After-walk) → Found (decode (start c .args .table .now)) (start c .args .k) (c .walk .result) (walked c)
+path : (c : tie.After-nth-arcs) → Found (decode (start c .args .table .now)) (start c .args .k) (c .nth-arcs .result) (walked c)
 path c =
     let x = start c in
-    found (decode (x .args .table .now)) (size c) (x .args .k) (c .walk .result) (replicate max-path 0) (walked c) (x .pre .0 .finite) (x .pre .1)
-    (omega (arith, length-replicate {A = ℕ} max-path 0)) (c .walk .ensures .0) (c .walk .ensures .1)
+    found (decode (x .args .table .now)) (size c) (x .args .k) (c .nth-arcs .result) (replicate max-path 0) (walked c) (x .pre .0 .finite) (x .pre .1)
+    (omega (arith, length-replicate {A = ℕ} max-path 0)) (c .nth-arcs .ensures .0) (c .nth-arcs .ensures .1)
 
 told : (c : tie.After-tell)
     → Got (decode (start (behind-walk c) .args .table .now)) (start (behind-walk c) .args .k) (c .tell .result) (c .tell .last .1 .1 .1 .1 .1 .1 .0)
@@ -51,11 +51,11 @@ told c =
 cost-is : (c : tie.After-struct-told) → toZ w64 (ofZ w64 (tell-of (c .before) .tell .result .cost)) ≡ tell-of (c .before) .tell .result .cost
 cost-is c = toZ-ofZ (record { sfits = c .struct-told .given .1 .0 .1 })
 
-slice-aggregate-walk : tie.Need-slice-aggregate-walk
-slice-aggregate-walk c = search needs
+slice-aggregate-nth-arcs : tie.Need-slice-aggregate-nth-arcs
+slice-aggregate-nth-arcs c = search needs
 
-walk-requires : tie.Need-walk-requires
-walk-requires c κs =
+nth-arcs-requires : tie.Need-nth-arcs-requires
+nth-arcs-requires c κs =
     let x = c .before .before .before in
     let w = x .pre .0 in
     let p = w .prepared in
@@ -100,8 +100,8 @@ pub put-path-spec : {M : Type 1} → statement M
 put-path-spec =
     tie.close
     (tie.spec
-    slice-aggregate-walk
-    walk-requires
+    slice-aggregate-nth-arcs
+    nth-arcs-requires
     slice-aggregate-tell
     slice-aggregate-tell-2
     tell-requires

@@ -11,11 +11,11 @@ use Rattle.reach.specs.Counted.{count}
 use Rattle.reach.specs.Cell.{link-of}
 use Rattle.reach.proofs.Cell.{Parts}
 use Rattle.reach.proofs.Chains.{chain-link, chain-less}
-use Rattle.tally.specs.Marks.{marked}
+use Rattle.capped.specs.Marks.{marked}
 use Rattle.paths.specs.Sweep.{at-state}
 use Rattle.paths.specs.Counting.{Underway, Grown}
 use Rattle.paths.proofs.Ready.{Sized, sized}
-use Rattle.tally.proofs.MarksInPlace.{marked-grows}
+use Rattle.capped.proofs.MarksInPlace.{marked-grows}
 use Rattle.paths.proofs.Counting.{top-state, unmarked-less}
 use Rattle.paths.proofs.Releasing.{Releasing, releasing-first, releasing-source, releasing-some, releasing-room, releasing-next, releasing-stop}
 use Rattle.paths.proofs.Rested.{underway-rested}
@@ -60,7 +60,7 @@ abbrev state : Turn → ℕ
 state c = getD (c .before .loop .stack) (c .before .loop .top - 1) 0
 
 waiting : (c : Turn)
-    → Underway (decode (start (entry c) .args .table .now)) (c .before .loop .marks) (c .before .loop .left) (c .before .loop .stack)
+    → Underway (decode (start (entry c) .args .table .now)) (c .before .loop .marks) (c .before .loop .pending) (c .before .loop .stack)
     (c .before .loop .top - 1 + 1) (c .before .loop .counts)
 waiting c =
     let one : c .before .loop .top - 1 + 1 ≡ c .before .loop .top = omega (arith, c .loop-test .taken) in
@@ -70,7 +70,7 @@ top-of : (c : Turn) → (state c < decode (start (entry c) .args .table .now) .s
 top-of c =
     let t = decode (start (entry c) .args .table .now) in
     let l = c .before .loop in
-    let x = top-state t (size (entry c)) (l .marks) (l .left) (l .stack) (l .top - 1) (state c) refl (waiting c .counting) in
+    let x = top-state t (size (entry c)) (l .marks) (l .pending) (l .stack) (l .top - 1) (state c) refl (waiting c .counting) in
     (x .0, x .1, omega (arith, x .0, size (entry c) .states))
 
 room : (c : Turn) → c .before .loop .top - 1 < 1024
@@ -101,7 +101,7 @@ source c =
     let o = outer (i .before) in
     let l = i .before .loop2 in
     let z = size (entry o) in
-    let below = releasing-source (decode (start (entry o) .args .table .now)) z (set (o .before .loop .marks) (state o) true) (state o) _ (l .left)
+    let below = releasing-source (decode (start (entry o) .args .table .now)) z (set (o .before .loop .marks) (state o) true) (state o) _ (l .pending)
     (l .stack) (l .top) (l .counts) (l .cell) (l .inv) (i .loop2-test .taken) (parts c) in
     omega (arith, below, z .states)
 
@@ -143,7 +143,7 @@ loop2-holds c =
     let o = c .before .before .before in
     let a = start (entry o) .args in
     let l = o .before .loop in
-    releasing-first (decode (a .table .now)) (size (entry o)) (a .heads .now) (a .next .now) (start (entry o) .pre .1) (l .marks) (l .left) (l .stack)
+    releasing-first (decode (a .table .now)) (size (entry o)) (a .heads .now) (a .next .now) (start (entry o) .pre .1) (l .marks) (l .pending) (l .stack)
     (l .top - 1) (state o) (l .counts) refl (waiting o)
 
 loop-less : tie.Need-loop-less Inv-loop2 μ-loop2 Inv-loop μ-loop
@@ -156,7 +156,8 @@ loop-again c =
     let o = outer (c .before) in
     let l = c .before .loop2 in
     let ms = o .before .loop .marks in (
-      releasing-stop (decode (start (entry o) .args .table .now)) (size (entry o)) (set ms (state o) true) (state o) _ (l .left) (l .stack) (l .top) (l .counts)
+      releasing-stop (decode (start (entry o) .args .table .now)) (size (entry o)) (set ms (state o) true) (state o) _ (l .pending) (l .stack) (l .top)
+          (l .counts)
           (l .cell) (l .inv) (c .loop2-test .left),
       λ s m. marked-grows ms (state o) (marks-room o) s (o .before .loop .inv .1 s m),
     )
@@ -185,8 +186,8 @@ add-requires c κs = tt
 array-set-from-counts : tie.Need-array-set-from-counts Inv-loop2 μ-loop2 Inv-loop μ-loop
 array-set-from-counts c = source (added c)
 
-close-arc-requires : tie.Need-close-arc-requires Inv-loop2 μ-loop2 Inv-loop μ-loop
-close-arc-requires c κs =
+drop-pending-requires : tie.Need-drop-pending-requires Inv-loop2 μ-loop2 Inv-loop μ-loop
+drop-pending-requires c κs =
     let here = added (c .before .before) in
     let i = inner here in
     let o = outer (i .before) in
@@ -196,8 +197,8 @@ close-arc-requires c κs =
       source here,
       l .inv .counting .opened .long,
       l .inv .counting .stacked .long,
-      releasing-some t (size (entry o)) ms (state o) _ (l .left) (l .stack) (l .top) (l .counts) (l .cell) (l .inv) (i .loop2-test .taken) (parts here),
-      releasing-room t (size (entry o)) ms (state o) _ (l .left) (l .stack) (l .top) (l .counts) (l .cell) (l .inv) (i .loop2-test .taken) (parts here),
+      releasing-some t (size (entry o)) ms (state o) _ (l .pending) (l .stack) (l .top) (l .counts) (l .cell) (l .inv) (i .loop2-test .taken) (parts here),
+      releasing-room t (size (entry o)) ms (state o) _ (l .pending) (l .stack) (l .top) (l .counts) (l .cell) (l .inv) (i .loop2-test .taken) (parts here),
     )
 
 loop2-less : tie.Need-loop2-less Inv-loop2 μ-loop2 Inv-loop μ-loop
@@ -216,15 +217,16 @@ loop2-again c =
     let o = outer (i .before) in
     let a = start (entry o) .args in
     let l = i .before .loop2 in
-    releasing-next (decode (a .table .now)) (size (entry o)) (set (o .before .loop .marks) (state o) true) (state o) _ (l .left) (l .stack) (l .top) (l .counts)
+    releasing-next (decode (a .table .now)) (size (entry o)) (set (o .before .loop .marks) (state o) true) (state o) _ (l .pending) (l .stack) (l .top)
+    (l .counts)
     (l .cell) (l .inv) (i .loop2-test .taken) (parts here) (a .heads .now) (a .next .now) (start (entry o) .pre .1) (sum .add .result) _ _
-    (c .close-arc .result) (sum .add .ensures) (c .close-arc .ensures)
+    (c .drop-pending .result) (sum .add .ensures) (c .drop-pending .ensures)
 
 returns : tie.Need-returns Inv-loop2 μ-loop2 Inv-loop μ-loop
 returns c =
     let l = c .before .loop in
     let e = c .before .before in (
-      underway-rested (decode (start e .args .table .now)) (size e) (l .marks) (l .left) (l .stack) (l .top) (l .counts) (omega (arith, c .loop-test .left))
+      underway-rested (decode (start e .args .table .now)) (size e) (l .marks) (l .pending) (l .stack) (l .top) (l .counts) (omega (arith, c .loop-test .left))
           (l .inv .0),
       l .inv .1,
     )
@@ -257,7 +259,7 @@ count-all-spec =
     array-copy-out-add
     add-requires
     array-set-from-counts
-    close-arc-requires
+    drop-pending-requires
     loop2-less
     loop2-again
     returns)

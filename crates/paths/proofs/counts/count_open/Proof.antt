@@ -5,7 +5,7 @@ use native.Mathlib.Omega.{arith}
 use lib.ListN.{length, getD}
 use Rattle.wire.specs.Bytes.{Bytes}
 use Rattle.transducer.specs.Format.{decode}
-use Rattle.tally.specs.Marks.{marked}
+use Rattle.capped.specs.Marks.{marked}
 use Rattle.paths.specs.Counting.{by-marks, Opened-arcs}
 use Rattle.paths.proofs.Ready.{Sized, sized}
 use Rattle.paths.proofs.Counting.{opened-first, opened-kept, opened-next, opened-few, by-target-mark}
@@ -70,38 +70,38 @@ loop-again c =
     let now' = turn at in
     let a = start now' .args in
     let t = decode (a .table .now) in (
-      opened-kept t (by-marks t (a .marks .now)) (now' .before .loop .i) (now' .before .loop .left) (now' .before .loop .inv .0)
+      opened-kept t (by-marks t (a .marks .now)) (now' .before .loop .i) (now' .before .loop .pending) (now' .before .loop .inv .0)
           (by-target-mark t (a .marks .now) (now' .before .loop .i) (at .target .result) _ (at .target .ensures .0) (c .if1 .taken)),
       omega (arith, now' .loop-test .taken),
     )
 
-mul-left : tie.Need-mul-left Inv-loop μ-loop
-mul-left c = omega (arith, source-low (ends (c .before)))
+mul-pending : tie.Need-mul-pending Inv-loop μ-loop
+mul-pending c = omega (arith, source-low (ends (c .before)))
 
-element-copy-out-left : tie.Need-element-copy-out-left Inv-loop μ-loop
-element-copy-out-left c = source-low (ends (c .before))
+element-copy-out-pending : tie.Need-element-copy-out-pending Inv-loop μ-loop
+element-copy-out-pending c = source-low (ends (c .before))
 
-few : (c : tie.After-target Inv-loop μ-loop) → getD (turn c .before .loop .left) (c .before .source .result) 0 ≤ 3072
+few : (c : tie.After-target Inv-loop μ-loop) → getD (turn c .before .loop .pending) (c .before .source .result) 0 ≤ 3072
 few at =
     let now' = turn at in
     let a = start now' .args in
     let t = decode (a .table .now) in
     omega (
       arith,
-      opened-few t (by-marks t (a .marks .now)) (now' .before .loop .i) (now' .before .loop .left) (now' .before .loop .inv .0)
+      opened-few t (by-marks t (a .marks .now)) (now' .before .loop .i) (now' .before .loop .pending) (now' .before .loop .inv .0)
           (at .before .source .result) (source-low at),
       is-arc now',
       size now' .arcs,
     )
 
-add-left : tie.Need-add-left Inv-loop μ-loop
-add-left c = omega (arith, few (ends (c .before .before)))
+add-pending : tie.Need-add-pending Inv-loop μ-loop
+add-pending c = omega (arith, few (ends (c .before .before)))
 
-mul-left-2 : tie.Need-mul-left-2 Inv-loop μ-loop
-mul-left-2 c = omega (arith, source-low (ends (c .before .before)))
+mul-pending-2 : tie.Need-mul-pending-2 Inv-loop μ-loop
+mul-pending-2 c = omega (arith, source-low (ends (c .before .before)))
 
-element-write-left : tie.Need-element-write-left Inv-loop μ-loop
-element-write-left c = source-low (ends (c .before .before))
+element-write-pending : tie.Need-element-write-pending Inv-loop μ-loop
+element-write-pending c = source-low (ends (c .before .before))
 
 loop-less-2 : tie.Need-loop-less-2 Inv-loop μ-loop
 loop-less-2 c = omega (arith, turn (ends (c .before .before)) .loop-test .taken)
@@ -113,7 +113,7 @@ loop-again-2 c =
     let now' = turn at in
     let a = start now' .args in
     let t = decode (a .table .now) in (
-      opened-next t (by-marks t (a .marks .now)) (now' .before .loop .i) (now' .before .loop .left) (at .before .source .result) (now' .before .loop .inv .0)
+      opened-next t (by-marks t (a .marks .now)) (now' .before .loop .i) (now' .before .loop .pending) (at .before .source .result) (now' .before .loop .inv .0)
           (by-target-mark t (a .marks .now) (now' .before .loop .i) (at .target .result) _ (at .target .ensures .0) (c .before .if1 .left))
           (at .before .source .ensures .0)
           (source-low at),
@@ -139,11 +139,11 @@ count-open-spec =
     element-copy-out-if1
     loop-less
     loop-again
-    mul-left
-    element-copy-out-left
-    add-left
-    mul-left-2
-    element-write-left
+    mul-pending
+    element-copy-out-pending
+    add-pending
+    mul-pending-2
+    element-write-pending
     loop-less-2
     loop-again-2
     returns)

@@ -33,13 +33,13 @@ few c = omega (arith, start c .pre .1, size c .states)
 abbrev linking : tie.After-link-arcs → Entry
 linking c = c .before .before .before .before
 
-abbrev pushing : tie.After-push-shut → tie.After-link-arcs
+abbrev pushing : tie.After-push-ready → tie.After-link-arcs
 pushing c = c .before .before .before .before
 
-abbrev stacked : tie.After-stack2 → tie.After-push-shut
+abbrev stacked : tie.After-stack2 → tie.After-push-ready
 stacked c = c .before .before .before .before .before
 
-abbrev counting : tie.After-count-all → tie.After-push-shut
+abbrev counting : tie.After-count-all → tie.After-push-ready
 counting c = stacked (c .before)
 
 abbrev asking : tie.After-all-marked → tie.After-count-all
@@ -50,8 +50,8 @@ link-arcs-requires c κs =
     let pre = start (c .before .before .before) .pre in
     (pre .0, pre .2, refl, length-replicate {A = ℕ} 3072 0, refl)
 
-push-shut-requires : tie.Need-push-shut-requires
-push-shut-requires c κs = (few (linking (c .before .before .before)), length-replicate {A = ℕ} 1024 0)
+push-ready-requires : tie.Need-push-ready-requires
+push-ready-requires c κs = (few (linking (c .before .before .before)), length-replicate {A = ℕ} 1024 0)
 
 count-all-requires : tie.Need-count-all-requires
 count-all-requires c κs =
@@ -62,12 +62,12 @@ count-all-requires c κs =
     let pre = start e .pre in
     let t = decode (a .table .now) in
     let left = linked .link-arcs .last .1 .1 .1 .1 .1 .0 in
-    let stack = put .push-shut .last .1 .1 .1 .0 in (
+    let stack = put .push-ready .last .1 .1 .1 .0 in (
       pre .0 .accepted,
       linked .link-arcs .ensures .0,
-      underway-first t (size e) left stack (put .push-shut .result) (a .empty) (pre .4)
+      underway-first t (size e) left stack (put .push-ready .result) (a .empty) (pre .4)
           (opened-all t (by-marks t (replicate 1024 false)) (a .arcs) left (pre .2) (linked .link-arcs .ensures .1))
-          (stacked-all t (a .states) (replicate 1024 false) left stack (put .push-shut .result) (pre .1) (put .push-shut .ensures)),
+          (stacked-all t (a .states) (replicate 1024 false) left stack (put .push-ready .result) (pre .1) (put .push-ready .ensures)),
     )
 
 all-marked-requires : tie.Need-all-marked-requires
@@ -94,4 +94,4 @@ returns-2 c = c .counts-with-cycles .ensures
 pub counts-of-spec : {M : Type 1} → statement M
 counts-of-spec =
     tie.close
-    (tie.spec link-arcs-requires push-shut-requires count-all-requires all-marked-requires returns counts-with-cycles-requires returns-2)
+    (tie.spec link-arcs-requires push-ready-requires count-all-requires all-marked-requires returns counts-with-cycles-requires returns-2)

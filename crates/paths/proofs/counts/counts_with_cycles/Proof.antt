@@ -6,8 +6,8 @@ use lib.ListN.{length-replicate}
 use borrow.Author.Tests.{not-true}
 use Rattle.wire.specs.Bytes.{Bytes}
 use Rattle.transducer.specs.Format.{decode, head-finals}
-use Rattle.tally.specs.Marks.{marked}
-use Rattle.tally.specs.Marks.{With-dead}
+use Rattle.capped.specs.Marks.{marked}
+use Rattle.capped.specs.Marks.{With-dead}
 use Rattle.paths.specs.Counting.{by-marks}
 use Rattle.paths.proofs.Ready.{Sized, sized}
 use Rattle.paths.proofs.Counting.{opened-all, stacked-all}
@@ -47,10 +47,10 @@ live c = asked (c .before .before .before .before)
 abbrev opening : tie.After-count-open → tie.After-mark-dead
 opening c = c .before .before .before
 
-abbrev pushing : tie.After-push-shut → tie.After-count-open
+abbrev pushing : tie.After-push-ready → tie.After-count-open
 pushing c = c .before .before .before .before
 
-abbrev counting : tie.After-count-all → tie.After-push-shut
+abbrev counting : tie.After-count-all → tie.After-push-ready
 counting c = c .before .before .before .before
 
 with-dead : (c : tie.After-mark-dead) →
@@ -91,8 +91,8 @@ mark-dead-requires c κs = let e = asked (c .before .before .before) .before in 
 count-open-requires : tie.Need-count-open-requires
 count-open-requires c κs = let e = live (c .before .before) .before in (start e .pre .0, start e .pre .2, refl)
 
-push-shut-requires : tie.Need-push-shut-requires
-push-shut-requires c κs = (few (live (opening (c .before .before .before)) .before), length-replicate {A = ℕ} 1024 0)
+push-ready-requires : tie.Need-push-ready-requires
+push-ready-requires c κs = (few (live (opening (c .before .before .before)) .before), length-replicate {A = ℕ} 1024 0)
 
 count-all-requires : tie.Need-count-all-requires
 count-all-requires c κs =
@@ -104,13 +104,13 @@ count-all-requires c κs =
     let t = decode (a .table .now) in
     let ms = marks .mark-dead .last .1 .1 .0 in
     let left = opened .count-open .last .1 .1 .1 .1 .0 in
-    let stack = put .push-shut .last .1 .1 .1 .0 in (
+    let stack = put .push-ready .last .1 .1 .1 .0 in (
       start e .pre .0 .accepted,
       start e .pre .4,
       underway-dead t (size e) (live marks .coaccessible-chained .result) (a .marks .now) ms (a .parts) (live marks .coaccessible-chained .ensures)
-          (start e .pre .5) (with-dead marks) left stack (put .push-shut .result)
+          (start e .pre .5) (with-dead marks) left stack (put .push-ready .result)
           (opened-all t (by-marks t ms) (a .arcs) left (start e .pre .2) (opened .count-open .ensures))
-          (stacked-all t (a .states) ms left stack (put .push-shut .result) (start e .pre .1) (put .push-shut .ensures)),
+          (stacked-all t (a .states) ms left stack (put .push-ready .result) (start e .pre .1) (put .push-ready .ensures)),
     )
 
 element-copy-out-counted-2 : tie.Need-element-copy-out-counted-2
@@ -138,7 +138,7 @@ counts-with-cycles-spec =
     returns
     mark-dead-requires
     count-open-requires
-    push-shut-requires
+    push-ready-requires
     count-all-requires
     element-copy-out-counted-2
     returns-2)

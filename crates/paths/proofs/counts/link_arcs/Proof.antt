@@ -79,28 +79,28 @@ mul-next-2 c = omega (arith, few (c .before))
 element-write-next : tie.Need-element-write-next Inv-loop μ-loop
 element-write-next c = omega (arith, few (c .before))
 
-mul-left : tie.Need-mul-left Inv-loop μ-loop
-mul-left c = omega (arith, source-low (c .before))
+mul-pending : tie.Need-mul-pending Inv-loop μ-loop
+mul-pending c = omega (arith, source-low (c .before))
 
-element-copy-out-left : tie.Need-element-copy-out-left Inv-loop μ-loop
-element-copy-out-left c = omega (arith, source-low (c .before))
+element-copy-out-pending : tie.Need-element-copy-out-pending Inv-loop μ-loop
+element-copy-out-pending c = omega (arith, source-low (c .before))
 
-add-left : tie.Need-add-left Inv-loop μ-loop
-add-left c =
+add-pending : tie.Need-add-pending Inv-loop μ-loop
+add-pending c =
     let h = at (c .before .before) in
     let t = decode (start h .args .table .now) in
     omega (
       arith,
       few (c .before .before),
-      opened-few t (by-marks t (replicate 1024 false)) (h .loop .i) (h .loop .left) (h .loop .inv .2) (c .before .before .before .source .result)
+      opened-few t (by-marks t (replicate 1024 false)) (h .loop .i) (h .loop .pending) (h .loop .inv .2) (c .before .before .before .source .result)
           (source-low (c .before .before)),
     )
 
-mul-left-2 : tie.Need-mul-left-2 Inv-loop μ-loop
-mul-left-2 c = omega (arith, source-low (c .before .before))
+mul-pending-2 : tie.Need-mul-pending-2 Inv-loop μ-loop
+mul-pending-2 c = omega (arith, source-low (c .before .before))
 
-element-write-left : tie.Need-element-write-left Inv-loop μ-loop
-element-write-left c = omega (arith, source-low (c .before .before))
+element-write-pending : tie.Need-element-write-pending Inv-loop μ-loop
+element-write-pending c = omega (arith, source-low (c .before .before))
 
 add-i : tie.Need-add-i Inv-loop μ-loop
 add-i c = omega (arith, few (c .before .before))
@@ -126,7 +126,7 @@ loop-again c =
       omega (arith, here .before .before .loop-test .taken),
       rw (c .cell-of .ensures)
           (chaining-next (here .target .result) (from .result) (few here) (target-low here) (here .target .ensures .0) (from .ensures .0) (h .loop .inv .1)),
-      opened-next t (by-marks t (replicate 1024 false)) (h .loop .i) (h .loop .left) (from .result) (h .loop .inv .2) (none-done t (h .loop .i))
+      opened-next t (by-marks t (replicate 1024 false)) (h .loop .i) (h .loop .pending) (from .result) (h .loop .inv .2) (none-done t (h .loop .i))
           (from .ensures .0) (source-low here),
     )
 
@@ -149,11 +149,11 @@ link-arcs-spec =
     element-copy-out-next
     mul-next-2
     element-write-next
-    mul-left
-    element-copy-out-left
-    add-left
-    mul-left-2
-    element-write-left
+    mul-pending
+    element-copy-out-pending
+    add-pending
+    mul-pending-2
+    element-write-pending
     add-i
     cell-of-requires
     mul-heads

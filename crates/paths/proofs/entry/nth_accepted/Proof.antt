@@ -1,4 +1,5 @@
--- `nth-endless`, `nth-none` and `nth-found` say what is answered in each case; what the calls ask for is what was prepared, and `found` has what is told of the path.
+-- `nth-endless`, `nth-none` and `nth-found` say what is answered in each case; what the calls ask for is what was prepared, and `found` has what is told of
+-- the path.
 use borrow.Author.Needs.{needs}
 use mathlib.Core.Path.{_≡_, refl, sym, _∙_}
 use mathlib.Core.Bool.{false}
@@ -59,26 +60,26 @@ there c =
     omega arith
 
 -- The path that was walked.
-abbrev walking : tie.After-walk → tie.Else2
+abbrev walking : tie.After-nth-arcs → tie.Else2
 walking c = c .before .before .before .before
 
-abbrev walk-of : tie.After-tell-arg2 → tie.After-walk
+abbrev walk-of : tie.After-tell-arg2 → tie.After-nth-arcs
 walk-of c = c .before .before .before .before .before
 
 abbrev tell-of : tie.After-slice-known4 → tie.After-tell
 tell-of c = c .before .before
 
-abbrev walked : tie.After-walk → List ℕ
-walked c = c .walk .last .1 .1 .1 .1 .1 .1 .1 .1 .0
+abbrev walked : tie.After-nth-arcs → List ℕ
+walked c = c .nth-arcs .last .1 .1 .1 .1 .1 .1 .1 .1 .0
 
-path : (c : tie.After-walk)
-    → Found (decode (start-of (tested (walking c)) .args .table .now)) (start-of (tested (walking c)) .args .k) (c .walk .result) (walked c)
+path : (c : tie.After-nth-arcs)
+    → Found (decode (start-of (tested (walking c)) .args .table .now)) (start-of (tested (walking c)) .args .k) (c .nth-arcs .result) (walked c)
 path c =
     let at = walking c in
     let made = prepared (tested at) in
     let a = entry made .args in
-    found (decode (a .table .now)) (size made) (a .k) (c .walk .result) (a .arcs .now) (walked c) (finite (not-endless (at .before))) (there at)
-    (entry made .pre .1) (c .walk .ensures .0) (c .walk .ensures .1)
+    found (decode (a .table .now)) (size made) (a .k) (c .nth-arcs .result) (a .arcs .now) (walked c) (finite (not-endless (at .before))) (there at)
+    (entry made .pre .1) (c .nth-arcs .ensures .0) (c .nth-arcs .ensures .1)
 
 prepare-requires : tie.Need-prepare-requires
 prepare-requires c κs = (c .before .before .before .before .before .pre .0, refl, refl)
@@ -117,8 +118,8 @@ returns-2 c =
     let is : at-state (asked .counts-by-state .result .counts) begin ≡ path-count (decode (a .table .now)) = counted at in
     nth-none (a .table .now) (a .k) (asked .counts-by-state .ensures .endless-is) (at .if1 .left) (omega arith) (c .refused2 .ensures)
 
-walk-requires : tie.Need-walk-requires
-walk-requires c κs =
+nth-arcs-requires : tie.Need-nth-arcs-requires
+nth-arcs-requires c κs =
     let at = c .before .before .before in
     let asked = tested at in
     let known = prepared asked .prepare .ensures in (
@@ -152,7 +153,7 @@ returns-3 c =
     let asked = tested at in
     let a = start-of asked .args in
     nth-found (a .table .now) (a .k) (asked .counts-by-state .ensures .endless-is) (not-endless (at .before) .if1 .left) (there at)
-    (told .walk .ensures .0) (path told) (tell-of c .tell .ensures)
+    (told .nth-arcs .ensures .0) (path told) (tell-of c .tell .ensures)
 
 pub nth-accepted-spec : {M : Type 1} → statement M
 nth-accepted-spec =
@@ -166,7 +167,7 @@ nth-accepted-spec =
     cast-if2
     refused-requires-2
     returns-2
-    walk-requires
+    nth-arcs-requires
     tell-requires
     same-length
     same-length-2

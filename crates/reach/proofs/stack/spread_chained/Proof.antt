@@ -26,15 +26,15 @@ push-marked-requires c κs =
     let e = c .before .before in
     (omega (arith, start e .pre .1, size e .states), start e .pre .3, refl)
 
-empty-requires : tie.Need-empty-requires
-empty-requires c κs =
+drain-stack-requires : tie.Need-drain-stack-requires
+drain-stack-requires c κs =
     let pushed = c .before .before in
     let e = pushed .before .before .before in
     let pre = start e .pre in
     (pre .0, pre .2, waiting-first (size e) (start e .args .back) (pre .1) (pre .3) (pushed .push-marked .ensures))
 
 returns : tie.Need-returns
-returns c = c .empty .ensures
+returns c = c .drain-stack .ensures
 
 pub spread-chained-spec : {M : Type 1} → statement M
-spread-chained-spec = tie.close (tie.spec push-marked-requires empty-requires returns)
+spread-chained-spec = tie.close (tie.spec push-marked-requires drain-stack-requires returns)

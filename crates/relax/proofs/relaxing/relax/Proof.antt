@@ -14,7 +14,7 @@ use Rattle.transducer.specs.Format.{max-states, decode}
 use Rattle.transducer.specs.Weight.{Weight, Below}
 use Rattle.reach.proofs.Sized.{Sized, sized}
 use Rattle.relax.specs.Size.{nearer}
-use Rattle.relax.specs.Nearest.{unpacked, cost-at, by-state, longer}
+use Rattle.relax.specs.Tentative.{unpacked, cost-at, by-state, longer}
 use Rattle.relax.proofs.Bounds.{cell-fits, cell-back, cell-most, weight-back, read-good, onward-back}
 use Rattle.relax.proofs.Packed.{unpack-longer}
 use Rattle.relax.proofs.Relaxed.{relaxed-states, relaxed-dearer, Relaxes, relaxes}

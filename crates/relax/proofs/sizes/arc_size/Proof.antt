@@ -2,7 +2,7 @@
 use mathlib.Core.Path.{refl}
 use native.Mathlib.Omega.{arith}
 use borrow.Author.Tests.{eq-eqb, ne-eqb}
-use Rattle.relax.specs.Nearest.{labels-of}
+use Rattle.relax.specs.Tentative.{labels-of}
 use Rattle.relax.proofs.sizes.arc_size.Statement.{statement}
 use Rattle.relax.proofs.sizes.arc_size.Tie as tie
 

@@ -1,7 +1,7 @@
 -- The lower half.
 use native.Mathlib.Omega.{arith}
 use lib.Bits.{and-mask}
-use Rattle.relax.specs.Nearest.{unpacked}
+use Rattle.relax.specs.Tentative.{unpacked}
 use Rattle.relax.proofs.sizes.arcs_of.Statement.{statement}
 use Rattle.relax.proofs.sizes.arcs_of.Tie as tie
 

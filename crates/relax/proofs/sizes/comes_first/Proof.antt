@@ -5,7 +5,7 @@ use native.Mathlib.Omega.{arith}
 use Rattle.wire.proofs.Ints.{bits}
 use Rattle.transducer.specs.Weight.{at-most, below}
 use Rattle.relax.specs.Size.{nearer}
-use Rattle.relax.specs.Nearest.{unpacked}
+use Rattle.relax.specs.Tentative.{unpacked}
 use Rattle.relax.proofs.Packed.{pair-order}
 use Rattle.relax.proofs.sizes.comes_first.Statement.{statement}
 use Rattle.relax.proofs.sizes.comes_first.Tie as tie

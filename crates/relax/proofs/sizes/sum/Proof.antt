@@ -8,7 +8,7 @@ use mir.Facts.{toZ-ofZ}
 use Rattle.wire.proofs.Ints.{bits, sum, size}
 use Rattle.transducer.specs.Weight.{plus, below}
 use Rattle.transducer.proofs.Weights.{good-range}
-use Rattle.relax.specs.Nearest.{unreached, onward}
+use Rattle.relax.specs.Tentative.{unreached, onward}
 use Rattle.relax.proofs.sizes.sum.Statement.{statement}
 use Rattle.relax.proofs.sizes.sum.Tie as tie
 

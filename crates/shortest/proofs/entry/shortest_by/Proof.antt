@@ -16,8 +16,8 @@ use Rattle.transducer.specs.Weight.{Weight, At-most, Below}
 use Rattle.transducer.specs.Format.{refusal, decode}
 use Rattle.transducer.specs.Path.{path-cost}
 use Rattle.reach.proofs.Sized.{Sized, sized}
-use Rattle.tell.proofs.Telling.{tells-by}
-use Rattle.relax.specs.Nearest.{Sizes, unreached, cost-at, by-state}
+use Rattle.report.proofs.Telling.{tells-by}
+use Rattle.relax.specs.Tentative.{Sizes, unreached, cost-at, by-state}
 use Rattle.relax.proofs.Bounds.{cell-fits}
 use Rattle.shortest.specs.Tight.{first-tight, follow}
 use Rattle.shortest.proofs.Answers.{Found, found, found-costs, Stored, stored, stored-costs, shortest-none, shortest-falls, shortest-told}
@@ -115,21 +115,21 @@ costs-of c =
     found-costs (decode (start-of at .args .table .now)) (size (entry-of at)) (costs at) (lens at) (begin at) (len c) (at .distances .ensures)
     (settled-at (on-of (told-cost c))) (shape at .begin .ensures .shaped .start-is) (there (told-cost c)) (c .arcs-of .ensures)
 
-abbrev walking : tie.After-walk → Measured
+abbrev walking : tie.After-follow → Measured
 walking c = c .before .before .before .before
 
-abbrev walk-of : tie.After-put-labels-arg2 → tie.After-walk
+abbrev walk-of : tie.After-put-labels-arg2 → tie.After-follow
 walk-of c = c .before .before .before .before
 
-abbrev known-at : tie.After-walk → tie.After-distances
+abbrev known-at : tie.After-follow → tie.After-distances
 known-at c = measured-at (walking c)
 
-put : (c : tie.After-walk) → Stored (decode (start-of (known-at c) .args .table .now)) (len (walking c)) (c .walk .last .1 .1 .1 .1 .1 .1 .1 .1 .0)
+put : (c : tie.After-follow) → Stored (decode (start-of (known-at c) .args .table .now)) (len (walking c)) (c .follow .last .1 .1 .1 .1 .1 .1 .1 .1 .0)
 put c =
     let at = known-at c in
     let a = start-of at .args in
-    stored (decode (a .table .now)) (firsts at) (begin at) (len (walking c)) (a .arcs .now) (c .walk .last .1 .1 .1 .1 .1 .1 .1 .1 .0)
-    (path (walking c)) (start-of at .pre .4) (c .walk .ensures)
+    stored (decode (a .table .now)) (firsts at) (begin at) (len (walking c)) (a .arcs .now) (c .follow .last .1 .1 .1 .1 .1 .1 .1 .1 .0)
+    (path (walking c)) (start-of at .pre .4) (c .follow .ensures)
 
 begin-requires : tie.Need-begin-requires
 begin-requires c κs = let from = begun-at c .before in (accepted from, from .pre .2)
@@ -190,8 +190,8 @@ slice-read-arcs-of c = let at = distances-of (c .before) in omega (arith, is-sta
 arcs-of-requires : tie.Need-arcs-of-requires
 arcs-of-requires c κs = tt
 
-walk-requires : tie.Need-walk-requires
-walk-requires c κs =
+follow-requires : tie.Need-follow-requires
+follow-requires c κs =
     let at = c .before .before .before in
     let known = shape (measured-at at) .begin .ensures in (
       known .shaped .opened,
@@ -243,7 +243,7 @@ returns-3 c =
     let t = decode (from .args .table .now) in
     let cost = cost-at (costs at) (begin at) in
     let costs' = ap (λ (z : Weight). toZ w64 (ofZ w64 z)) (toZ-ofZ (cost-fits at)) ∙ toZ-ofZ (wider cost (cost-fits at)) in
-    shortest-told (from .args .table .now) (from .pre .4) (path (walking walked)) (walked .walk .ensures)
+    shortest-told (from .args .table .now) (from .pre .4) (path (walking walked)) (walked .follow .ensures)
     (rw (c .answer .ensures)
     (tells-by t _ _ (len (walking walked)) (costs' ∙ stored-costs t (put walked) (path (walking walked)) (costs-of (walking walked))) (sym (put walked .long))
     (wrote .put-labels .ensures)))
@@ -267,7 +267,7 @@ shortest-by-spec =
     mul-arcs-of
     slice-read-arcs-of
     arcs-of-requires
-    walk-requires
+    follow-requires
     put-labels-requires
     cast-answer
     answer-requires

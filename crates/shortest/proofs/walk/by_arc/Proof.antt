@@ -9,7 +9,7 @@ use Rattle.wire.specs.Bytes.{Bytes}
 use Rattle.transducer.specs.declared.Arc.{Arc}
 use Rattle.transducer.specs.Format.{max-states, decode}
 use Rattle.reach.proofs.Sized.{Sized, sized}
-use Rattle.relax.specs.Nearest.{unpacked, by-state, longer, size-by}
+use Rattle.relax.specs.Tentative.{unpacked, by-state, longer, size-by}
 use Rattle.relax.proofs.Bounds.{cell-back, cell-most, weight-back, read-good, sum-by-arc}
 use Rattle.relax.proofs.Packed.{unpack-longer}
 use Rattle.shortest.proofs.walk.by_arc.Statement.{statement}

@@ -12,7 +12,7 @@ use Rattle.transducer.specs.Format.{decode}
 use Rattle.transducer.specs.Weight.{Weight}
 use Rattle.reach.proofs.Sized.{Sized, sized}
 use Rattle.relax.specs.Size.{Size, nearer}
-use Rattle.relax.specs.Nearest.{unpacked, cost-at, by-state}
+use Rattle.relax.specs.Tentative.{unpacked, cost-at, by-state}
 use Rattle.relax.proofs.Bounds.{cell-back}
 use Rattle.shortest.proofs.Tight.{Seeking, seeking-first, seeking-here, seeking-next, seeking-stop}
 use Rattle.shortest.proofs.walk.first_giving.Statement.{statement}

@@ -8,7 +8,7 @@ use Rattle.wire.specs.Bytes.{Bytes}
 use Rattle.transducer.specs.Format.{max-states, decode}
 use Rattle.reach.proofs.Sized.{Sized, sized}
 use Rattle.paths.proofs.Ready.{Range, range}
-use Rattle.relax.specs.Nearest.{cost-at, by-state}
+use Rattle.relax.specs.Tentative.{cost-at, by-state}
 use Rattle.shortest.specs.Tight.{first-tight}
 use Rattle.shortest.proofs.Tight.{giving-tight}
 use Rattle.shortest.proofs.Along.{Walked-along, walked-first, walked-arc, walked-next, walked-done}

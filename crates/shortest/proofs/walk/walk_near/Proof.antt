@@ -6,10 +6,10 @@ use native.Mathlib.Omega.{arith}
 use lib.ListN.{length}
 use Rattle.wire.specs.Bytes.{Bytes}
 use Rattle.transducer.specs.Format.{decode}
-use Rattle.transducer.specs.Leaf.{arcs-below}
+use Rattle.transducer.specs.Accepted.{arcs-below}
 use Rattle.transducer.proofs.Index.{arcs-below-length, arcs-of-state}
 use Rattle.reach.proofs.Sized.{Sized, sized}
-use Rattle.relax.specs.Nearest.{cost-at, by-state}
+use Rattle.relax.specs.Tentative.{cost-at, by-state}
 use Rattle.shortest.specs.Tight.{first-tight}
 use Rattle.shortest.proofs.Tight.{giving-tight-on}
 use Rattle.shortest.proofs.Along.{Walked-along, walked-first, walked-arc, walked-next, walked-done}

@@ -8,7 +8,7 @@ use Rattle.wire.specs.Bytes.{Bytes}
 use Rattle.transducer.specs.Format.{max-arcs, decode}
 use Rattle.steps.specs.Lookup.{Leads}
 use Rattle.steps.proofs.Links.{Along, left-of, along-first, along-none, along-in, along-found, along-next, along-less, side-reads, side-other}
-use Rattle.transducer.proofs.Opened.{opened-inside, opened-few}
+use Rattle.transducer.proofs.AcceptedAt.{opened-inside, opened-few}
 use Rattle.steps.proofs.lookup.along.Statement.{statement}
 use Rattle.steps.proofs.lookup.along.Tie as tie
 

@@ -1,10 +1,10 @@
 -- Where no arc is for any symbol nothing is looked up; else it is the look-up at that label.
-use Rattle.steps.proofs.Links.{exact-any}
+use Rattle.steps.proofs.Links.{no-any-none}
 use Rattle.steps.proofs.lookup.first_any.Statement.{statement}
 use Rattle.steps.proofs.lookup.first_any.Tie as tie
 
 returns : tie.Need-returns
-returns c = λ from leaving. exact-any (c .before .before .before .pre .3 (c .if1 .taken)) leaving
+returns c = λ from leaving. no-any-none (c .before .before .before .pre .3 (c .if1 .taken)) leaving
 
 first-reading-requires : tie.Need-first-reading-requires
 first-reading-requires c κs = let pre = c .before .before .before .pre in (pre .0, pre .1, pre .2)

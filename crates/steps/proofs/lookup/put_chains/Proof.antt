@@ -10,7 +10,7 @@ use Rattle.transducer.specs.Format.{max-arcs, decode}
 use Rattle.transducer.specs.Path.{arc}
 use Rattle.steps.specs.Lookup.{label-bucket, Leads}
 use Rattle.steps.proofs.Links.{Filling, filling-first, filling-leads, filling-next, filling-done}
-use Rattle.transducer.proofs.Opened.{opened-inside, opened-few, source-in-place, input-in-place}
+use Rattle.transducer.proofs.AcceptedAt.{opened-inside, opened-few, source-in-place, input-in-place}
 use Rattle.steps.proofs.lookup.put_chains.Statement.{statement}
 use Rattle.steps.proofs.lookup.put_chains.Tie as tie
 
@@ -33,7 +33,8 @@ is-bytes : (c : tie.In-loop Inv-loop μ-loop) → Bytes (start c .args .right .n
 is-bytes c = λ i. omega (arith, c .before .before .before .before .shared-slice-known .given i)
 
 filled : (c : tie.In-loop Inv-loop μ-loop)
-    → Filling (decode (start c .args .right .now)) (suc (c .before .loop .left - 1)) (c .before .loop .heads) (c .before .loop .chain) (c .before .loop .again)
+    → Filling (decode (start c .args .right .now)) (suc (c .before .loop .left - 1)) (c .before .loop .heads) (c .before .loop .chain)
+    (c .before .loop .next-same-label)
 filled c =
     let is : suc (c .before .loop .left - 1) ≡ c .before .loop .left = omega (arith, c .loop-test .taken) in
     rw is (c .before .loop .inv .0)
@@ -53,7 +54,7 @@ loop-holds c =
     let s = c .before .before .before in
     let a = s .args in
     let bytes : Bytes (a .right .now) = λ i. omega (arith, c .before .before .shared-slice-known .given i) in (
-      filling-first (decode (a .right .now)) (a .arcs) (a .heads .now) (a .chain .now) (a .again .now) (s .pre .1)
+      filling-first (decode (a .right .now)) (a .arcs) (a .heads .now) (a .chain .now) (a .next-same-label .now) (s .pre .1)
           (opened-few (a .right .now) bytes (a .rfirst) (s .pre .0)) (s .pre .2) (omega (arith, s .pre .1, s .pre .3)) (omega (arith, s .pre .1, s .pre .4)),
       refl,
       refl,
@@ -121,11 +122,11 @@ leads c =
 along-requires : tie.Need-along-requires Inv-loop μ-loop
 along-requires c κs = let k = c .before .before in (start (turn k) .pre .0, (suc (turn k .before .loop .left - 1), leads k))
 
-mul-again : tie.Need-mul-again Inv-loop μ-loop
-mul-again c = omega (arith, few (turn (c .before .before .before)))
+mul-next-same-label : tie.Need-mul-next-same-label Inv-loop μ-loop
+mul-next-same-label c = omega (arith, few (turn (c .before .before .before)))
 
-slice-write-again : tie.Need-slice-write-again Inv-loop μ-loop
-slice-write-again c = omega (arith, few (turn (c .before .before .before)), turn (c .before .before .before) .loop-test .taken)
+slice-write-next-same-label : tie.Need-slice-write-next-same-label Inv-loop μ-loop
+slice-write-next-same-label c = omega (arith, few (turn (c .before .before .before)), turn (c .before .before .before) .loop-test .taken)
 
 mul-chain : tie.Need-mul-chain Inv-loop μ-loop
 mul-chain c = omega (arith, few (turn (c .before .before .before)))
@@ -153,7 +154,7 @@ loop-again c =
       filling-next (filled t) (k .label-bucket .result) (t .before .loop .left) (c .along .result) (rw (source, label) (k .label-bucket .ensures .0))
           (k .label-bucket .ensures .1) (omega (arith, t .loop-test .taken)) (rw (source, label) (c .along .ensures (suc j) (leads k))),
       length-set (t .before .loop .chain) j _ ∙ t .before .loop .inv .1,
-      length-set (t .before .loop .again) j _ ∙ t .before .loop .inv .2,
+      length-set (t .before .loop .next-same-label) j _ ∙ t .before .loop .inv .2,
     )
 
 same-length : tie.Need-same-length Inv-loop μ-loop
@@ -184,8 +185,8 @@ put-chains-spec =
     mul-head
     element-copy-out-head
     along-requires
-    mul-again
-    slice-write-again
+    mul-next-same-label
+    slice-write-next-same-label
     mul-chain
     slice-write-chain
     mul-heads

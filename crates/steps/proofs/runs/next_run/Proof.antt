@@ -7,8 +7,8 @@ use Rattle.wire.specs.Bytes.{Bytes}
 use Rattle.transducer.specs.Format.{decode}
 use Rattle.transducer.specs.Path.{arc}
 use Rattle.transducer.specs.Format.{any}
-use Rattle.transducer.specs.Leaf.{Leaving}
-use Rattle.transducer.proofs.Opened.{opened-inside, output-in-place}
+use Rattle.transducer.specs.Accepted.{Leaving}
+use Rattle.transducer.proofs.AcceptedAt.{opened-inside, output-in-place}
 use Rattle.steps.specs.Runs.{fitting-from, reading-from, Fits-only}
 use Rattle.steps.proofs.Links.{named-first, wild-first, empty-first}
 use Rattle.steps.proofs.RunCode.{Seeking, seeking-alone, seeking-silent, seeking-met, seeking-unmet, seeking-stop}

@@ -7,7 +7,7 @@ use lib.ListN.{length}
 use Rattle.wire.specs.Bytes.{Bytes}
 use Rattle.transducer.specs.Format.{decode}
 use Rattle.transducer.specs.Path.{arc}
-use Rattle.transducer.proofs.Opened.{opened-inside, opened-few, input-in-place}
+use Rattle.transducer.proofs.AcceptedAt.{opened-inside, opened-few, input-in-place}
 use Rattle.steps.specs.Runs.{several, Fits-only}
 use Rattle.steps.proofs.Only.{several-fit, none-fits, one-fits}
 use Rattle.steps.proofs.runs.only_label.Statement.{statement}

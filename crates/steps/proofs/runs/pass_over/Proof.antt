@@ -7,7 +7,7 @@ use lib.ListN.{length}
 use Rattle.wire.specs.Bytes.{Bytes}
 use Rattle.transducer.specs.Format.{Transducer, decode}
 use Rattle.transducer.specs.Path.{arc}
-use Rattle.transducer.proofs.Opened.{opened-inside, output-in-place}
+use Rattle.transducer.proofs.AcceptedAt.{opened-inside, output-in-place}
 use Rattle.steps.specs.Runs.{several, Fits-only}
 use Rattle.steps.proofs.RunCode.{Seeking, seeking-first, seeking-other}
 use Rattle.steps.proofs.runs.pass_over.Statement.{statement}

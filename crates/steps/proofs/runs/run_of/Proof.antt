@@ -7,7 +7,7 @@ use mir.Syntax.{w32}
 use mir.Facts.{toZ-ofZ}
 use Rattle.wire.specs.Bytes.{Bytes}
 use Rattle.steps.specs.Runs.{run-at}
-use Rattle.transducer.proofs.Opened.{opened-few}
+use Rattle.transducer.proofs.AcceptedAt.{opened-few}
 use Rattle.steps.proofs.runs.run_of.Statement.{statement}
 use Rattle.steps.proofs.runs.run_of.Tie as tie
 

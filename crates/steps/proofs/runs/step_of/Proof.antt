@@ -9,7 +9,7 @@ use mir.Facts.{toZ-ofZ}
 use mir.Val.{SFits}
 use Rattle.wire.specs.Bytes.{Bytes}
 use Rattle.steps.specs.Runs.{run-step}
-use Rattle.transducer.proofs.Opened.{opened-few, opened-target, opened-weight}
+use Rattle.transducer.proofs.AcceptedAt.{opened-few, opened-target, opened-weight}
 use Rattle.steps.proofs.runs.step_of.Statement.{statement}
 use Rattle.steps.proofs.runs.step_of.Tie as tie
 use Rattle.transducer.specs.declared.Arc.{Arc}
@@ -85,7 +85,7 @@ pack-requires-2 c κs =
     let to = start arc .pre .2 in
     record { left = to .left; right = near arc; filter = to .filter }
 
--- The two weights, and their sum: exact in 32 bits.
+-- The two weights, and their sum: no-any in 32 bits.
 run-weight : (c : tie.After-struct-told3) → SFits w32 (start (got c) .args .run .weight)
 run-weight c = record { sfits = c .before .before .struct-told2 .given .1 .1 .1 .1 .1 .0 .1 }
 

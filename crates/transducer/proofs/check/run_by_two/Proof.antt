@@ -5,7 +5,7 @@ use native.Mathlib.Omega.{arith}
 use lib.ListN.{length}
 use Rattle.wire.specs.Bytes.{Bytes}
 use Rattle.transducer.specs.Weight.{rebate}
-use Rattle.transducer.proofs.Glance.{Run-seen, running-first, running-next, running-on, rebate-good}
+use Rattle.transducer.proofs.FastCheck.{Run-seen, running-first, running-next, running-on, rebate-good}
 use Rattle.transducer.proofs.check.run_by_two.Statement.{statement}
 use Rattle.transducer.proofs.check.run_by_two.Tie as tie
 

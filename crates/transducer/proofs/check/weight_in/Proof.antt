@@ -4,7 +4,7 @@ use Prim.Native.Nat.{_+_}
 use native.Mathlib.Omega.{arith}
 use borrow.Author.Tests.{leb-true}
 use Rattle.transducer.specs.Format.{weight-limit}
-use Rattle.transducer.proofs.Glance.{weight-within}
+use Rattle.transducer.proofs.FastCheck.{weight-within}
 use Rattle.transducer.proofs.check.weight_in.Statement.{statement}
 use Rattle.transducer.proofs.check.weight_in.Tie as tie
 

@@ -12,17 +12,17 @@ use Rattle.wire.specs.Bytes.{Bytes}
 use Rattle.wire.proofs.Bool.{or-true, or-false}
 use Rattle.transducer.specs.Format.{arc-bytes, decode}
 use Rattle.transducer.specs.Path.{arc}
-use Rattle.transducer.proofs.Opened.{opened-inside, input-in-place}
-use Rattle.transducer.proofs.Leaving.{exact-label, no-label, named-label, unnamed-label}
+use Rattle.transducer.proofs.AcceptedAt.{opened-inside, input-in-place}
+use Rattle.transducer.proofs.Leaving.{no-any-label, no-label, named-label, unnamed-label}
 use Rattle.transducer.proofs.naming.label_at.Statement.{statement}
 use Rattle.transducer.proofs.naming.label_at.Tie as tie
 
 abbrev Inv-loop : tie.InvT-loop
-Inv-loop bytes first exact from to symbol i₀ i =
+Inv-loop bytes first no-any from to symbol i₀ i =
     (from ≤ i) × ((k : ℕ) → from ≤ k → k < i → arc (decode bytes) k .input ≡ symbol → ⊥)
 
 abbrev μ-loop : tie.MeasureT-loop
-μ-loop bytes first exact from to symbol i₀ i = to - i
+μ-loop bytes first no-any from to symbol i₀ i = to - i
 
 -- Places to look back to.
 abbrev start : tie.In-loop Inv-loop μ-loop → tie.Start Inv-loop μ-loop
@@ -31,9 +31,9 @@ start c = c .before .before .before .before
 returns : tie.Need-returns Inv-loop μ-loop
 returns c =
     let s = c .before .before in
-    ⊎-elim (λ e. exact-label (decode (s .args .bytes .now)) (s .args .from) (s .args .to) (s .args .symbol) (s .pre .0 .1 e))
+    ⊎-elim (λ e. no-any-label (decode (s .args .bytes .now)) (s .args .from) (s .args .to) (s .args .symbol) (s .pre .0 .1 e))
     (λ e. no-label (decode (s .args .bytes .now)) (s .args .from) (s .args .to) (s .args .symbol) (eqb-true (s .args .symbol) 0 e))
-    (or-true (s .args .exact) (eqb (s .args .symbol) 0) (c .if1 .taken))
+    (or-true (s .args .no-any-input) (eqb (s .args .symbol) 0) (c .if1 .taken))
 
 loop-holds : tie.Need-loop-holds Inv-loop μ-loop
 loop-holds c = (omega arith, λ k l h e. omega arith)
@@ -102,7 +102,7 @@ loop-again c =
 returns-3 : tie.Need-returns-3 Inv-loop μ-loop
 returns-3 c =
     let s = c .before .before .before .before in
-    let tests = or-false (s .args .exact) (eqb (s .args .symbol) 0) (c .before .before .if1 .left) in
+    let tests = or-false (s .args .no-any-input) (eqb (s .args .symbol) 0) (c .before .before .if1 .left) in
     unnamed-label (decode (s .args .bytes .now)) (s .args .from) (s .args .to) (s .args .symbol) (s .pre .1 .1) (eqb-false (s .args .symbol) 0 (tests .1))
     (λ i l h. c .before .loop .inv .1 i l (omega (arith, c .loop-test .left)))
 

@@ -7,7 +7,7 @@ use native.Mathlib.Omega.{arith}
 use lib.ListN.{length}
 use Rattle.wire.specs.Bytes.{Bytes}
 use Rattle.transducer.specs.Format.{max-states, max-arcs, arc-bytes, arcs-at, decode}
-use Rattle.transducer.specs.Leaf.{Opened}
+use Rattle.transducer.specs.Accepted.{Accepted-at}
 use Rattle.transducer.proofs.Headed.{Headed, headed, headed-opened, head-inside}
 use Rattle.trim.proofs.Running.{index-no, index-yes}
 use Rattle.trim.specs.Trim.{arc-useful, moved}
@@ -80,7 +80,7 @@ is-bytes c = λ i. omega (arith, c .shared-slice-known .given i)
 head-is : (c : tie.After-header) → Headed (bytes-of c) (c .header .result)
 head-is c = headed (bytes-of c) (is-bytes (lent (c .before))) (start c .pre .0) (c .header .result) (c .header .ensures)
 
-is-opened : (c : tie.After-arcs-at) → Opened (bytes-of (at-header (c .before))) (c .arcs-at .result)
+is-opened : (c : tie.After-arcs-at) → Accepted-at (bytes-of (at-header (c .before))) (c .arcs-at .result)
 is-opened c = let h = at-header (c .before) in headed-opened (bytes-of h) (h .header .result) (c .arcs-at .result) (head-is h) (c .arcs-at .ensures)
 
 start-small : (c : tie.After-header) → c .header .result .start < max-states
