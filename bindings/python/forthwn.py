@@ -87,7 +87,8 @@ _WEIGHT, _WEIGHT_CODE, _COST = ctypes.c_int32, "i", ctypes.c_int64
 
 
 class Refusal(Exception):
-    """Why a call was refused: the lowest number whose condition holds, its name, which is that of the C header without FORTHWN_, and words.
+    """Why a call was refused: the first number whose condition holds, in the order in which the call tests, its name, which is that of the C header
+    without FORTHWN_, and words.
 
     >>> refusal = Refusal(14)
     >>> refusal.number, refusal.name, refusal.words

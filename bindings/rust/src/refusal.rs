@@ -2,7 +2,8 @@
 use std::error::Error;
 use std::fmt;
 
-/// Why a call was refused: the lowest number whose condition holds. The names are those of the C header without `FORTHWN_`.
+/// Why a call was refused: the first number whose condition holds, in the order in which the call tests. The names are those of the C header without
+/// `FORTHWN_`.
 ///
 /// ```
 /// use forthwn::{Refusal, Table};
