@@ -11,3 +11,5 @@ pub mod Written
 pub mod Answers
 -- What an answer says of the paths.
 pub mod Claimed
+-- A worked row.
+pub mod Rows

@@ -38,3 +38,5 @@ pub mod Paths
 pub mod FitPaths
 pub mod Runs
 pub mod Cycles
+-- Worked rows.
+pub mod Rows
