@@ -1,4 +1,6 @@
 // The limits of paper 01, the sizes of records in bytes, and the tests of numbers against them.
+#![tactic(auto)]
+
 ghost use Rattle.std.specs.Prelude.{◌≡◌, ◌<◌};
 ghost use Rattle.bounds.specs.Bounds.{arcs_at, weight_good, labels_good, head_good, first_of};
 

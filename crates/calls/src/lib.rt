@@ -1,5 +1,7 @@
 // The calls of the limit cases, each with dirty buffers: what it gets stands in the bytes of a case, and what it answers and leaves is printed.
 // Those of the shortest path and of costs to come stand in the program.
+#![tactic(auto)]
+
 mod composing;
 mod latticing;
 mod lent;

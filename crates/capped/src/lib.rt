@@ -1,4 +1,6 @@
 // Counts of paths that stop at 99, and marks of counted and live states.
+#![tactic(auto)]
+
 mod capped;
 mod marks;
 

@@ -1,5 +1,7 @@
 // The listing of a cascade as text: a string applied to the left transducer first, its lattice composed with the right one, and a line for each accepting
 // path of the result. specs/PrintedCascade.antt says what is claimed of the text.
+#![tactic(auto)]
+
 ghost use Rattle.std.specs.Prelude.{◌≡◌, ◌≤◌, length};
 ghost use Rattle.transducer.specs.Entry.{or_else};
 ghost use Rattle.cascade.specs.Entry.{tables_refusal};

@@ -1,4 +1,6 @@
 // The single claim from bytes to paths (specs/Claim.antt, proofs/Claimed.antt), and the whole chain in one call.
+#![tactic(auto)]
+
 ghost use Rattle.claim.specs.Entry.{ReadingsSays};
 
 use paths::Counted;

@@ -1,4 +1,6 @@
 // Reading a transducer into four runs of numbers, and writing one from them.
+#![tactic(auto)]
+
 mod reading;
 mod writing;
 

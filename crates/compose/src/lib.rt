@@ -1,4 +1,6 @@
 // Composition with the epsilon-sequencing filter (paper 01: the join).
+#![tactic(auto)]
+
 mod entry;
 mod finish;
 mod walking;

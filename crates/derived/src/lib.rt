@@ -1,4 +1,6 @@
 // Tables made from a table: inverted, reversed, or without some of its arcs. Each is written to a buffer and is accepted again.
+#![tactic(auto)]
+
 mod front;
 mod invert;
 mod restrict;

@@ -1,4 +1,6 @@
 // The shortest distance to the final states: the least cost still to come from each state.
+#![tactic(auto)]
+
 mod cells;
 mod entry;
 mod near;

@@ -1,5 +1,7 @@
 // The calls for C and Rust. A slice goes as its pointer and then its length; each call says what the one behind it says. How the time of each
 // grows is argued and measured, not proved (docs/reference.md); testing the bytes handed in, which each call begins with, is linear in them.
+#![tactic(auto)]
+
 ghost use Rattle.std.specs.Prelude.{◌≡◌, length};
 ghost use Rattle.transducer.specs.Format.{refusal};
 ghost use Rattle.codec.specs.Entry.{ReadSays, read_refusal, WriteSays, write_refusal, given};

@@ -1,4 +1,6 @@
 // Applying an input string to a transducer.
+#![tactic(auto)]
+
 mod applying;
 mod packing;
 mod trimming;

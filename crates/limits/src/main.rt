@@ -1,6 +1,8 @@
 // Executes the limit cases that standard input lists, and prints a line for each. A case is the number of a call (1 byte), which lent
 // buffer is short (1 byte), the lengths of its name (2 bytes) and of what the call gets (4 bytes), and these two; little-endian.
 // tests/limits/cases.py writes the cases. They take more steps than the interpreter of `rt try` has, whose compiled runs do them all.
+#![tactic(auto)]
+
 ghost use Rattle.std.specs.Prelude.{◌<◌, length};
 
 mod telling;

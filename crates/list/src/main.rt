@@ -1,4 +1,6 @@
 // Prints the listing of left.tab, right.tab and code.lab of the current folder.
+#![tactic(auto)]
+
 ghost use Rattle.io.specs.Counts.{IsPrefixLen};
 
 // A file is read up to this many bytes.

@@ -1,4 +1,6 @@
 // The listing: a text of the accepting paths.
+#![tactic(auto)]
+
 mod code;
 mod entry;
 mod lines;

@@ -1,5 +1,7 @@
 // A string looked up on a transducer: whether it is read, by how many paths, and at what least cost. The transducer's bytes are accepted before the call,
 // so that many strings can be looked up without validating them again; the lattice is never validated.
+#![tactic(auto)]
+
 ghost use Rattle.std.specs.Prelude.{◌≡◌, length};
 ghost use Rattle.transducer.specs.Format.{decode};
 ghost use Rattle.transducer.specs.Weight.{no_weight};

@@ -1,4 +1,6 @@
 // Accepting paths: their count, and the k-th path.
+#![tactic(auto)]
+
 mod counts;
 mod entry;
 mod path;

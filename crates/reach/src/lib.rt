@@ -1,4 +1,6 @@
 // The states that paths reach, and the arcs by their targets.
+#![tactic(auto)]
+
 mod arcs;
 mod cells;
 mod index;

@@ -1,4 +1,6 @@
 // By state, the least cost to come and the size of a path that has it, on their way: what is known first, and one arc relaxed.
+#![tactic(auto)]
+
 mod begun;
 mod relaxing;
 mod sizes;

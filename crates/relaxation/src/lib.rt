@@ -1,4 +1,6 @@
 // Arcs relaxed until none makes a state better: by a sweep, and by a queue where that does not settle all.
+#![tactic(auto)]
+
 mod queue;
 mod seek;
 mod sweep;

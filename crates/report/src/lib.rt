@@ -1,4 +1,6 @@
 // A path told: its cost, how many arcs and labels it has, and its labels.
+#![tactic(auto)]
+
 mod path;
 
 pub use path::{answer, put_labels, refused, tell};

@@ -1,4 +1,6 @@
 // The shortest path: the accepting path of least cost, then fewest labels written, then fewest arcs, then first in path order.
+#![tactic(auto)]
+
 mod entry;
 mod walk;
 

@@ -1,5 +1,7 @@
 // The steps of a composed state, by the epsilon-sequencing filter (paper 01: what comes from a triple): packed states, the right arcs by
 // look-up, and steps in runs.
+#![tactic(auto)]
+
 mod keys;
 mod lookup;
 mod runs;

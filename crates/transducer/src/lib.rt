@@ -1,4 +1,6 @@
 // A weighted transducer's bytes: refusals 1 to 8, arcs and finals read straight from accepted bytes, and records written.
+#![tactic(auto)]
+
 ghost use Rattle.std.specs.Prelude.{◌≡◌};
 
 mod accepted;

@@ -1,4 +1,6 @@
 // Trimming: what lies on accepting paths.
+#![tactic(auto)]
+
 mod renumber;
 mod trimming;
 
