@@ -18,7 +18,7 @@ ANY = re.compile(r"(?<![\w'\u25cc-])[A-Za-z_][\w']*(?:-[\w']+)*(?![\w'\u25cc-])"
 
 def files(root, ends, top="crates"):
     for folder, dirs, names in os.walk(os.path.join(root, top)):
-        dirs[:] = sorted(d for d in dirs if d not in ("out", ".git", "target", "__pycache__"))
+        dirs[:] = sorted(d for d in dirs if d not in ("out", ".git", "__pycache__"))
         for name in sorted(names):
             if name.endswith(ends):
                 yield os.path.join(folder, name)

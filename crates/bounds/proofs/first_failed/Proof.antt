@@ -3,37 +3,44 @@ use Rattle.bounds.specs.Bounds.{first_of}
 use Rattle.bounds.proofs.first_failed.Statement.{statement}
 use Rattle.bounds.proofs.first_failed.Tie as tie
 
-returns : tie.Need-returns
+returns-then-not-states : tie.Need-returns-then-not-states
 unfolding first_of
-returns c = rw c.if1.true
+returns-then-not-states c = rw c.if-not-states.true
 
-returns_2 : tie.Need-returns-2
+returns-then-not-order : tie.Need-returns-then-not-order
 unfolding first_of
-returns_2 c = rw (c.before.if1.false, c.if2.true)
+returns-then-not-order c = rw (c.before.if-not-states.false, c.if-not-order.true)
 
-returns_3 : tie.Need-returns-3
+returns-then-not-labels : tie.Need-returns-then-not-labels
 unfolding first_of
-returns_3 c = rw (c.before.before.if1.false, c.before.if2.false, c.if3.true)
+returns-then-not-labels c = rw (c.before.before.if-not-states.false, c.before.if-not-order.false, c.if-not-labels.true)
 
-returns_4 : tie.Need-returns-4
+returns-then-not-weights : tie.Need-returns-then-not-weights
 unfolding first_of
-returns_4 c =
+returns-then-not-weights c =
     rw (
-      c.before.before.before.if1.false,
-      c.before.before.if2.false,
-      c.before.if3.false,
-      c.if4.true,
+      c.before.before.before.if-not-states.false,
+      c.before.before.if-not-order.false,
+      c.before.if-not-labels.false,
+      c.if-not-weights.true,
     )
 
-returns_5 : tie.Need-returns-5
+returns : tie.Need-returns
 unfolding first_of
-returns_5 c =
+returns c =
     rw (
-      c.before.before.before.if1.false,
-      c.before.before.if2.false,
-      c.before.if3.false,
-      c.if4.false,
+      c.before.before.before.if-not-states.false,
+      c.before.before.if-not-order.false,
+      c.before.if-not-labels.false,
+      c.if-not-weights.false,
     )
 
 pub first_failed_spec : {M : Type 1} → statement M
-first_failed_spec = tie.close (tie.spec returns returns_2 returns_3 returns_4 returns_5)
+first_failed_spec =
+    tie.close
+    (tie.spec
+    returns-then-not-states
+    returns-then-not-order
+    returns-then-not-labels
+    returns-then-not-weights
+    returns)

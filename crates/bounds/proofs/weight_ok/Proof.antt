@@ -10,4 +10,7 @@ unfolding weight_good
 returns c = rw (to_z-of_z c.ranges.weight) refl
 
 pub weight_ok_spec : {M : Type 1} → statement M
-weight_ok_spec = tie.close (tie.spec returns)
+weight_ok_spec =
+    tie.close
+    (tie.spec
+    returns)

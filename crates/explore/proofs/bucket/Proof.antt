@@ -6,12 +6,16 @@ use Rattle.explore.specs.Chain.{bucket_of}
 use Rattle.explore.proofs.bucket.Statement.{statement}
 use Rattle.explore.proofs.bucket.Tie as tie
 
-mul_result : tie.Need-overflow-mul-result
-mul_result c = search rules
+overflow_mul-result : tie.Need-overflow_mul-result
+overflow_mul-result c = search rules
 
 returns : tie.Need-returns
 unfolding bucket_of
 returns c = let high = c.args.key * 2654435761 / 2097152 in (and_mask high 11, mask_lt high 11)
 
 pub bucket_spec : {M : Type 1} → statement M
-bucket_spec = tie.close (tie.spec mul_result returns)
+bucket_spec =
+    tie.close
+    (tie.spec
+    overflow_mul-result
+    returns)

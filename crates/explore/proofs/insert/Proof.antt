@@ -5,48 +5,48 @@ use Rattle.explore.proofs.Chain.{chained_next}
 use Rattle.explore.proofs.insert.Statement.{statement}
 use Rattle.explore.proofs.insert.Tie as tie
 
-bucket_requires : tie.Need-bucket-requires
-bucket_requires c κs = search rules
+bucket-b-requires : tie.Need-bucket-b-requires
+bucket-b-requires c κs = search rules
 
-mul_states : tie.Need-overflow-mul-states
-mul_states c = search rules
+offset_bounds-states-count : tie.Need-offset_bounds-states-count
+offset_bounds-states-count c = search rules
 
-slice_write_states : tie.Need-slice-write-states
-slice_write_states c = search rules
+bounds-states-count : tie.Need-bounds-states-count
+bounds-states-count c = search rules
 
-mul_links : tie.Need-overflow-mul-links
-mul_links c = search rules
+offset_bounds-heads-b : tie.Need-offset_bounds-heads-b
+offset_bounds-heads-b c = search rules
 
-element_copy_out_links : tie.Need-element-copy-out-links
-element_copy_out_links c = search rules
+bounds-heads-b : tie.Need-bounds-heads-b
+bounds-heads-b c = search rules
 
-mul_links_2 : tie.Need-overflow-mul-links-2
-mul_links_2 c = search rules
+offset_bounds-links-count : tie.Need-offset_bounds-links-count
+offset_bounds-links-count c = search rules
 
-element_write_links : tie.Need-element-write-links
-element_write_links c = search rules
+bounds-links-count : tie.Need-bounds-links-count
+bounds-links-count c = search rules
 
-add_heads : tie.Need-overflow-add-heads
-add_heads c = search rules
+overflow_add-heads : tie.Need-overflow_add-heads
+overflow_add-heads c = search rules
 
-cast_heads : tie.Need-overflow-cast-heads
-cast_heads c = search rules
+overflow_cast-heads : tie.Need-overflow_cast-heads
+overflow_cast-heads c = search rules
 
-mul_heads : tie.Need-overflow-mul-heads
-mul_heads c = search rules
+offset_bounds-heads-b-2 : tie.Need-offset_bounds-heads-b-2
+offset_bounds-heads-b-2 c = search rules
 
-element_write_heads : tie.Need-element-write-heads
-element_write_heads c = search rules
+bounds-heads-b-2 : tie.Need-bounds-heads-b-2
+bounds-heads-b-2 c = search rules
 
-same_length : tie.Need-same-length
-same_length c = search rules
+shape_of-states : tie.Need-shape_of-states
+shape_of-states c = search rules
 
 returns : tie.Need-returns
 returns c =
     let a = c.before.before.before.args in (
       λ xs long new chained.
-          chained_next xs a.states.now a.heads.now a.links.now a.count c.before.bucket.result a.key long
-          c.before.bucket.ensures.0 c.before.before.before.requires.0 new chained,
+          chained_next xs a.states.now a.heads.now a.links.now a.count c.before.bucket-b.result a.key long
+          c.before.bucket-b.ensures.0 c.before.before.before.requires.0 new chained,
       length-set a.states.now a.count a.key,
     )
 
@@ -54,16 +54,16 @@ pub insert_spec : {M : Type 1} → statement M
 insert_spec =
     tie.close
     (tie.spec
-    bucket_requires
-    mul_states
-    slice_write_states
-    mul_links
-    element_copy_out_links
-    mul_links_2
-    element_write_links
-    add_heads
-    cast_heads
-    mul_heads
-    element_write_heads
-    same_length
+    bucket-b-requires
+    offset_bounds-states-count
+    bounds-states-count
+    offset_bounds-heads-b
+    bounds-heads-b
+    offset_bounds-links-count
+    bounds-links-count
+    overflow_add-heads
+    overflow_cast-heads
+    offset_bounds-heads-b-2
+    bounds-heads-b-2
+    shape_of-states
     returns)

@@ -7,7 +7,7 @@ use Rattle.explore.proofs.refuse.Statement.{statement}
 use Rattle.explore.proofs.refuse.Tie as tie
 
 -- Places to look back to.
-abbrev origins_cleared : tie.After-slice-known6 → tie.After-clear16
+abbrev origins_cleared : tie.After-slice_known-6-1 → tie.After-clear16
 origins_cleared c = c.before.before.before.before.before.before
 
 abbrev table_cleared : tie.After-clear16 → tie.After-clear8
@@ -16,26 +16,26 @@ table_cleared c = c.before.before.before.before
 abbrev entry : tie.After-clear8 → tie.Start
 entry c = c.before.before.before.before.before
 
-clear8_requires : tie.Need-clear8-requires
-clear8_requires c κs = search rules
+clear8-requires : tie.Need-clear8-requires
+clear8-requires c κs = search rules
 
-clear16_requires : tie.Need-clear16-requires
-clear16_requires c κs = search rules
+clear16-requires : tie.Need-clear16-requires
+clear16-requires c κs = search rules
 
-clear32_requires : tie.Need-clear32-requires
-clear32_requires c κs = search rules
+clear32-requires : tie.Need-clear32-requires
+clear32-requires c κs = search rules
 
-refused_requires : tie.Need-refused-requires
-refused_requires c κs = tt
+refused-requires : tie.Need-refused-requires
+refused-requires c κs = tt
 
-same_length : tie.Need-same-length
-same_length c = search rules
+shape_of-table : tie.Need-shape_of-table
+shape_of-table c = search rules
 
-same_length_2 : tie.Need-same-length-2
-same_length_2 c = search rules
+shape_of-origins : tie.Need-shape_of-origins
+shape_of-origins c = search rules
 
-same_length_3 : tie.Need-same-length-3
-same_length_3 c = search rules
+shape_of-states : tie.Need-shape_of-states
+shape_of-states c = search rules
 
 returns : tie.Need-returns
 returns c =
@@ -54,11 +54,11 @@ pub refuse_spec : {M : Type 1} → statement M
 refuse_spec =
     tie.close
     (tie.spec
-    clear8_requires
-    clear16_requires
-    clear32_requires
-    refused_requires
-    same_length
-    same_length_2
-    same_length_3
+    clear8-requires
+    clear16-requires
+    clear32-requires
+    refused-requires
+    shape_of-table
+    shape_of-origins
+    shape_of-states
     returns)

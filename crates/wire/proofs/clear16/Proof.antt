@@ -8,48 +8,48 @@ use Rattle.wire.proofs.Store.{Clearing, clearing_first, clearing_next, clearing_
 use Rattle.wire.proofs.clear16.Statement.{statement}
 use Rattle.wire.proofs.clear16.Tie as tie
 
-abbrev invariant_loop : tie.invariant_loop
-invariant_loop out₀ from i₀ out i = Clearing 0 from out₀ out i
+abbrev invariant-loop-i : tie.invariant-loop-i
+invariant-loop-i out₀ from i₀ out i = Clearing 0 from out₀ out i
 
-abbrev decreases_loop : tie.decreases_loop
-decreases_loop out₀ from i₀ out i = length out - i
+abbrev decreases-loop-i : tie.decreases-loop-i
+decreases-loop-i out₀ from i₀ out i = length out - i
 
-loop_holds : tie.Need-loop-init invariant_loop decreases_loop
-loop_holds c = clearing_first 0 c.requires
+loop-i-init : tie.Need-loop-i-init invariant-loop-i decreases-loop-i
+loop-i-init c = clearing_first 0 c.requires
 
-mul_out : tie.Need-overflow-mul-out invariant_loop decreases_loop
-mul_out c = search rules
+offset_bounds-out-i : tie.Need-offset_bounds-out-i invariant-loop-i decreases-loop-i
+offset_bounds-out-i c = search rules
 
-slice_write_out : tie.Need-slice-write-out invariant_loop decreases_loop
-slice_write_out c = search rules
+bounds-out-i : tie.Need-bounds-out-i invariant-loop-i decreases-loop-i
+bounds-out-i c = search rules
 
-add_i : tie.Need-overflow-add-i invariant_loop decreases_loop
-add_i c = search rules
+overflow_add-i : tie.Need-overflow_add-i invariant-loop-i decreases-loop-i
+overflow_add-i c = search rules
 
-loop_less : tie.Need-loop-smaller invariant_loop decreases_loop
-loop_less c = simp length-set (omega arith)
+loop-i-smaller : tie.Need-loop-i-smaller invariant-loop-i decreases-loop-i
+loop-i-smaller c = simp length-set (omega arith)
 
-loop_again : tie.Need-loop-preserved invariant_loop decreases_loop
-loop_again c = clearing_next 0 c.before.before.requires c.before.loop.invariant c.loop-test.true
+loop-i-preserved : tie.Need-loop-i-preserved invariant-loop-i decreases-loop-i
+loop-i-preserved c = clearing_next 0 c.before.before.requires c.before.loop-i.invariant c.loop-i-test.true
 
-same_length : tie.Need-same-length invariant_loop decreases_loop
-same_length c = c.before.loop.invariant.same
+shape_of-out : tie.Need-shape_of-out invariant-loop-i decreases-loop-i
+shape_of-out c = c.before.loop-i.invariant.same
 
-returns : tie.Need-returns invariant_loop decreases_loop
+returns : tie.Need-returns invariant-loop-i decreases-loop-i
 unfolding cleared
-returns c = clearing_stop 0 c.before.before.requires c.before.loop.invariant c.loop-test.false
+returns c = clearing_stop 0 c.before.before.requires c.before.loop-i.invariant c.loop-i-test.false
 
 pub clear16_spec : {M : Type 1} → statement M
 clear16_spec =
     tie.close
     (tie.spec
-    invariant_loop
-    decreases_loop
-    loop_holds
-    mul_out
-    slice_write_out
-    add_i
-    loop_less
-    loop_again
-    same_length
+    invariant-loop-i
+    decreases-loop-i
+    loop-i-init
+    offset_bounds-out-i
+    bounds-out-i
+    overflow_add-i
+    loop-i-smaller
+    loop-i-preserved
+    shape_of-out
     returns)

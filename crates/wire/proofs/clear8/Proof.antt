@@ -8,44 +8,44 @@ use Rattle.wire.proofs.Store.{Clearing, clearing_first, clearing_next, clearing_
 use Rattle.wire.proofs.clear8.Statement.{statement}
 use Rattle.wire.proofs.clear8.Tie as tie
 
-abbrev invariant_loop : tie.invariant_loop
-invariant_loop out₀ from i₀ out i = Clearing 0 from out₀ out i
+abbrev invariant-loop-at : tie.invariant-loop-at
+invariant-loop-at out₀ from i₀ out i = Clearing 0 from out₀ out i
 
-abbrev decreases_loop : tie.decreases_loop
-decreases_loop out₀ from i₀ out i = length out - i
+abbrev decreases-loop-at : tie.decreases-loop-at
+decreases-loop-at out₀ from i₀ out i = length out - i
 
-loop_holds : tie.Need-loop-init invariant_loop decreases_loop
-loop_holds c = clearing_first 0 c.requires
+loop-at-init : tie.Need-loop-at-init invariant-loop-at decreases-loop-at
+loop-at-init c = clearing_first 0 c.requires
 
-slice_write_out : tie.Need-slice-write-out invariant_loop decreases_loop
-slice_write_out c = search rules
+bounds-out-at : tie.Need-bounds-out-at invariant-loop-at decreases-loop-at
+bounds-out-at c = search rules
 
-add_at : tie.Need-overflow-add-at invariant_loop decreases_loop
-add_at c = search rules
+overflow_add-at : tie.Need-overflow_add-at invariant-loop-at decreases-loop-at
+overflow_add-at c = search rules
 
-loop_less : tie.Need-loop-smaller invariant_loop decreases_loop
-loop_less c = simp length-set (omega arith)
+loop-at-smaller : tie.Need-loop-at-smaller invariant-loop-at decreases-loop-at
+loop-at-smaller c = simp length-set (omega arith)
 
-loop_again : tie.Need-loop-preserved invariant_loop decreases_loop
-loop_again c = clearing_next 0 c.before.before.requires c.before.loop.invariant c.loop-test.true
+loop-at-preserved : tie.Need-loop-at-preserved invariant-loop-at decreases-loop-at
+loop-at-preserved c = clearing_next 0 c.before.before.requires c.before.loop-at.invariant c.loop-at-test.true
 
-same_length : tie.Need-same-length invariant_loop decreases_loop
-same_length c = c.before.loop.invariant.same
+shape_of-out : tie.Need-shape_of-out invariant-loop-at decreases-loop-at
+shape_of-out c = c.before.loop-at.invariant.same
 
-returns : tie.Need-returns invariant_loop decreases_loop
+returns : tie.Need-returns invariant-loop-at decreases-loop-at
 unfolding cleared
-returns c = clearing_stop 0 c.before.before.requires c.before.loop.invariant c.loop-test.false
+returns c = clearing_stop 0 c.before.before.requires c.before.loop-at.invariant c.loop-at-test.false
 
 pub clear8_spec : {M : Type 1} → statement M
 clear8_spec =
     tie.close
     (tie.spec
-    invariant_loop
-    decreases_loop
-    loop_holds
-    slice_write_out
-    add_at
-    loop_less
-    loop_again
-    same_length
+    invariant-loop-at
+    decreases-loop-at
+    loop-at-init
+    bounds-out-at
+    overflow_add-at
+    loop-at-smaller
+    loop-at-preserved
+    shape_of-out
     returns)

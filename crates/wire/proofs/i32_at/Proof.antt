@@ -8,15 +8,20 @@ use Rattle.wire.specs.Bytes.{signed_four}
 use Rattle.wire.proofs.i32_at.Statement.{statement}
 use Rattle.wire.proofs.i32_at.Tie as tie
 
-u32_at_requires : tie.Need-u32-at-requires
-u32_at_requires c κs = search rules
+u32_at-requires : tie.Need-u32_at-requires
+u32_at-requires c κs = search rules
 
-signed_of_requires : tie.Need-signed-of-requires
-signed_of_requires c κs = search rules
+signed_of-requires : tie.Need-signed_of-requires
+signed_of-requires c κs = search rules
 
 returns : tie.Need-returns
 unfolding signed_four
-returns c = to_z-of_z {w = w32} (record { sfits = c.Signed-of.type-inv }) ∙ (c.Signed-of.ensures ∙ ap (to_z w32) c.before.u32-at.ensures)
+returns c = to_z-of_z {w = w32} (record { sfits = c.signed_of.type_inv }) ∙ (c.signed_of.ensures ∙ ap (to_z w32) c.before.u32_at.ensures)
 
 pub i32_at_spec : {M : Type 1} → statement M
-i32_at_spec = tie.close (tie.spec u32_at_requires signed_of_requires returns)
+i32_at_spec =
+    tie.close
+    (tie.spec
+    u32_at-requires
+    signed_of-requires
+    returns)

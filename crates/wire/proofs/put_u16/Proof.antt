@@ -10,23 +10,23 @@ use Rattle.wire.specs.Bytes.{low}
 use Rattle.wire.proofs.put_u16.Statement.{statement}
 use Rattle.wire.proofs.put_u16.Tie as tie
 
-cast_out : tie.Need-overflow-cast-out
-cast_out c = omega (arith, mask_lt c.args.value 8)
+overflow_cast-out : tie.Need-overflow_cast-out
+overflow_cast-out c = omega (arith, mask_lt c.args.value 8)
 
-slice_write_out : tie.Need-slice-write-out
-slice_write_out c = search rules
+bounds-out-at : tie.Need-bounds-out-at
+bounds-out-at c = search rules
 
-cast_out_2 : tie.Need-overflow-cast-out-2
-cast_out_2 c = search rules
+overflow_cast-out-2 : tie.Need-overflow_cast-out-2
+overflow_cast-out-2 c = search rules
 
-add_out : tie.Need-overflow-add-out
-add_out c = search rules
+overflow_add-out : tie.Need-overflow_add-out
+overflow_add-out c = search rules
 
-slice_write_out_2 : tie.Need-slice-write-out-2
-slice_write_out_2 c = search rules
+bounds-out-at-2 : tie.Need-bounds-out-at-2
+bounds-out-at-2 c = search rules
 
-same_length : tie.Need-same-length
-same_length c = search rules
+shape_of-out : tie.Need-shape_of-out
+shape_of-out c = search rules
 
 returns : tie.Need-returns
 unfolding low
@@ -39,4 +39,11 @@ returns c =
 pub put_u16_spec : {M : Type 1} → statement M
 put_u16_spec =
     tie.close
-    (tie.spec cast_out slice_write_out cast_out_2 add_out slice_write_out_2 same_length returns)
+    (tie.spec
+    overflow_cast-out
+    bounds-out-at
+    overflow_cast-out-2
+    overflow_add-out
+    bounds-out-at-2
+    shape_of-out
+    returns)

@@ -11,41 +11,41 @@ use Rattle.wire.specs.Bytes.{low}
 use Rattle.wire.proofs.put_u32.Statement.{statement}
 use Rattle.wire.proofs.put_u32.Tie as tie
 
-cast_out : tie.Need-overflow-cast-out
-cast_out c = omega (arith, mask_lt c.args.value 8)
+overflow_cast-out : tie.Need-overflow_cast-out
+overflow_cast-out c = omega (arith, mask_lt c.args.value 8)
 
-slice_write_out : tie.Need-slice-write-out
-slice_write_out c = search rules
+bounds-out-at : tie.Need-bounds-out-at
+bounds-out-at c = search rules
 
-cast_out_2 : tie.Need-overflow-cast-out-2
-cast_out_2 c = omega (arith, mask_lt (c.args.value / 256) 8)
+overflow_cast-out-2 : tie.Need-overflow_cast-out-2
+overflow_cast-out-2 c = omega (arith, mask_lt (c.args.value / 256) 8)
 
-add_out : tie.Need-overflow-add-out
-add_out c = search rules
+overflow_add-out : tie.Need-overflow_add-out
+overflow_add-out c = search rules
 
-slice_write_out_2 : tie.Need-slice-write-out-2
-slice_write_out_2 c = simp length-set (omega arith)
+bounds-out-at-2 : tie.Need-bounds-out-at-2
+bounds-out-at-2 c = simp length-set (omega arith)
 
-cast_out_3 : tie.Need-overflow-cast-out-3
-cast_out_3 c = omega (arith, mask_lt (c.args.value / 65536) 8)
+overflow_cast-out-3 : tie.Need-overflow_cast-out-3
+overflow_cast-out-3 c = omega (arith, mask_lt (c.args.value / 65536) 8)
 
-add_out_2 : tie.Need-overflow-add-out-2
-add_out_2 c = search rules
+overflow_add-out-2 : tie.Need-overflow_add-out-2
+overflow_add-out-2 c = search rules
 
-slice_write_out_3 : tie.Need-slice-write-out-3
-slice_write_out_3 c = simp length-set (omega arith)
+bounds-out-at-3 : tie.Need-bounds-out-at-3
+bounds-out-at-3 c = simp length-set (omega arith)
 
-cast_out_4 : tie.Need-overflow-cast-out-4
-cast_out_4 c = search rules
+overflow_cast-out-4 : tie.Need-overflow_cast-out-4
+overflow_cast-out-4 c = search rules
 
-add_out_3 : tie.Need-overflow-add-out-3
-add_out_3 c = search rules
+overflow_add-out-3 : tie.Need-overflow_add-out-3
+overflow_add-out-3 c = search rules
 
-slice_write_out_4 : tie.Need-slice-write-out-4
-slice_write_out_4 c = simp length-set (omega arith)
+bounds-out-at-4 : tie.Need-bounds-out-at-4
+bounds-out-at-4 c = simp length-set (omega arith)
 
-same_length : tie.Need-same-length
-same_length c = simp length-set
+shape_of-out : tie.Need-shape_of-out
+shape_of-out c = simp length-set
 
 returns : tie.Need-returns
 unfolding low
@@ -63,16 +63,16 @@ pub put_u32_spec : {M : Type 1} → statement M
 put_u32_spec =
     tie.close
     (tie.spec
-    cast_out
-    slice_write_out
-    cast_out_2
-    add_out
-    slice_write_out_2
-    cast_out_3
-    add_out_2
-    slice_write_out_3
-    cast_out_4
-    add_out_3
-    slice_write_out_4
-    same_length
+    overflow_cast-out
+    bounds-out-at
+    overflow_cast-out-2
+    overflow_add-out
+    bounds-out-at-2
+    overflow_cast-out-3
+    overflow_add-out-2
+    bounds-out-at-3
+    overflow_cast-out-4
+    overflow_add-out-3
+    bounds-out-at-4
+    shape_of-out
     returns)

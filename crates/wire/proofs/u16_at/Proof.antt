@@ -5,26 +5,26 @@ use Rattle.wire.specs.Bytes.{two}
 use Rattle.wire.proofs.u16_at.Statement.{statement}
 use Rattle.wire.proofs.u16_at.Tie as tie
 
-shared_slice_read_wide16 : tie.Need-shared-slice-read-wide16
-shared_slice_read_wide16 c = search rules
+bounds-bytes-at : tie.Need-bounds-bytes-at
+bounds-bytes-at c = search rules
 
-wide16_requires : tie.Need-wide16-requires
-wide16_requires c κs = search rules
+wide16-requires : tie.Need-wide16-requires
+wide16-requires c κs = search rules
 
-add_wide16 : tie.Need-overflow-add-wide16
-add_wide16 c = search rules
+overflow_add-at : tie.Need-overflow_add-at
+overflow_add-at c = search rules
 
-shared_slice_read_wide16_2 : tie.Need-shared-slice-read-wide16-2
-shared_slice_read_wide16_2 c = search rules
+bounds-bytes-at-2 : tie.Need-bounds-bytes-at-2
+bounds-bytes-at-2 c = search rules
 
-wide16_requires_2 : tie.Need-wide16-requires-2
-wide16_requires_2 c κs = search rules
+wide16-requires-2 : tie.Need-wide16-requires-2
+wide16-requires-2 c κs = search rules
 
-mul_result : tie.Need-overflow-mul-result
-mul_result c = search rules
+overflow_mul-result : tie.Need-overflow_mul-result
+overflow_mul-result c = search rules
 
-add_result : tie.Need-overflow-add-result
-add_result c = search rules
+overflow_add-result : tie.Need-overflow_add-result
+overflow_add-result c = search rules
 
 returns : tie.Need-returns
 unfolding two
@@ -34,11 +34,11 @@ pub u16_at_spec : {M : Type 1} → statement M
 u16_at_spec =
     tie.close
     (tie.spec
-    shared_slice_read_wide16
-    wide16_requires
-    add_wide16
-    shared_slice_read_wide16_2
-    wide16_requires_2
-    mul_result
-    add_result
+    bounds-bytes-at
+    wide16-requires
+    overflow_add-at
+    bounds-bytes-at-2
+    wide16-requires-2
+    overflow_mul-result
+    overflow_add-result
     returns)

@@ -10,39 +10,50 @@ use Rattle.capped.proofs.MarksInPlace.{below_next}
 use Rattle.capped.proofs.marks.all_marked.Statement.{statement}
 use Rattle.capped.proofs.marks.all_marked.Tie as tie
 
-abbrev invariant_loop : tie.invariant_loop
-invariant_loop states marks s₀ s = (u : ℕ) → u < s → marked marks u ≡ true
+abbrev invariant-loop-s : tie.invariant-loop-s
+invariant-loop-s states marks s₀ s = (u : ℕ) → u < s → marked marks u ≡ true
 
-abbrev decreases_loop : tie.decreases_loop
-decreases_loop states marks s₀ s = states - s
+abbrev decreases-loop-s : tie.decreases-loop-s
+decreases-loop-s states marks s₀ s = states - s
 
-low : (c : tie.In-loop invariant_loop decreases_loop) → c.before.loop.s < 1024
-low c = omega (arith, c.loop-test.true, c.before.before.requires)
+low : (c : tie.In-loop-s invariant-loop-s decreases-loop-s) → c.before.loop-s.s < 1024
+low c = omega (arith, c.loop-s-test.true, c.before.before.requires)
 
-loop_holds : tie.Need-loop-init invariant_loop decreases_loop
-loop_holds c = λ u h. absurd (omega arith)
+loop-s-init : tie.Need-loop-s-init invariant-loop-s decreases-loop-s
+loop-s-init c = λ u h. absurd (omega arith)
 
-element_copy_out_if1 : tie.Need-element-copy-out-if1 invariant_loop decreases_loop
-element_copy_out_if1 c = low c
+bounds-marks-s : tie.Need-bounds-marks-s invariant-loop-s decreases-loop-s
+bounds-marks-s c = low c.before
 
-returns : tie.Need-returns invariant_loop decreases_loop
-returns c = λ e. clash e refl
+returns-then-not-marks-s : tie.Need-returns-then-not-marks-s invariant-loop-s decreases-loop-s
+returns-then-not-marks-s c = λ e. clash e refl
 
-add_s : tie.Need-overflow-add-s invariant_loop decreases_loop
-add_s c = omega (arith, low c.before.before)
+overflow_add-s : tie.Need-overflow_add-s invariant-loop-s decreases-loop-s
+overflow_add-s c = omega (arith, low c.before.before.before)
 
-loop_less : tie.Need-loop-smaller invariant_loop decreases_loop
-loop_less c = omega (arith, c.before.before.loop-test.true)
+loop-s-smaller : tie.Need-loop-s-smaller invariant-loop-s decreases-loop-s
+loop-s-smaller c = omega (arith, c.before.before.loop-s-test.true)
 
-loop_again : tie.Need-loop-preserved invariant_loop decreases_loop
+loop-s-preserved : tie.Need-loop-s-preserved invariant-loop-s decreases-loop-s
 unfolding marked
-loop_again c =
+loop-s-preserved c =
     let l = c.before.before.before in
-    below_next (λ u. marked l.before.args.marks.now u ≡ true) l.loop.s l.loop.invariant
-    (not-false (marked l.before.args.marks.now l.loop.s) c.if1.false)
+    below_next (λ u. marked l.before.args.marks.now u ≡ true) l.loop-s.s l.loop-s.invariant
+    c.if-not-marks-s.false
 
-returns_2 : tie.Need-returns-2 invariant_loop decreases_loop
-returns_2 c = λ _ u h. c.before.loop.invariant u (omega (arith, c.loop-test.false))
+returns : tie.Need-returns invariant-loop-s decreases-loop-s
+returns c = λ _ u h. c.before.loop-s.invariant u (omega (arith, c.loop-s-test.false))
 
 pub all_marked_spec : {M : Type 1} → statement M
-all_marked_spec = tie.close (tie.spec invariant_loop decreases_loop loop_holds element_copy_out_if1 returns add_s loop_less loop_again returns_2)
+all_marked_spec =
+    tie.close
+    (tie.spec
+    invariant-loop-s
+    decreases-loop-s
+    loop-s-init
+    bounds-marks-s
+    returns-then-not-marks-s
+    overflow_add-s
+    loop-s-smaller
+    loop-s-preserved
+    returns)

@@ -9,64 +9,64 @@ use Rattle.codec.proofs.Copy.{NumbersCopied, copied_first, copied_inside, copied
 use Rattle.codec.proofs.reading.copy16.Statement.{statement}
 use Rattle.codec.proofs.reading.copy16.Tie as tie
 
-abbrev invariant_loop : tie.invariant_loop
-invariant_loop bytes at step count out₀ place₀ i₀ out place i = NumbersCopied (two bytes) at step count out₀ out place i
+abbrev invariant-loop-i : tie.invariant-loop-i
+invariant-loop-i bytes at step count out₀ place₀ i₀ out place i = NumbersCopied (two bytes) at step count out₀ out place i
 
-abbrev decreases_loop : tie.decreases_loop
-decreases_loop bytes at step count out₀ place₀ i₀ out place i = count - i
+abbrev decreases-loop-i : tie.decreases-loop-i
+decreases-loop-i bytes at step count out₀ place₀ i₀ out place i = count - i
 
 -- Places to look back to, in a turn and behind the loop.
-abbrev start : tie.In-loop invariant_loop decreases_loop → tie.Start invariant_loop decreases_loop
+abbrev start : tie.In-loop-i invariant-loop-i decreases-loop-i → tie.Start invariant-loop-i decreases-loop-i
 start c = c.before.before.before.before
 
-abbrev entry : tie.After-clear16-arg invariant_loop decreases_loop → tie.Start invariant_loop decreases_loop
+abbrev entry : tie.After-clear16-arg-1 invariant-loop-i decreases-loop-i → tie.Start invariant-loop-i decreases-loop-i
 entry c = c.before.before.before.before.before
 
-loop_holds : tie.Need-loop-init invariant_loop decreases_loop
-loop_holds c = copied_first
+loop-i-init : tie.Need-loop-i-init invariant-loop-i decreases-loop-i
+loop-i-init c = copied_first
 
-u16_at_requires : tie.Need-u16-at-requires invariant_loop decreases_loop
-u16_at_requires c κs =
-    omega (arith, copied_inside 2 (length (start c).args.bytes.now) (start c).requires.1 c.loop-test.true c.before.loop.invariant)
+u16_at-requires : tie.Need-u16_at-requires invariant-loop-i decreases-loop-i
+u16_at-requires c κs =
+    omega (arith, copied_inside 2 (length (start c).args.bytes.now) (start c).requires.1 c.loop-i-test.true c.before.loop-i.invariant)
 
-mul_out : tie.Need-overflow-mul-out invariant_loop decreases_loop
-mul_out c = let from = start c.before in omega (arith, from.good, from.pre.0)
+offset_bounds-out-i : tie.Need-offset_bounds-out-i invariant-loop-i decreases-loop-i
+offset_bounds-out-i c = let from = start c.before in omega (arith, from.good, from.requires.0)
 
-slice_write_out : tie.Need-slice-write-out invariant_loop decreases_loop
-slice_write_out c = let from = start c.before in omega (arith, copied_length from.pre.0 c.before.before.loop.invariant, from.pre.0)
+bounds-out-i : tie.Need-bounds-out-i invariant-loop-i decreases-loop-i
+bounds-out-i c = let from = start c.before in omega (arith, copied_length from.requires.0 c.before.before.loop-i.invariant, from.requires.0)
 
-add_place : tie.Need-overflow-add-place invariant_loop decreases_loop
-add_place c =
+overflow_add-place : tie.Need-overflow_add-place invariant-loop-i decreases-loop-i
+overflow_add-place c =
     let from = start c.before in
     omega (
       arith,
       from.good,
-      from.pre.2,
-      copied_inside 2 (length from.args.bytes.now) from.pre.1 c.before.loop-test.true c.before.before.loop.invariant,
+      from.requires.2,
+      copied_inside 2 (length from.args.bytes.now) from.requires.1 c.before.loop-i-test.true c.before.before.loop-i.invariant,
     )
 
-add_i : tie.Need-overflow-add-i invariant_loop decreases_loop
-add_i c = search rules
+overflow_add-i : tie.Need-overflow_add-i invariant-loop-i decreases-loop-i
+overflow_add-i c = search rules
 
-loop_less : tie.Need-loop-smaller invariant_loop decreases_loop
-loop_less c = search rules
+loop-i-smaller : tie.Need-loop-i-smaller invariant-loop-i decreases-loop-i
+loop-i-smaller c = search rules
 
-loop_again : tie.Need-loop-preserved invariant_loop decreases_loop
-loop_again c =
-    copied_next c.u16-at.result (start c.before).pre.0 c.before.loop-test.true c.u16-at.ensures c.before.before.loop.invariant
+loop-i-preserved : tie.Need-loop-i-preserved invariant-loop-i decreases-loop-i
+loop-i-preserved c =
+    copied_next c.u16_at.result (start c.before).requires.0 c.before.loop-i-test.true c.u16_at.ensures c.before.before.loop-i.invariant
 
-clear16_requires : tie.Need-clear16-requires invariant_loop decreases_loop
-clear16_requires c κs =
+clear16-requires : tie.Need-clear16-requires invariant-loop-i decreases-loop-i
+clear16-requires c κs =
     let from = entry c in
-    omega (arith, from.pre.0, copied_length from.pre.0 c.before.before.loop.invariant)
+    omega (arith, from.requires.0, copied_length from.requires.0 c.before.before.loop-i.invariant)
 
-same_length : tie.Need-same-length invariant_loop decreases_loop
-same_length c =
+shape_of-out : tie.Need-shape_of-out invariant-loop-i decreases-loop-i
+shape_of-out c =
     let after = c.before.before.before in
     let from = entry after in
-    c.before.before.clear16.auto.0 ∙ copied_length from.pre.0 after.before.before.loop.invariant
+    c.before.before.clear16.auto.0 ∙ copied_length from.requires.0 after.before.before.loop-i.invariant
 
-returns : tie.Need-returns invariant_loop decreases_loop
+returns : tie.Need-returns invariant-loop-i decreases-loop-i
 unfolding cleared filled
 returns c =
     let after = c.before.before.before in
@@ -74,25 +74,25 @@ returns c =
     copied_stop
     0
     c.before.before.clear16.new.0
-    from.pre.0
-    after.before.loop-test.false
+    from.requires.0
+    after.before.loop-i-test.false
     c.before.before.clear16.ensures
-    after.before.before.loop.invariant
+    after.before.before.loop-i.invariant
 
 pub copy16_spec : {M : Type 1} → statement M
 copy16_spec =
     tie.close
     (tie.spec
-    invariant_loop
-    decreases_loop
-    loop_holds
-    u16_at_requires
-    mul_out
-    slice_write_out
-    add_place
-    add_i
-    loop_less
-    loop_again
-    clear16_requires
-    same_length
+    invariant-loop-i
+    decreases-loop-i
+    loop-i-init
+    u16_at-requires
+    offset_bounds-out-i
+    bounds-out-i
+    overflow_add-place
+    overflow_add-i
+    loop-i-smaller
+    loop-i-preserved
+    clear16-requires
+    shape_of-out
     returns)

@@ -13,91 +13,91 @@ use Rattle.codec.proofs.Copy.{NumbersCopied, copied_first, copied_inside, copied
 use Rattle.codec.proofs.reading.copy_weights.Statement.{statement}
 use Rattle.codec.proofs.reading.copy_weights.Tie as tie
 
-abbrev invariant_loop : tie.invariant_loop
-invariant_loop bytes at step count out₀ place₀ i₀ out place i = NumbersCopied (weight_at bytes) at step count out₀ out place i
+abbrev invariant-loop-i : tie.invariant-loop-i
+invariant-loop-i bytes at step count out₀ place₀ i₀ out place i = NumbersCopied (weight_at bytes) at step count out₀ out place i
 
-abbrev decreases_loop : tie.decreases_loop
-decreases_loop bytes at step count out₀ place₀ i₀ out place i = count - i
+abbrev decreases-loop-i : tie.decreases-loop-i
+decreases-loop-i bytes at step count out₀ place₀ i₀ out place i = count - i
 
-loop_holds : tie.Need-loop-init invariant_loop decreases_loop
-loop_holds c = copied_first
+loop-i-init : tie.Need-loop-i-init invariant-loop-i decreases-loop-i
+loop-i-init c = copied_first
 
-i32_at_requires : tie.Need-i32-at-requires invariant_loop decreases_loop
-i32_at_requires c κs =
+i32_at-requires : tie.Need-i32_at-requires invariant-loop-i decreases-loop-i
+i32_at-requires c κs =
     let start = c.before.before.before in
-    omega (arith, copied_inside 4 (length start.args.bytes.now) start.requires.1 c.loop-test.true c.before.loop.invariant)
+    omega (arith, copied_inside 4 (length start.args.bytes.now) start.requires.1 c.loop-i-test.true c.before.loop-i.invariant)
 
-mul_t10 : tie.Need-overflow-mul-t10 invariant_loop decreases_loop
-mul_t10 c =
+offset_bounds-out-i : tie.Need-offset_bounds-out-i invariant-loop-i decreases-loop-i
+offset_bounds-out-i c =
     let start = c.before.before.before.before in
-    omega (arith, start.well-formed, start.requires.0)
+    omega (arith, start.well_formed, start.requires.0)
 
-slice_set_from_out : tie.Need-slice-set-from-out invariant_loop decreases_loop
-slice_set_from_out c =
+bounds-out-i : tie.Need-bounds-out-i invariant-loop-i decreases-loop-i
+bounds-out-i c =
     let start = c.before.before.before.before in
-    omega (arith, copied_length start.requires.0 c.before.before.loop.invariant, start.requires.0)
+    omega (arith, copied_length start.requires.0 c.before.before.loop-i.invariant, start.requires.0)
 
-add_place : tie.Need-overflow-add-place invariant_loop decreases_loop
-add_place c =
+overflow_add-place : tie.Need-overflow_add-place invariant-loop-i decreases-loop-i
+overflow_add-place c =
     let start = c.before.before.before.before in
     omega (
       arith,
-      start.well-formed,
+      start.well_formed,
       start.requires.2,
-      copied_inside 4 (length start.args.bytes.now) start.requires.1 c.before.loop-test.true c.before.before.loop.invariant,
+      copied_inside 4 (length start.args.bytes.now) start.requires.1 c.before.loop-i-test.true c.before.before.loop-i.invariant,
     )
 
-add_i : tie.Need-overflow-add-i invariant_loop decreases_loop
-add_i c = search rules
+overflow_add-i : tie.Need-overflow_add-i invariant-loop-i decreases-loop-i
+overflow_add-i c = search rules
 
-loop_less : tie.Need-loop-smaller invariant_loop decreases_loop
-loop_less c = search rules
+loop-i-smaller : tie.Need-loop-i-smaller invariant-loop-i decreases-loop-i
+loop-i-smaller c = search rules
 
-loop_again : tie.Need-loop-preserved invariant_loop decreases_loop
+loop-i-preserved : tie.Need-loop-i-preserved invariant-loop-i decreases-loop-i
 unfolding weight_at
-loop_again c =
+loop-i-preserved c =
     let start = c.before.before.before.before in
-    let weight = to_z-of_z {w = w32} (record { sfits = c.i32-at.type-inv }) in
-    copied_next _ start.requires.0 c.before.loop-test.true (weight ∙ c.i32-at.ensures) c.before.before.loop.invariant
+    let weight = to_z-of_z {w = w32} (record { sfits = c.i32_at.type_inv }) in
+    copied_next _ start.requires.0 c.before.loop-i-test.true (weight ∙ c.i32_at.ensures) c.before.before.loop-i.invariant
 
-clear_i32_requires : tie.Need-clear-i32-requires invariant_loop decreases_loop
-clear_i32_requires c κs =
+clear_i32-requires : tie.Need-clear_i32-requires invariant-loop-i decreases-loop-i
+clear_i32-requires c κs =
     let start = c.before.before.before.before in
-    omega (arith, start.requires.0, copied_length start.requires.0 c.before.before.loop.invariant)
+    omega (arith, start.requires.0, copied_length start.requires.0 c.before.before.loop-i.invariant)
 
-same_length : tie.Need-same-length invariant_loop decreases_loop
-same_length c =
+shape_of-out : tie.Need-shape_of-out invariant-loop-i decreases-loop-i
+shape_of-out c =
     let after = c.before.before in
     let start = after.before.before.before.before in
-    c.before.clear-i32.auto.0 ∙ copied_length start.requires.0 after.before.before.loop.invariant
+    c.before.clear_i32.auto.0 ∙ copied_length start.requires.0 after.before.before.loop-i.invariant
 
-returns : tie.Need-returns invariant_loop decreases_loop
+returns : tie.Need-returns invariant-loop-i decreases-loop-i
 unfolding signed_cleared signed_filled
 returns c =
     let after = c.before.before in
     let start = after.before.before.before.before in
     copied_stop
     no_weight
-    c.before.clear-i32.new.0
+    c.before.clear_i32.new.0
     start.requires.0
-    after.before.loop-test.false
-    c.before.clear-i32.ensures
-    after.before.before.loop.invariant
+    after.before.loop-i-test.false
+    c.before.clear_i32.ensures
+    after.before.before.loop-i.invariant
 
 pub copy_weights_spec : {M : Type 1} → statement M
 copy_weights_spec =
     tie.close
     (tie.spec
-    invariant_loop
-    decreases_loop
-    loop_holds
-    i32_at_requires
-    mul_t10
-    slice_set_from_out
-    add_place
-    add_i
-    loop_less
-    loop_again
-    clear_i32_requires
-    same_length
+    invariant-loop-i
+    decreases-loop-i
+    loop-i-init
+    i32_at-requires
+    offset_bounds-out-i
+    bounds-out-i
+    overflow_add-place
+    overflow_add-i
+    loop-i-smaller
+    loop-i-preserved
+    clear_i32-requires
+    shape_of-out
     returns)

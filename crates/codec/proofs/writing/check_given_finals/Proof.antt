@@ -12,63 +12,63 @@ use Rattle.codec.proofs.writing.check_given_finals.Statement.{statement}
 use Rattle.codec.proofs.writing.check_given_finals.Tie as tie
 use lib.ListN.{get_or}
 
-abbrev invariant_loop : tie.invariant_loop
-invariant_loop states weights count n checks₀ i₀ checks i =
+abbrev invariant-loop-i : tie.invariant-loop-i
+invariant-loop-i states weights count n checks₀ i₀ checks i =
     Left (λ k p. finals_checked k p 1 n (λ _. final_word) (final_of states weights)) count 0 1 checks₀ i i checks
 
-abbrev decreases_loop : tie.decreases_loop
-decreases_loop states weights count n checks₀ i₀ checks i = count - i
+abbrev decreases-loop-i : tie.decreases-loop-i
+decreases-loop-i states weights count n checks₀ i₀ checks i = count - i
 
-loop_holds : tie.Need-loop-init invariant_loop decreases_loop
-loop_holds c = left_first
+loop-i-init : tie.Need-loop-i-init invariant-loop-i decreases-loop-i
+loop-i-init c = left_first
 
-mul_t10 : tie.Need-overflow-mul-t10 invariant_loop decreases_loop
-mul_t10 c = search rules
+offset_bounds-states-i : tie.Need-offset_bounds-states-i invariant-loop-i decreases-loop-i
+offset_bounds-states-i c = search rules
 
-shared_slice_read_t12 : tie.Need-shared-slice-read-t12 invariant_loop decreases_loop
-shared_slice_read_t12 c = search rules
+bounds-states-i : tie.Need-bounds-states-i invariant-loop-i decreases-loop-i
+bounds-states-i c = search rules
 
-mul_t13 : tie.Need-overflow-mul-t13 invariant_loop decreases_loop
-mul_t13 c = search rules
+offset_bounds-weights-i : tie.Need-offset_bounds-weights-i invariant-loop-i decreases-loop-i
+offset_bounds-weights-i c = search rules
 
-shared_slice_copy_out_t15 : tie.Need-shared-slice-copy-out-t15 invariant_loop decreases_loop
-shared_slice_copy_out_t15 c = search rules
+bounds-weights-i : tie.Need-bounds-weights-i invariant-loop-i decreases-loop-i
+bounds-weights-i c = search rules
 
-check_final_requires : tie.Need-check-final-requires invariant_loop decreases_loop
-check_final_requires c κs = search rules
+check_final-checks-requires : tie.Need-check_final-checks-requires invariant-loop-i decreases-loop-i
+check_final-checks-requires c κs = search rules
 
-add_i : tie.Need-overflow-add-i invariant_loop decreases_loop
-add_i c = search rules
+overflow_add-i : tie.Need-overflow_add-i invariant-loop-i decreases-loop-i
+overflow_add-i c = search rules
 
-loop_less : tie.Need-loop-smaller invariant_loop decreases_loop
-loop_less c = search rules
+loop-i-smaller : tie.Need-loop-i-smaller invariant-loop-i decreases-loop-i
+loop-i-smaller c = search rules
 
-loop_again : tie.Need-loop-preserved invariant_loop decreases_loop
+loop-i-preserved : tie.Need-loop-i-preserved invariant-loop-i decreases-loop-i
 unfolding finals_checked final_of
-loop_again c =
+loop-i-preserved c =
     let h = c.before.before.before.before in
-    let w = get_or h.before.before.args.weights.now h.loop.i no_weight in
-    let weight = to_z-of_z {w = w32} {z = w} (record { sfits = c.before.t15.given }) in
-    rw (c.check-final.ensures, weight)
-    (left_next (λ k p d. refl) c.before.before.before.before.loop.invariant c.before.before.before.loop-test.true)
+    let w = get_or h.before.before.args.weights.now h.loop-i.i no_weight in
+    let weight = to_z-of_z {w = w32} {z = w} (record { sfits = c.before.f-1.given }) in
+    rw (c.check_final-checks.ensures, weight)
+    (left_next (λ k p d. refl) c.before.before.before.before.loop-i.invariant c.before.before.before.loop-i-test.true)
 
-returns : tie.Need-returns invariant_loop decreases_loop
+returns : tie.Need-returns invariant-loop-i decreases-loop-i
 unfolding finals_checked
-returns c = left_stop (λ p d. refl) c.before.loop.invariant c.loop-test.false
+returns c = left_stop (λ p d. refl) c.before.loop-i.invariant c.loop-i-test.false
 
 pub check_given_finals_spec : {M : Type 1} → statement M
 check_given_finals_spec =
     tie.close
     (tie.spec
-    invariant_loop
-    decreases_loop
-    loop_holds
-    mul_t10
-    shared_slice_read_t12
-    mul_t13
-    shared_slice_copy_out_t15
-    check_final_requires
-    add_i
-    loop_less
-    loop_again
+    invariant-loop-i
+    decreases-loop-i
+    loop-i-init
+    offset_bounds-states-i
+    bounds-states-i
+    offset_bounds-weights-i
+    bounds-weights-i
+    check_final-checks-requires
+    overflow_add-i
+    loop-i-smaller
+    loop-i-preserved
     returns)

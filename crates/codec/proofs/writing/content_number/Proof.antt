@@ -8,17 +8,17 @@ use Rattle.codec.proofs.writing.content_number.Tie as tie
 abbrev entry : tie.After-number → tie.Start
 entry c = c.before.before.before.before.before.before
 
-check_given_finals_requires : tie.Need-check-given-finals-requires
-check_given_finals_requires c κs = search rules
+check_given_finals-requires : tie.Need-check_given_finals-requires
+check_given_finals-requires c κs = search rules
 
-restart_requires : tie.Need-restart-requires
-restart_requires c κs = search rules
+restart-finals-requires : tie.Need-restart-finals-requires
+restart-finals-requires c κs = search rules
 
-check_given_arcs_requires : tie.Need-check-given-arcs-requires
-check_given_arcs_requires c κs = search rules
+check_given_arcs-requires : tie.Need-check_given_arcs-requires
+check_given_arcs-requires c κs = search rules
 
-number_requires : tie.Need-number-requires
-number_requires c κs = search rules
+number-requires : tie.Need-number-requires
+number-requires c κs = search rules
 
 returns : tie.Need-returns
 returns c =
@@ -26,9 +26,9 @@ returns c =
     let args = (entry c).args in
     rw (
       c.number.ensures,
-      c.before.check-given-arcs.ensures,
-      c.before.before.restart.ensures,
-      c.before.before.before.check-given-finals.ensures,
+      c.before.check_given_arcs.ensures,
+      c.before.before.restart-finals.ensures,
+      c.before.before.before.check_given_finals.ensures,
     )
     (given_content args.n args.m args.f start args.final_states.now args.final_weights.now args.fields.now args.arc_weights.now)
 
@@ -36,8 +36,8 @@ pub content_number_spec : {M : Type 1} → statement M
 content_number_spec =
     tie.close
     (tie.spec
-    check_given_finals_requires
-    restart_requires
-    check_given_arcs_requires
-    number_requires
+    check_given_finals-requires
+    restart-finals-requires
+    check_given_arcs-requires
+    number-requires
     returns)

@@ -3,17 +3,23 @@ use borrow.Author.Rules.{rules}
 use Rattle.reach.proofs.arcs.from_end.Statement.{statement}
 use Rattle.reach.proofs.arcs.from_end.Tie as tie
 
-target_requires : tie.Need-target-requires
-target_requires c κs = search rules
+target-requires : tie.Need-target-requires
+target-requires c κs = search rules
+
+returns-then-back : tie.Need-returns-then-back
+returns-then-back c = rw c.before.if-back.true c.target.ensures
+
+source-requires : tie.Need-source-requires
+source-requires c κs = search rules
 
 returns : tie.Need-returns
-returns c = rw c.before.if1.true c.target.ensures
-
-source_requires : tie.Need-source-requires
-source_requires c κs = search rules
-
-returns_2 : tie.Need-returns-2
-returns_2 c = rw c.before.if1.false c.source.ensures
+returns c = rw c.before.if-back.false c.source.ensures
 
 pub from_end_spec : {M : Type 1} → statement M
-from_end_spec = tie.close (tie.spec target_requires returns source_requires returns_2)
+from_end_spec =
+    tie.close
+    (tie.spec
+    target-requires
+    returns-then-back
+    source-requires
+    returns)

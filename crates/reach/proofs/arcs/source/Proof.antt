@@ -12,40 +12,47 @@ use Rattle.transducer.proofs.Accept.{content_range, accepted_content}
 use Rattle.reach.proofs.arcs.source.Statement.{statement}
 use Rattle.reach.proofs.arcs.source.Tie as tie
 
-inside : (c : tie.After-shared-slice-known) → c.before.args.first + 16 * c.before.args.i + 16 ≤ length c.before.args.table.now
+inside : (c : tie.After-shared_slice_known-1) → c.before.args.first + 16 * c.before.args.i + 16 ≤ length c.before.args.table.now
 inside c =
     let bs = c.before.args.table.now in
-    let bytes : Bytes bs = λ i. omega (arith, c.shared-slice-known.given i) in
+    let bytes : Bytes bs = λ i. omega (arith, c.shared_slice_known-1.given i) in
     let opened = c.before.requires.0 in
     omega (arith, opened.first_is, arc_inside bs bytes opened.accepted c.before.args.i c.before.requires.1)
 
-mul_u16_at : tie.Need-overflow-mul-u16-at
-mul_u16_at c = omega (arith, inside c, c.before.well-formed)
+overflow_mul-i : tie.Need-overflow_mul-i
+overflow_mul-i c = omega (arith, inside c, c.before.well_formed)
 
-add_u16_at : tie.Need-overflow-add-u16-at
-add_u16_at c = omega (arith, inside c, c.before.well-formed)
+overflow_add-first : tie.Need-overflow_add-first
+overflow_add-first c = omega (arith, inside c, c.before.well_formed)
 
-add_u16_at_2 : tie.Need-overflow-add-u16-at-2
-add_u16_at_2 c = omega (arith, inside c, c.before.well-formed)
+overflow_add-first-2 : tie.Need-overflow_add-first-2
+overflow_add-first-2 c = omega (arith, inside c, c.before.well_formed)
 
-u16_at_requires : tie.Need-u16-at-requires
-u16_at_requires c κs = omega (arith, inside c)
+u16_at-requires : tie.Need-u16_at-requires
+u16_at-requires c κs = omega (arith, inside c)
 
-cast_result : tie.Need-overflow-cast-result
-cast_result c = search rules
+overflow_cast-result : tie.Need-overflow_cast-result
+overflow_cast-result c = search rules
 
 returns : tie.Need-returns
 unfolding arc_at
 returns c =
     let start = c.before.before in
     let bs = start.args.table.now in
-    let bytes : Bytes bs = λ i. omega (arith, c.before.shared-slice-known.given i) in
+    let bytes : Bytes bs = λ i. omega (arith, c.before.shared_slice_known-1.given i) in
     let opened = start.requires.0 in
     let found = sym (ap (λ (a : Arc). a.source) (arc_offset bs bytes opened.accepted start.args.i start.requires.1)) in
-    let source = c.u16-at.ensures ∙ ap (λ (first : ℕ). two bs (first + 16 * start.args.i + 4)) opened.first_is ∙ found in
+    let source = c.u16_at.ensures ∙ ap (λ (first : ℕ). two bs (first + 16 * start.args.i + 4)) opened.first_is ∙ found in
     let inside = (content_range (decode bs) (accepted_content bs opened.accepted)).source start.args.i start.requires.1 in
     (source, omega (arith, source, inside))
 
 pub source_spec : {M : Type 1} → statement M
 source_spec =
-    tie.close (tie.spec mul_u16_at add_u16_at add_u16_at_2 u16_at_requires cast_result returns)
+    tie.close
+    (tie.spec
+    overflow_mul-i
+    overflow_add-first
+    overflow_add-first-2
+    u16_at-requires
+    overflow_cast-result
+    returns)

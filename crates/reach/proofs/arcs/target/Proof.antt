@@ -12,40 +12,47 @@ use Rattle.transducer.proofs.Accept.{content-range, accepted-content}
 use Rattle.reach.proofs.arcs.target.Statement.{statement}
 use Rattle.reach.proofs.arcs.target.Tie as tie
 
-inside : (c : tie.After-shared-slice-known) → c.before.args.first + 16 * c.before.args.i + 16 ≤ length c.before.args.table.now
+inside : (c : tie.After-shared_slice_known-1) → c.before.args.first + 16 * c.before.args.i + 16 ≤ length c.before.args.table.now
 inside c =
     let bs = c.before.args.table.now in
-    let bytes : Bytes bs = λ i. omega (arith, c.shared-slice-known.given i) in
+    let bytes : Bytes bs = λ i. omega (arith, c.shared_slice_known-1.given i) in
     let opened = c.before.requires.0 in
     omega (arith, opened.first-is, arc-inside bs bytes opened.accepted c.before.args.i c.before.requires.1)
 
-mul-u16-at : tie.Need-overflow-mul-u16-at
-mul-u16-at c = omega (arith, inside c, c.before.well-formed)
+overflow_mul-i : tie.Need-overflow_mul-i
+overflow_mul-i c = omega (arith, inside c, c.before.well_formed)
 
-add-u16-at : tie.Need-overflow-add-u16-at
-add-u16-at c = omega (arith, inside c, c.before.well-formed)
+overflow_add-first : tie.Need-overflow_add-first
+overflow_add-first c = omega (arith, inside c, c.before.well_formed)
 
-add-u16-at-2 : tie.Need-overflow-add-u16-at-2
-add-u16-at-2 c = omega (arith, inside c, c.before.well-formed)
+overflow_add-first-2 : tie.Need-overflow_add-first-2
+overflow_add-first-2 c = omega (arith, inside c, c.before.well_formed)
 
-u16-at-requires : tie.Need-u16-at-requires
-u16-at-requires c κs = omega (arith, inside c)
+u16_at-requires : tie.Need-u16_at-requires
+u16_at-requires c κs = omega (arith, inside c)
 
-cast-result : tie.Need-overflow-cast-result
-cast-result c = search rules
+overflow_cast-result : tie.Need-overflow_cast-result
+overflow_cast-result c = search rules
 
 returns : tie.Need-returns
 unfolding arc-at
 returns c =
     let start = c.before.before in
     let bs = start.args.table.now in
-    let bytes : Bytes bs = λ i. omega (arith, c.before.shared-slice-known.given i) in
+    let bytes : Bytes bs = λ i. omega (arith, c.before.shared_slice_known-1.given i) in
     let opened = start.requires.0 in
     let found = sym (ap (λ (a : Arc). a.target) (arc-offset bs bytes opened.accepted start.args.i start.requires.1)) in
-    let target = c.u16-at.ensures ∙ ap (λ (first : ℕ). two bs (first + 16 * start.args.i + 10)) opened.first-is ∙ found in
+    let target = c.u16_at.ensures ∙ ap (λ (first : ℕ). two bs (first + 16 * start.args.i + 10)) opened.first-is ∙ found in
     let inside = (content-range (decode bs) (accepted-content bs opened.accepted)).target start.args.i start.requires.1 in
     (target, omega (arith, target, inside))
 
-pub target-spec : {M : Type 1} → statement M
-target-spec =
-    tie.close (tie.spec mul-u16-at add-u16-at add-u16-at-2 u16-at-requires cast-result returns)
+pub target_spec : {M : Type 1} → statement M
+target_spec =
+    tie.close
+    (tie.spec
+    overflow_mul-i
+    overflow_add-first
+    overflow_add-first-2
+    u16_at-requires
+    overflow_cast-result
+    returns)

@@ -5,12 +5,16 @@ use Rattle.reach.specs.Cell.{link_of}
 use Rattle.reach.proofs.cells.link_of.Statement.{statement}
 use Rattle.reach.proofs.cells.link_of.Tie as tie
 
-cast_result : tie.Need-overflow-cast-result
-cast_result c = omega (arith, mask_lt c.args.cell 12)
+overflow_cast-result : tie.Need-overflow_cast-result
+overflow_cast-result c = omega (arith, mask_lt c.args.cell 12)
 
 returns : tie.Need-returns
 unfolding link_of
 returns c = and_mask c.args.cell 12
 
 pub link_of_spec : {M : Type 1} → statement M
-link_of_spec = tie.close (tie.spec cast_result returns)
+link_of_spec =
+    tie.close
+    (tie.spec
+    overflow_cast-result
+    returns)

@@ -7,27 +7,32 @@ use Rattle.reach.proofs.Closure.{coaccessible_closure}
 use Rattle.reach.proofs.marks.coaccessible_chained.Statement.{statement}
 use Rattle.reach.proofs.marks.coaccessible_chained.Tie as tie
 
-abbrev start : tie.After-final-marks → tie.Start
+abbrev start : tie.After-final_marks-marks → tie.Start
 start c = c.before.before
 
-size : (c : tie.After-final-marks) → Sized (decode (start c).args.table.now)
+size : (c : tie.After-final_marks-marks) → Sized (decode (start c).args.table.now)
 size c =
     let bs = (start c).args.table.now in
-    let bytes : Bytes bs = λ i. omega (arith, c.before.shared-slice-known.given i) in
+    let bytes : Bytes bs = λ i. omega (arith, c.before.shared_slice_known-1.given i) in
     sized bs bytes (start c).requires.0.accepted
 
-final_marks_requires : tie.Need-final-marks-requires
-final_marks_requires c κs = (c.before.requires.0.accepted, c.before.requires.3)
+final_marks-marks-requires : tie.Need-final_marks-marks-requires
+final_marks-marks-requires c κs = (c.before.requires.0.accepted, c.before.requires.3)
 
-settle_chained_requires : tie.Need-settle-chained-requires
-settle_chained_requires c κs =
+settle_chained-requires : tie.Need-settle_chained-requires
+settle_chained-requires c κs =
     let pre = (start c.before).requires in
-    (pre.0, pre.1, pre.2, pre.4, c.before.final-marks.ensures.long)
+    (pre.0, pre.1, pre.2, pre.4, c.before.final_marks-marks.ensures.long)
 
 returns : tie.Need-returns
 returns c =
     let marked = c.before.before in
-    coaccessible_closure (size marked).within marked.final-marks.ensures c.settle-chained.ensures
+    coaccessible_closure (size marked).within marked.final_marks-marks.ensures c.settle_chained.ensures
 
 pub coaccessible_chained_spec : {M : Type 1} → statement M
-coaccessible_chained_spec = tie.close (tie.spec final_marks_requires settle_chained_requires returns)
+coaccessible_chained_spec =
+    tie.close
+    (tie.spec
+    final_marks-marks-requires
+    settle_chained-requires
+    returns)

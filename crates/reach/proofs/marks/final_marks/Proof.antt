@@ -10,74 +10,74 @@ use Rattle.reach.proofs.FinalMarks.{Marking, marking_first, marking_next, markin
 use Rattle.reach.proofs.marks.final_marks.Statement.{statement}
 use Rattle.reach.proofs.marks.final_marks.Tie as tie
 
-abbrev invariant_loop : tie.invariant_loop
-invariant_loop table finals marks₀ i₀ place₀ marks i place = Marking table i place marks
+abbrev invariant-loop-i : tie.invariant-loop-i
+invariant-loop-i table finals marks₀ i₀ place₀ marks i place = Marking table i place marks
 
-abbrev decreases_loop : tie.decreases_loop
-decreases_loop table finals marks₀ i₀ place₀ marks i place = finals - i
+abbrev decreases-loop-i : tie.decreases-loop-i
+decreases-loop-i table finals marks₀ i₀ place₀ marks i place = finals - i
 
-loop_holds : tie.Need-loop-init invariant_loop decreases_loop
-loop_holds c = marking_first c.before.args.table.now
+loop-i-init : tie.Need-loop-i-init invariant-loop-i decreases-loop-i
+loop-i-init c = marking_first c.before.args.table.now
 
 -- In a turn: the bytes are bytes, and there is a final of this number.
-is_bytes : (c : tie.In-loop invariant_loop decreases_loop) → Bytes c.before.before.before.args.table.now
-is_bytes c = λ i. omega (arith, c.before.before.shared-slice-known.given i)
+is_bytes : (c : tie.In-loop-i invariant-loop-i decreases-loop-i) → Bytes c.before.before.before.args.table.now
+is_bytes c = λ i. omega (arith, c.before.before.shared_slice_known-1.given i)
 
-is_final : (c : tie.In-loop invariant_loop decreases_loop) → c.before.loop.i < head_finals c.before.before.before.args.table.now
-is_final c = omega (arith, c.loop-test.true, c.before.before.before.requires.1)
+is_final : (c : tie.In-loop-i invariant-loop-i decreases-loop-i) → c.before.loop-i.i < head_finals c.before.before.before.args.table.now
+is_final c = omega (arith, c.loop-i-test.true, c.before.before.before.requires.1)
 
-inside : (c : tie.In-loop invariant_loop decreases_loop) → c.before.loop.place + 10 ≤ length c.before.before.before.args.table.now
+inside : (c : tie.In-loop-i invariant-loop-i decreases-loop-i) → c.before.loop-i.place + 10 ≤ length c.before.before.before.args.table.now
 inside c =
-    final_inside c.before.before.before.args.table.now (is_bytes c) c.before.before.before.requires.0 c.before.loop.i (is_final c)
-    c.before.loop.invariant.there
+    final_inside c.before.before.before.args.table.now (is_bytes c) c.before.before.before.requires.0 c.before.loop-i.i (is_final c)
+    c.before.loop-i.invariant.there
 
-load_final_requires : tie.Need-load-final-requires invariant_loop decreases_loop
-load_final_requires c κs = inside c
+load_final-f-requires : tie.Need-load_final-f-requires invariant-loop-i decreases-loop-i
+load_final-f-requires c κs = inside c
 
-cast_state : tie.Need-overflow-cast-state invariant_loop decreases_loop
-cast_state c = search rules
+overflow_cast-state : tie.Need-overflow_cast-state invariant-loop-i decreases-loop-i
+overflow_cast-state c = search rules
 
-array_write_marks : tie.Need-array-write-marks invariant_loop decreases_loop
-array_write_marks c =
+bounds-marks-state : tie.Need-bounds-marks-state invariant-loop-i decreases-loop-i
+bounds-marks-state c =
     let turn = c.before.before in
     let start = turn.before.before.before in
-    (final_state start.args.table.now (is_bytes turn) start.requires.0 turn.before.loop.i c.before.load-final.result (is_final turn)
-    turn.before.loop.invariant.there c.before.load-final.ensures).1
+    (final_state start.args.table.now (is_bytes turn) start.requires.0 turn.before.loop-i.i c.before.load_final-f.result (is_final turn)
+    turn.before.loop-i.invariant.there c.before.load_final-f.ensures).1
 
-add_place : tie.Need-overflow-add-place invariant_loop decreases_loop
-add_place c = let turn = c.before.before in omega (arith, inside turn, turn.before.before.before.well-formed)
+overflow_add-place : tie.Need-overflow_add-place invariant-loop-i decreases-loop-i
+overflow_add-place c = let turn = c.before.before in omega (arith, inside turn, turn.before.before.before.well_formed)
 
-add_i : tie.Need-overflow-add-i invariant_loop decreases_loop
-add_i c = search rules
+overflow_add-i : tie.Need-overflow_add-i invariant-loop-i decreases-loop-i
+overflow_add-i c = search rules
 
-loop_less : tie.Need-loop-smaller invariant_loop decreases_loop
-loop_less c = search rules
+loop-i-smaller : tie.Need-loop-i-smaller invariant-loop-i decreases-loop-i
+loop-i-smaller c = search rules
 
-loop_again : tie.Need-loop-preserved invariant_loop decreases_loop
-loop_again c =
+loop-i-preserved : tie.Need-loop-i-preserved invariant-loop-i decreases-loop-i
+loop-i-preserved c =
     let turn = c.before.before in
     let start = turn.before.before.before in
-    marking_next start.args.table.now (is_bytes turn) start.requires.0 c.before.load-final.result (is_final turn)
-    c.before.load-final.ensures turn.before.loop.invariant
+    marking_next start.args.table.now (is_bytes turn) start.requires.0 c.before.load_final-f.result (is_final turn)
+    c.before.load_final-f.ensures turn.before.loop-i.invariant
 
-returns : tie.Need-returns invariant_loop decreases_loop
+returns : tie.Need-returns invariant-loop-i decreases-loop-i
 returns c =
     let start = c.before.before.before in
-    let bytes : Bytes start.args.table.now = λ i. omega (arith, c.before.before.shared-slice-known.given i) in
-    marking_stop start.args.table.now bytes start.requires.0 (omega (arith, c.loop-test.false, start.requires.1)) c.before.loop.invariant
+    let bytes : Bytes start.args.table.now = λ i. omega (arith, c.before.before.shared_slice_known-1.given i) in
+    marking_stop start.args.table.now bytes start.requires.0 (omega (arith, c.loop-i-test.false, start.requires.1)) c.before.loop-i.invariant
 
 pub final_marks_spec : {M : Type 1} → statement M
 final_marks_spec =
     tie.close
     (tie.spec
-    invariant_loop
-    decreases_loop
-    loop_holds
-    load_final_requires
-    cast_state
-    array_write_marks
-    add_place
-    add_i
-    loop_less
-    loop_again
+    invariant-loop-i
+    decreases-loop-i
+    loop-i-init
+    load_final-f-requires
+    overflow_cast-state
+    bounds-marks-state
+    overflow_add-place
+    overflow_add-i
+    loop-i-smaller
+    loop-i-preserved
     returns)

@@ -6,25 +6,31 @@ use Rattle.reach.proofs.Spreading.{widened_twice}
 use Rattle.reach.proofs.marks.settle.Statement.{statement}
 use Rattle.reach.proofs.marks.settle.Tie as tie
 
-sweep_requires : tie.Need-sweep-requires
-sweep_requires c κs = search rules
+sweep-again-requires : tie.Need-sweep-again-requires
+sweep-again-requires c κs = search rules
+
+returns-then-not-again : tie.Need-returns-then-not-again
+returns-then-not-again c =
+    let swept = c.before.sweep-again in
+    record { wider = swept.ensures.wider; closed = swept.ensures.closed c.if-not-again.true }
+
+spread_all-requires : tie.Need-spread_all-requires
+spread_all-requires c κs =
+    let swept = c.before.before in
+    let pre = swept.before.before.before.requires in
+    (pre.0, pre.1, pre.2, swept.sweep-again.ensures.wider.long ∙ pre.3)
 
 returns : tie.Need-returns
 returns c =
-    let swept = c.before.sweep in
-    record { wider = swept.ensures.wider; closed = swept.ensures.closed (not-true swept.result c.if1.true) }
-
-spread_all_requires : tie.Need-spread-all-requires
-spread_all_requires c κs =
-    let swept = c.before.before in
-    let pre = swept.before.before.before.requires in
-    (pre.0, pre.1, pre.2, swept.sweep.ensures.wider.long ∙ pre.3)
-
-returns_2 : tie.Need-returns-2
-returns_2 c =
-    let swept = c.before.before.before.sweep in
-    let all = c.spread-all.ensures in
+    let swept = c.before.before.before.sweep-again in
+    let all = c.spread_all.ensures in
     record { wider = widened_twice swept.ensures.wider all.wider; closed = all.closed }
 
 pub settle_spec : {M : Type 1} → statement M
-settle_spec = tie.close (tie.spec sweep_requires returns spread_all_requires returns_2)
+settle_spec =
+    tie.close
+    (tie.spec
+    sweep-again-requires
+    returns-then-not-again
+    spread_all-requires
+    returns)

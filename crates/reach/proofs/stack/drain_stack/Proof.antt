@@ -10,50 +10,60 @@ use Rattle.reach.proofs.Stacked.{left_to_do, waiting_less, waiting_pop, waiting_
 use Rattle.reach.proofs.stack.drain_stack.Statement.{statement}
 use Rattle.reach.proofs.stack.drain_stack.Tie as tie
 
-abbrev invariant_loop : tie.invariant_loop
-invariant_loop table back heads next count marks₀ stack₀ top₀ marks stack top = Widened (decode table) back marks₀ marks × Waiting (decode table) back marks stack top
+abbrev invariant-loop-top : tie.invariant-loop-top
+invariant-loop-top table back heads next count marks₀ stack₀ top₀ marks stack top = Widened (decode table) back marks₀ marks × Waiting (decode table) back marks stack top
 
-abbrev decreases_loop : tie.decreases_loop
-decreases_loop table back heads next count marks₀ stack₀ top₀ marks stack top = left_to_do marks top
+abbrev decreases-loop-top : tie.decreases-loop-top
+decreases-loop-top table back heads next count marks₀ stack₀ top₀ marks stack top = left_to_do marks top
 
 -- A turn.
 abbrev Turn : Type 0
-Turn = tie.In-loop invariant_loop decreases_loop
+Turn = tie.In-loop-top invariant-loop-top decreases-loop-top
 
-abbrev start : tie.At-loop invariant_loop decreases_loop → tie.Start invariant_loop decreases_loop
+abbrev start : tie.At-loop-top invariant-loop-top decreases-loop-top → tie.Start invariant-loop-top decreases-loop-top
 start c = c.before.before
 
-some : (c : Turn) → 0 < c.before.loop.top
-some c = c.loop-test.true
+some : (c : Turn) → 0 < c.before.loop-top.top
+some c = c.loop-top-test.true
 
-abbrev turn : tie.After-pop-state invariant_loop decreases_loop → Turn
+abbrev turn : tie.After-pop_state-top invariant-loop-top decreases-loop-top → Turn
 turn c = c.before.before.before
 
-loop_holds : tie.Need-loop-init invariant_loop decreases_loop
-loop_holds c =
+loop-top-init : tie.Need-loop-top-init invariant-loop-top decreases-loop-top
+loop-top-init c =
     let start = c.before in
     (widened_none (decode start.args.table.now) start.args.back start.args.marks.now, start.requires.2)
 
-sub_pop_state : tie.Need-overflow-sub-pop-state invariant_loop decreases_loop
-sub_pop_state c = omega (arith, some c)
+overflow_sub-top : tie.Need-overflow_sub-top invariant-loop-top decreases-loop-top
+overflow_sub-top c = omega (arith, some c)
 
-pop_state_requires : tie.Need-pop-state-requires invariant_loop decreases_loop
-pop_state_requires c κs =
+pop_state-top-requires : tie.Need-pop_state-top-requires invariant-loop-top decreases-loop-top
+pop_state-top-requires c κs =
     let turn = c.before.before in
     let h = turn.before in
-    let bytes : Bytes (start h).args.table.now = λ i. omega (arith, h.before.shared-slice-known.given i) in
-    (bytes, (start h).requires.0, (start h).requires.1, waiting_pop (some turn) h.loop.invariant.1)
+    let bytes : Bytes (start h).args.table.now = λ i. omega (arith, h.before.shared_slice_known-1.given i) in
+    (bytes, (start h).requires.0, (start h).requires.1, waiting_pop (some turn) h.loop-top.invariant.1)
 
-loop_less : tie.Need-loop-smaller invariant_loop decreases_loop
-loop_less c = waiting_less (some (turn c)) c.pop_state.ensures
+loop-top-smaller : tie.Need-loop-top-smaller invariant-loop-top decreases-loop-top
+loop-top-smaller c = waiting_less (some (turn c)) c.pop_state-top.ensures
 
-loop_again : tie.Need-loop-preserved invariant_loop decreases_loop
-loop_again c = (widened_twice (turn c).before.loop.invariant.0 c.pop_state.ensures.wider, c.pop_state.ensures.waiting)
+loop-top-preserved : tie.Need-loop-top-preserved invariant-loop-top decreases-loop-top
+loop-top-preserved c = (widened_twice (turn c).before.loop-top.invariant.0 c.pop_state-top.ensures.wider, c.pop_state-top.ensures.waiting)
 
-returns : tie.Need-returns invariant_loop decreases_loop
+returns : tie.Need-returns invariant-loop-top decreases-loop-top
 returns c =
     let h = c.before in
-    record { wider = h.loop.invariant.0; closed = waiting_none (omega (arith, c.loop-test.false)) h.loop.invariant.1 }
+    record { wider = h.loop-top.invariant.0; closed = waiting_none (omega (arith, c.loop-top-test.false)) h.loop-top.invariant.1 }
 
 pub drain_stack_spec : {M : Type 1} → statement M
-drain_stack_spec = tie.close (tie.spec invariant_loop decreases_loop loop_holds sub_pop_state pop_state_requires loop_less loop_again returns)
+drain_stack_spec =
+    tie.close
+    (tie.spec
+    invariant-loop-top
+    decreases-loop-top
+    loop-top-init
+    overflow_sub-top
+    pop_state-top-requires
+    loop-top-smaller
+    loop-top-preserved
+    returns)

@@ -9,83 +9,83 @@ use Rattle.reach.proofs.Stacked.{Pushing, pushing_first, pushing_top, pushing_ov
 use Rattle.reach.proofs.stack.push_marked.Statement.{statement}
 use Rattle.reach.proofs.stack.push_marked.Tie as tie
 
-abbrev invariant_loop : tie.invariant_loop
-invariant_loop states marks stack₀ s₀ top₀ stack s top = (s ≤ states) × Pushing s marks stack top
+abbrev invariant-loop-s : tie.invariant-loop-s
+invariant-loop-s states marks stack₀ s₀ top₀ stack s top = (s ≤ states) × Pushing s marks stack top
 
-abbrev decreases_loop : tie.decreases_loop
-decreases_loop states marks stack₀ s₀ top₀ stack s top = states - s
+abbrev decreases-loop-s : tie.decreases-loop-s
+decreases-loop-s states marks stack₀ s₀ top₀ stack s top = states - s
 
 -- A turn.
 abbrev Turn : Type 0
-Turn = tie.In-loop invariant_loop decreases_loop
+Turn = tie.In-loop-s invariant-loop-s decreases-loop-s
 
-below : (c : Turn) → c.before.loop.s < max_states
-below c = omega (arith, c.loop-test.true, c.before.before.requires.0)
+below : (c : Turn) → c.before.loop-s.s < max_states
+below c = omega (arith, c.loop-s-test.true, c.before.before.requires.0)
 
-room : (c : Turn) → c.before.loop.top < max_states
-room c = omega (arith, below c, pushing_top c.before.loop.invariant.1)
+room : (c : Turn) → c.before.loop-s.top < max_states
+room c = omega (arith, below c, pushing_top c.before.loop-s.invariant.1)
 
-loop_holds : tie.Need-loop-init invariant_loop decreases_loop
-loop_holds c = (omega arith, pushing_first c.args.marks.now c.args.stack.now c.requires.2)
+loop-s-init : tie.Need-loop-s-init invariant-loop-s decreases-loop-s
+loop-s-init c = (omega arith, pushing_first c.args.marks.now c.args.stack.now c.requires.2)
 
-add_s : tie.Need-overflow-add-s invariant_loop decreases_loop
-add_s c = omega (arith, below c)
+overflow_add-s : tie.Need-overflow_add-s invariant-loop-s decreases-loop-s
+overflow_add-s c = omega (arith, below c)
 
-element_copy_out_if1 : tie.Need-element-copy-out-if1 invariant_loop decreases_loop
-element_copy_out_if1 c = below c
+bounds-marks-state : tie.Need-bounds-marks-state invariant-loop-s decreases-loop-s
+bounds-marks-state c = below c.before
 
-loop_less : tie.Need-loop-smaller invariant_loop decreases_loop
-loop_less c = omega (arith, c.before.before.loop-test.true)
+loop-s-smaller-then-not-marks-state : tie.Need-loop-s-smaller-then-not-marks-state invariant-loop-s decreases-loop-s
+loop-s-smaller-then-not-marks-state c = omega (arith, c.before.before.loop-s-test.true)
 
-loop_again : tie.Need-loop-preserved invariant_loop decreases_loop
-loop_again c =
+loop-s-preserved-then-not-marks-state : tie.Need-loop-s-preserved-then-not-marks-state invariant-loop-s decreases-loop-s
+loop-s-preserved-then-not-marks-state c =
     let turn = c.before.before in
     let h = turn.before in
-    (omega (arith, turn.loop-test.true), pushing_over (not-true (get_or h.before.args.marks.now h.loop.s false) c.if1.true) h.loop.invariant.1)
+    (omega (arith, turn.loop-s-test.true), pushing_over c.if-not-marks-state.true h.loop-s.invariant.1)
 
-cast_stack : tie.Need-overflow-cast-stack invariant_loop decreases_loop
-cast_stack c = omega (arith, below c.before.before)
+overflow_cast-stack : tie.Need-overflow_cast-stack invariant-loop-s decreases-loop-s
+overflow_cast-stack c = omega (arith, below c.before.before.before)
 
-mul_stack : tie.Need-overflow-mul-stack invariant_loop decreases_loop
-mul_stack c = omega (arith, room c.before.before)
+offset_bounds-stack-top : tie.Need-offset_bounds-stack-top invariant-loop-s decreases-loop-s
+offset_bounds-stack-top c = omega (arith, room c.before.before.before)
 
-element_write_stack : tie.Need-element-write-stack invariant_loop decreases_loop
-element_write_stack c = omega (arith, room c.before.before, c.before.before.before.loop.invariant.1.stack_long)
+bounds-stack-top : tie.Need-bounds-stack-top invariant-loop-s decreases-loop-s
+bounds-stack-top c = omega (arith, room c.before.before.before.before, c.before.before.before.loop-s.invariant.1.stack_long)
 
-add_top : tie.Need-overflow-add-top invariant_loop decreases_loop
-add_top c = omega (arith, room c.before.before)
+overflow_add-top : tie.Need-overflow_add-top invariant-loop-s decreases-loop-s
+overflow_add-top c = omega (arith, room c.before.before.before.before)
 
-loop_less_2 : tie.Need-loop-smaller-2 invariant_loop decreases_loop
-loop_less_2 c = omega (arith, c.before.before.loop-test.true)
+loop-s-smaller : tie.Need-loop-s-smaller invariant-loop-s decreases-loop-s
+loop-s-smaller c = omega (arith, c.before.before.loop-s-test.true)
 
-loop_again_2 : tie.Need-loop-preserved-2 invariant_loop decreases_loop
-loop_again_2 c =
+loop-s-preserved : tie.Need-loop-s-preserved invariant-loop-s decreases-loop-s
+loop-s-preserved c =
     let turn = c.before.before in
     let h = turn.before in (
-      omega (arith, turn.loop-test.true),
-      pushing_next (below turn) (not-false (get_or h.before.args.marks.now h.loop.s false) c.if1.false) h.loop.invariant.1,
+      omega (arith, turn.loop-s-test.true),
+      pushing_next (below turn.before.before) c.if-not-marks-state.false h.loop-s.invariant.1,
     )
 
-returns : tie.Need-returns invariant_loop decreases_loop
+returns : tie.Need-returns invariant-loop-s decreases-loop-s
 returns c =
     let h = c.before in
-    pushing_stop (omega (arith, c.loop-test.false, h.loop.invariant.0)) (omega (arith, h.before.requires.0, h.before.requires.1)) h.loop.invariant.1
+    pushing_stop (omega (arith, c.loop-s-test.false, h.loop-s.invariant.0)) (omega (arith, h.before.requires.0, h.before.requires.1)) h.loop-s.invariant.1
 
 pub push_marked_spec : {M : Type 1} → statement M
 push_marked_spec =
     tie.close
     (tie.spec
-    invariant_loop
-    decreases_loop
-    loop_holds
-    add_s
-    element_copy_out_if1
-    loop_less
-    loop_again
-    cast_stack
-    mul_stack
-    element_write_stack
-    add_top
-    loop_less_2
-    loop_again_2
+    invariant-loop-s
+    decreases-loop-s
+    loop-s-init
+    overflow_add-s
+    bounds-marks-state
+    loop-s-smaller-then-not-marks-state
+    loop-s-preserved-then-not-marks-state
+    overflow_cast-stack
+    offset_bounds-stack-top
+    bounds-stack-top
+    overflow_add-top
+    loop-s-smaller
+    loop-s-preserved
     returns)

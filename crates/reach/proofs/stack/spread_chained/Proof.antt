@@ -10,7 +10,7 @@ use Rattle.reach.proofs.stack.spread_chained.Tie as tie
 
 -- The entry, with what is known of the bytes.
 abbrev Entry : Type 0
-Entry = tie.After-shared-slice-known
+Entry = tie.After-shared_slice_known-1
 
 abbrev start : Entry → tie.Start
 start c = c.before
@@ -18,23 +18,28 @@ start c = c.before
 size : (c : Entry) → Sized (decode (start c).args.table.now)
 size c =
     let bs = (start c).args.table.now in
-    let bytes : Bytes bs = λ i. omega (arith, c.shared-slice-known.given i) in
+    let bytes : Bytes bs = λ i. omega (arith, c.shared_slice_known-1.given i) in
     sized bs bytes (start c).requires.0
 
-push_marked_requires : tie.Need-push-marked-requires
-push_marked_requires c κs =
+push_marked-count-requires : tie.Need-push_marked-count-requires
+push_marked-count-requires c κs =
     let e = c.before.before in
     (omega (arith, (start e).requires.1, (size e).states), (start e).requires.3, refl)
 
-drain_stack_requires : tie.Need-drain-stack-requires
-drain_stack_requires c κs =
+drain_stack-requires : tie.Need-drain_stack-requires
+drain_stack-requires c κs =
     let pushed = c.before.before in
     let e = pushed.before.before.before in
     let pre = (start e).requires in
-    (pre.0, pre.2, waiting_first (size e) (start e).args.back pre.1 pre.3 pushed.push-marked.ensures)
+    (pre.0, pre.2, waiting_first (size e) (start e).args.back pre.1 pre.3 pushed.push_marked-count.ensures)
 
 returns : tie.Need-returns
-returns c = c.drain-stack.ensures
+returns c = c.drain_stack.ensures
 
 pub spread_chained_spec : {M : Type 1} → statement M
-spread_chained_spec = tie.close (tie.spec push_marked_requires drain_stack_requires returns)
+spread_chained_spec =
+    tie.close
+    (tie.spec
+    push_marked-count-requires
+    drain_stack-requires
+    returns)

@@ -3,17 +3,23 @@ use borrow.Author.Rules.{rules}
 use Rattle.reach.proofs.sweep.arc_at_turn.Statement.{statement}
 use Rattle.reach.proofs.sweep.arc_at_turn.Tie as tie
 
-add_result : tie.Need-overflow-add-result
-add_result c = search rules
+overflow_add-result : tie.Need-overflow_add-result
+overflow_add-result c = search rules
 
-sub_result : tie.Need-overflow-sub-result
-sub_result c = search rules
+overflow_sub-result : tie.Need-overflow_sub-result
+overflow_sub-result c = search rules
+
+returns-then-back : tie.Need-returns-then-back
+returns-then-back c = rw c.if-back.true
 
 returns : tie.Need-returns
-returns c = rw c.if1.true
-
-returns_2 : tie.Need-returns-2
-returns_2 c = rw c.if1.false
+returns c = rw c.if-back.false
 
 pub arc_at_turn_spec : {M : Type 1} → statement M
-arc_at_turn_spec = tie.close (tie.spec add_result sub_result returns returns_2)
+arc_at_turn_spec =
+    tie.close
+    (tie.spec
+    overflow_add-result
+    overflow_sub-result
+    returns-then-back
+    returns)

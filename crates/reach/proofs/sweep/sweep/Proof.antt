@@ -11,117 +11,117 @@ use Rattle.reach.proofs.Sweeping.{Sweeping, low_at, high_at, at_turn_below, swee
 use Rattle.reach.proofs.sweep.sweep.Statement.{statement}
 use Rattle.reach.proofs.sweep.sweep.Tie as tie
 
-abbrev invariant_loop : tie.invariant_loop
-invariant_loop table first arcs back marks₀ k₀ marks k =
+abbrev invariant-loop-k : tie.invariant-loop-k
+invariant-loop-k table first arcs back marks₀ k₀ marks k =
     (k ≤ arcs) × Sweeping (decode table) back (low_at back arcs k) (high_at back arcs k) marks₀ marks
 
-abbrev decreases_loop : tie.decreases_loop
-decreases_loop table first arcs back marks₀ k₀ marks k = arcs - k
+abbrev decreases-loop-k : tie.decreases-loop-k
+decreases-loop-k table first arcs back marks₀ k₀ marks k = arcs - k
 
 -- A turn, its arc known; then both ends of it.
 abbrev Turn : Type 0
-Turn = tie.After-arc-at-turn invariant_loop decreases_loop
+Turn = tie.After-arc_at_turn-i invariant-loop-k decreases-loop-k
 
-abbrev at : Turn → tie.At-loop invariant_loop decreases_loop
+abbrev at : Turn → tie.At-loop-k invariant-loop-k decreases-loop-k
 at c = c.before.before
 
-abbrev start : tie.At-loop invariant_loop decreases_loop → tie.Start invariant_loop decreases_loop
+abbrev start : tie.At-loop-k invariant-loop-k decreases-loop-k → tie.Start invariant-loop-k decreases-loop-k
 start c = c.before.before
 
 abbrev Ends : Type 0
-Ends = tie.After-to-end invariant_loop decreases_loop
+Ends = tie.After-to_end-to invariant-loop-k decreases-loop-k
 
 abbrev turn : Ends → Turn
 turn c = c.before.before
 
-abbrev waited : tie.After-spread invariant_loop decreases_loop → tie.After-waits invariant_loop decreases_loop
+abbrev waited : tie.After-spread invariant-loop-k decreases-loop-k → tie.After-waits invariant-loop-k decreases-loop-k
 waited c = c.before.before.before
 
-abbrev ends_of : tie.After-spread invariant_loop decreases_loop → Ends
+abbrev ends_of : tie.After-spread invariant-loop-k decreases-loop-k → Ends
 ends_of c = (waited c).before.before
 
-is_bytes : (c : tie.At-loop invariant_loop decreases_loop) → Bytes (start c).args.table.now
-is_bytes c = λ k. omega (arith, c.before.shared-slice-known.given k)
+is_bytes : (c : tie.At-loop-k invariant-loop-k decreases-loop-k) → Bytes (start c).args.table.now
+is_bytes c = λ k. omega (arith, c.before.shared_slice_known-1.given k)
 
-size : (c : tie.At-loop invariant_loop decreases_loop) → Sized (decode (start c).args.table.now)
+size : (c : tie.At-loop-k invariant-loop-k decreases-loop-k) → Sized (decode (start c).args.table.now)
 size c = sized (start c).args.table.now (is_bytes c) (start c).requires.0.accepted
 
-is_arc : (c : Turn) → c.arc-at-turn.result < length (decode (start (at c)).args.table.now).arcs
-is_arc c = at_turn_below (start (at c)).args.back c.arc-at-turn.ensures c.before.loop-test.true (start (at c)).pre.1
+is_arc : (c : Turn) → c.arc_at_turn-i.result < length (decode (start (at c)).args.table.now).arcs
+is_arc c = at_turn_below (start (at c)).args.back c.arc_at_turn-i.ensures c.before.loop-k-test.true (start (at c)).requires.1
 
-inside : (c : Ends) → (c.before.from_end.result < max_states) × (c.to_end.result < max_states)
+inside : (c : Ends) → (c.before.from_end-from.result < max_states) × (c.to_end-to.result < max_states)
 inside c =
     let few = (size (at (turn c))).states in
-    (omega (arith, c.before.from_end.ensures.1, few), omega (arith, c.to_end.ensures.1, few))
+    (omega (arith, c.before.from_end-from.ensures.1, few), omega (arith, c.to_end-to.ensures.1, few))
 
-loop_holds : tie.Need-loop-init invariant_loop decreases_loop
-loop_holds c =
+loop-k-init : tie.Need-loop-k-init invariant-loop-k decreases-loop-k
+loop-k-init c =
     let x = c.before.args in
     (omega arith, sweeping_first (decode x.table.now) x.back x.arcs x.marks.now)
 
-arc_at_turn_requires : tie.Need-arc-at-turn-requires invariant_loop decreases_loop
-arc_at_turn_requires c κs = omega (arith, c.loop-test.true)
+arc_at_turn-i-requires : tie.Need-arc_at_turn-i-requires invariant-loop-k decreases-loop-k
+arc_at_turn-i-requires c κs = omega (arith, c.loop-k-test.true)
 
-from_end_requires : tie.Need-from-end-requires invariant_loop decreases_loop
-from_end_requires c κs = ((start (at c)).pre.0, is_arc c)
+from_end-from-requires : tie.Need-from_end-from-requires invariant-loop-k decreases-loop-k
+from_end-from-requires c κs = ((start (at c)).requires.0, is_arc c)
 
-to_end_requires : tie.Need-to-end-requires invariant_loop decreases_loop
-to_end_requires c κs = ((start (at c.before)).pre.0, is_arc c.before)
+to_end-to-requires : tie.Need-to_end-to-requires invariant-loop-k decreases-loop-k
+to_end-to-requires c κs = ((start (at c.before)).requires.0, is_arc c.before)
 
-waits_requires : tie.Need-waits-requires invariant_loop decreases_loop
-waits_requires c κs =
-    let h = at (turn c.before) in
-    ((inside c.before).0, (inside c.before).1, h.loop.inv.1.wider.long ∙ (start h).pre.2)
+waits-requires : tie.Need-waits-requires invariant-loop-k decreases-loop-k
+waits-requires c κs =
+    let h = at (turn c) in
+    ((inside c).0, (inside c).1, h.loop-k.invariant.1.wider.long ∙ (start h).requires.2)
 
-spread_requires : tie.Need-spread-requires invariant_loop decreases_loop
-spread_requires c κs =
+spread-requires : tie.Need-spread-requires invariant-loop-k decreases-loop-k
+spread-requires c κs =
     let ends = c.before.before.before.before in
     let h = at (turn ends) in
-    ((inside ends).0, (inside ends).1, h.loop.inv.1.wider.long ∙ (start h).pre.2)
+    ((inside ends).0, (inside ends).1, h.loop-k.invariant.1.wider.long ∙ (start h).requires.2)
 
-add_k : tie.Need-overflow-add-k invariant_loop decreases_loop
-add_k c =
+overflow_add-k : tie.Need-overflow_add-k invariant-loop-k decreases-loop-k
+overflow_add-k c =
     let t = turn (ends_of c) in
-    omega (arith, t.before.loop-test.taken, (start (at t)).pre.1, (size (at t)).arcs)
+    omega (arith, t.before.loop-k-test.true, (start (at t)).requires.1, (size (at t)).arcs)
 
-loop_less : tie.Need-loop-smaller invariant_loop decreases_loop
-loop_less c = omega (arith, (turn (ends_of c)).before.loop-test.taken)
+loop-k-smaller : tie.Need-loop-k-smaller invariant-loop-k decreases-loop-k
+loop-k-smaller c = omega (arith, (turn (ends_of c)).before.loop-k-test.true)
 
-loop_again : tie.Need-loop-preserved invariant_loop decreases_loop
-loop_again c =
+loop-k-preserved : tie.Need-loop-k-preserved invariant-loop-k decreases-loop-k
+loop-k-preserved c =
     let wait = (waited c).waits in
     let ends = ends_of c in
     let t = turn ends in
     let h = at t in
-    let order = sources_order (start h).args.table.now (is_bytes h) (start h).pre.0.accepted in (
-      omega (arith, t.before.loop-test.taken),
-      sweeping_next (start h).args.back t.arc-at-turn.result order t.arc-at-turn.ensures t.before.loop-test.taken (start h).pre.1
-          ends.before.from_end.ensures.0 ends.to_end.ensures.0 (sym wait.ensures ∙ c.before.before.if1.false) h.loop.inv.1
+    let order = sources_order (start h).args.table.now (is_bytes h) (start h).requires.0.accepted in (
+      omega (arith, t.before.loop-k-test.true),
+      sweeping_next (start h).args.back t.arc_at_turn-i.result order t.arc_at_turn-i.ensures t.before.loop-k-test.true (start h).requires.1
+          ends.before.from_end-from.ensures.0 ends.to_end-to.ensures.0 (sym wait.ensures ∙ c.before.before.if-waits.false) h.loop-k.invariant.1
           c.spread.ensures,
     )
 
-returns : tie.Need-returns invariant_loop decreases_loop
-returns c = swept_more (at (turn c.before.before.before)).loop.inv.1.wider
+returns-then-waits : tie.Need-returns-then-waits invariant-loop-k decreases-loop-k
+returns-then-waits c = swept_more (at (turn c.before.before)).loop-k.invariant.1.wider
 
-returns_2 : tie.Need-returns-2 invariant_loop decreases_loop
-returns_2 c =
+returns : tie.Need-returns invariant-loop-k decreases-loop-k
+returns c =
     let h = c.before in
-    sweeping_stop (start h).args.back (start h).requires.1 (omega (arith, c.loop-test.false, h.loop.invariant.0)) h.loop.invariant.1
+    sweeping_stop (start h).args.back (start h).requires.1 (omega (arith, c.loop-k-test.false, h.loop-k.invariant.0)) h.loop-k.invariant.1
 
 pub sweep_spec : {M : Type 1} → statement M
 sweep_spec =
     tie.close
     (tie.spec
-    invariant_loop
-    decreases_loop
-    loop_holds
-    arc_at_turn_requires
-    from_end_requires
-    to_end_requires
-    waits_requires
-    returns
-    spread_requires
-    add_k
-    loop_less
-    loop_again
-    returns_2)
+    invariant-loop-k
+    decreases-loop-k
+    loop-k-init
+    arc_at_turn-i-requires
+    from_end-from-requires
+    to_end-to-requires
+    waits-requires
+    returns-then-waits
+    spread-requires
+    overflow_add-k
+    loop-k-smaller
+    loop-k-preserved
+    returns)

@@ -11,22 +11,28 @@ small : (c : tie.Start) → nat_abs (c.args.weight -ℤ min_weight) + 1 ≤ max_
 unfolding code_of
 small c = code_most c.args.weight c.requires
 
-sub_result : tie.Need-overflow-sub-result
-sub_result c = rw (to_z-of_z c.ranges.weight) (above_fits c.args.weight c.requires)
+overflow_sub-result : tie.Need-overflow_sub-result
+overflow_sub-result c = rw (to_z-of_z c.ranges.weight) (above_fits c.args.weight c.requires)
 
-cast_result : tie.Need-overflow-cast-result
-cast_result c =
+overflow_cast-result : tie.Need-overflow_cast-result
+overflow_cast-result c =
     let w = c.args.weight in
     let fits = above_fits w c.requires in
     rw (to_z-of_z c.ranges.weight, to_z-of_z fits)
     (rw (above_least w (good_range w c.requires).low) tt, record { fits = omega (arith, small c) })
 
-add_result : tie.Need-overflow-add-result
-add_result c = rw (to_z-of_z c.ranges.weight, to_z-of_z (above_fits c.args.weight c.requires)) (record { fits = omega (arith, small c) })
+overflow_add-result : tie.Need-overflow_add-result
+overflow_add-result c = rw (to_z-of_z c.ranges.weight, to_z-of_z (above_fits c.args.weight c.requires)) (record { fits = omega (arith, small c) })
 
 returns : tie.Need-returns
 unfolding code_of
 returns c = rw (to_z-of_z c.ranges.weight, to_z-of_z (above_fits c.args.weight c.requires)) (refl, small c)
 
 pub code_of_spec : {M : Type 1} → statement M
-code_of_spec = tie.close (tie.spec sub_result cast_result add_result returns)
+code_of_spec =
+    tie.close
+    (tie.spec
+    overflow_sub-result
+    overflow_cast-result
+    overflow_add-result
+    returns)

@@ -1,4 +1,5 @@
 -- The invariant (`EndsMarking`): the first `i` arcs are marked.
+use borrow.Author.Rules.{rules}
 use Rattle.std.proofs.Common.{◌≡◌, ◌+◌, ◌-◌, ◌<◌, ◌≤◌, length, take, arith, rules}
 use Rattle.wire.specs.Bytes.{Bytes}
 use Rattle.transducer.specs.Format.{max_states, decode, head_arcs}
@@ -7,29 +8,29 @@ use Rattle.transducer.proofs.FirstArcs.{EndsMarking, Small, opened_small, markin
 use Rattle.transducer.proofs.accepted.mark_each.Statement.{statement}
 use Rattle.transducer.proofs.accepted.mark_each.Tie as tie
 
-abbrev invariant_loop : tie.invariant_loop
-invariant_loop bytes first from to index₀ i₀ place₀ index i place = (i ≤ to) × EndsMarking bytes i place index
+abbrev invariant-loop-i : tie.invariant-loop-i
+invariant-loop-i bytes first from to index₀ i₀ place₀ index i place = (i ≤ to) × EndsMarking bytes i place index
 
-abbrev decreases_loop : tie.decreases_loop
-decreases_loop bytes first from to index₀ i₀ place₀ index i place = to - i
+abbrev decreases-loop-i : tie.decreases-loop-i
+decreases-loop-i bytes first from to index₀ i₀ place₀ index i place = to - i
 
-is_bytes : (c : tie.After-shared-slice-known invariant_loop decreases_loop) → Bytes c.before.args.bytes.now
-is_bytes c = λ i. omega (arith, c.shared-slice-known.given i)
+is_bytes : (c : tie.After-shared_slice_known-1 invariant-loop-i decreases-loop-i) → Bytes c.before.args.bytes.now
+is_bytes c = λ i. omega (arith, c.shared_slice_known-1.given i)
 
-small : (c : tie.After-shared-slice-known invariant_loop decreases_loop) → Small c.before.args.bytes.now c.before.args.first
+small : (c : tie.After-shared_slice_known-1 invariant-loop-i decreases-loop-i) → Small c.before.args.bytes.now c.before.args.first
 small c = opened_small c.before.args.bytes.now (is_bytes c) c.before.requires.0.accepted c.before.requires.0
 
-mul_place : tie.Need-overflow-mul-place invariant_loop decreases_loop
-mul_place c = omega (arith, small c)
+overflow_mul-place : tie.Need-overflow_mul-place invariant-loop-i decreases-loop-i
+overflow_mul-place c = omega (arith, small c)
 
-add_place : tie.Need-overflow-add-place invariant_loop decreases_loop
-add_place c = omega (arith, small c)
+overflow_add-place : tie.Need-overflow_add-place invariant-loop-i decreases-loop-i
+overflow_add-place c = omega (arith, small c)
 
-add_place_2 : tie.Need-overflow-add-place-2 invariant_loop decreases_loop
-add_place_2 c = omega (arith, small c)
+overflow_add-place-2 : tie.Need-overflow_add-place-2 invariant-loop-i decreases-loop-i
+overflow_add-place-2 c = omega (arith, small c)
 
-loop_holds : tie.Need-loop-init invariant_loop decreases_loop
-loop_holds c =
+loop-i-init : tie.Need-loop-i-init invariant-loop-i decreases-loop-i
+loop-i-init c =
     let start = c.before in (
       start.requires.1,
       marking_first start.args.bytes.now (is_bytes c) start.requires.0.accepted (omega (arith, small c))
@@ -37,85 +38,85 @@ loop_holds c =
     )
 
 -- In a turn there is an arc of this number.
-is_arc : (c : tie.In-loop invariant_loop decreases_loop) → c.before.loop.i < head_arcs c.before.before.before.args.bytes.now
-is_arc c = omega (arith, c.loop-test.true, small c.before.before)
+is_arc : (c : tie.In-loop-i invariant-loop-i decreases-loop-i) → c.before.loop-i.i < head_arcs c.before.before.before.args.bytes.now
+is_arc c = omega (arith, c.loop-i-test.true, small c.before.before)
 
-inside : (c : tie.In-loop invariant_loop decreases_loop) → c.before.loop.place + 12 ≤ length c.before.before.before.args.bytes.now
+inside : (c : tie.In-loop-i invariant-loop-i decreases-loop-i) → c.before.loop-i.place + 12 ≤ length c.before.before.before.args.bytes.now
 inside c =
     let start = c.before.before.before in
-    marking_inside start.args.bytes.now (is_bytes c.before.before) start.requires.0.accepted (is_arc c) c.before.loop.invariant.1
+    marking_inside start.args.bytes.now (is_bytes c.before.before) start.requires.0.accepted (is_arc c) c.before.loop-i.invariant.1
 
 -- The source that is loaded is a state.
-is_state : (c : tie.After-u16-at invariant_loop decreases_loop) → c.u16-at.result < max_states
+is_state : (c : tie.After-u16_at-source invariant-loop-i decreases-loop-i) → c.u16_at-source.result < max_states
 is_state c =
     let turn = c.before in
     let start = turn.before.before.before in
-    marking_source start.args.bytes.now (is_bytes turn.before.before) start.requires.0.accepted c.u16-at.result (is_arc turn)
-    c.u16-at.ensures turn.before.loop.invariant.1
+    marking_source start.args.bytes.now (is_bytes turn.before.before) start.requires.0.accepted c.u16_at-source.result (is_arc turn)
+    c.u16_at-source.ensures turn.before.loop-i.invariant.1
 
-u16_at_requires : tie.Need-u16-at-requires invariant_loop decreases_loop
-u16_at_requires c κs = omega (arith, inside c)
+u16_at-source-requires : tie.Need-u16_at-source-requires invariant-loop-i decreases-loop-i
+u16_at-source-requires c κs = omega (arith, inside c)
 
-cast_source : tie.Need-overflow-cast-source invariant_loop decreases_loop
-cast_source c = search rules
+overflow_cast-source : tie.Need-overflow_cast-source invariant-loop-i decreases-loop-i
+overflow_cast-source c = search rules
 
-add_i : tie.Need-overflow-add-i invariant_loop decreases_loop
-add_i c = search rules
+overflow_add-i : tie.Need-overflow_add-i invariant-loop-i decreases-loop-i
+overflow_add-i c = search rules
 
-cast_index : tie.Need-overflow-cast-index invariant_loop decreases_loop
-cast_index c = omega (arith, is_arc c.before, small c.before.before.before)
+overflow_cast-index : tie.Need-overflow_cast-index invariant-loop-i decreases-loop-i
+overflow_cast-index c = omega (arith, is_arc c.before, small c.before.before.before)
 
-add_index : tie.Need-overflow-add-index invariant_loop decreases_loop
-add_index c = search rules
+overflow_add-index : tie.Need-overflow_add-index invariant-loop-i decreases-loop-i
+overflow_add-index c = search rules
 
-mul_index : tie.Need-overflow-mul-index invariant_loop decreases_loop
-mul_index c = search rules
+offset_bounds-index-source : tie.Need-offset_bounds-index-source invariant-loop-i decreases-loop-i
+offset_bounds-index-source c = search rules
 
-element_write_index : tie.Need-element-write-index invariant_loop decreases_loop
-element_write_index c = omega (arith, is_state c)
+bounds-index-source : tie.Need-bounds-index-source invariant-loop-i decreases-loop-i
+bounds-index-source c = omega (arith, is_state c.before)
 
-add_place_3 : tie.Need-overflow-add-place-3 invariant_loop decreases_loop
-add_place_3 c = omega (arith, inside c.before, c.before.before.before.before.well-formed)
+overflow_add-place-in-loop-i : tie.Need-overflow_add-place-in-loop-i invariant-loop-i decreases-loop-i
+overflow_add-place-in-loop-i c = omega (arith, inside c.before.before, c.before.before.before.before.well_formed)
 
-loop_less : tie.Need-loop-smaller invariant_loop decreases_loop
-loop_less c = search rules
+loop-i-smaller : tie.Need-loop-i-smaller invariant-loop-i decreases-loop-i
+loop-i-smaller c = search rules
 
-loop_again : tie.Need-loop-preserved invariant_loop decreases_loop
-loop_again c =
+loop-i-preserved : tie.Need-loop-i-preserved invariant-loop-i decreases-loop-i
+loop-i-preserved c =
     let turn = c.before in
     let start = turn.before.before.before in (
-      omega (arith, turn.loop-test.true),
-      marking_next start.args.bytes.now (is_bytes turn.before.before) start.requires.0.accepted
-          c.u16-at.result (is_arc turn) c.u16-at.ensures turn.before.loop.invariant.1,
+      omega (arith, turn.loop-i-test.true),
+      marking_next start.args.bytes.now (is_bytes turn.before.before.before) start.requires.0.accepted
+          c.u16_at-source.result (is_arc turn.before) c.u16_at-source.ensures turn.before.loop-i.invariant.1,
     )
 
-returns : tie.Need-returns invariant_loop decreases_loop
+returns : tie.Need-returns invariant-loop-i decreases-loop-i
 returns c =
     let known = c.before.before in
     let start = known.before in
-    let all : c.before.loop.i ≡ start.args.to = omega (arith, c.loop-test.false, c.before.loop.invariant.0) in
-    let done : EndsMarked (take c.before.loop.i (decode start.args.bytes.now).arcs) c.before.loop.index =
-    marking_stop start.args.bytes.now (is_bytes known) start.requires.0.accepted c.before.loop.invariant.1 in
+    let all : c.before.loop-i.i ≡ start.args.to = omega (arith, c.loop-i-test.false, c.before.loop-i.invariant.0) in
+    let done : EndsMarked (take c.before.loop-i.i (decode start.args.bytes.now).arcs) c.before.loop-i.index =
+    marking_stop start.args.bytes.now (is_bytes known) start.requires.0.accepted c.before.loop-i.invariant.1 in
     rw all at done
 
 pub mark_each_spec : {M : Type 1} → statement M
 mark_each_spec =
     tie.close
     (tie.spec
-    invariant_loop
-    decreases_loop
-    mul_place
-    add_place
-    add_place_2
-    loop_holds
-    u16_at_requires
-    cast_source
-    add_i
-    cast_index
-    add_index
-    mul_index
-    element_write_index
-    add_place_3
-    loop_less
-    loop_again
+    invariant-loop-i
+    decreases-loop-i
+    overflow_mul-place
+    overflow_add-place
+    overflow_add-place-2
+    loop-i-init
+    u16_at-source-requires
+    overflow_cast-source
+    overflow_add-i
+    overflow_cast-index
+    overflow_add-index
+    offset_bounds-index-source
+    bounds-index-source
+    overflow_add-place-in-loop-i
+    loop-i-smaller
+    loop-i-preserved
     returns)

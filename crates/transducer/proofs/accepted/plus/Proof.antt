@@ -16,14 +16,19 @@ fits c =
     let w = c.args.weight in
     magnitude_fits (plus a w) (omega (arith, magnitude_plus a w, magnitude_is w, size w, c.ranges.weight.sfits, c.requires))
 
-cast_result : tie.Need-overflow-cast-result
-cast_result c = rw (to_z-of_z c.ranges.weight) (wide c)
+overflow_cast-result : tie.Need-overflow_cast-result
+overflow_cast-result c = rw (to_z-of_z c.ranges.weight) (wide c)
 
-add_result : tie.Need-overflow-add-result
-add_result c = rw (to_z-of_z c.ranges.cost, to_z-of_z c.ranges.weight, to_z-of_z (wide c)) (fits c)
+overflow_add-result : tie.Need-overflow_add-result
+overflow_add-result c = rw (to_z-of_z c.ranges.cost, to_z-of_z c.ranges.weight, to_z-of_z (wide c)) (fits c)
 
 returns : tie.Need-returns
 returns c = rw (to_z-of_z c.ranges.cost, to_z-of_z c.ranges.weight, to_z-of_z (wide c), to_z-of_z (fits c)) refl
 
 pub plus_spec : {M : Type 1} → statement M
-plus_spec = tie.close (tie.spec cast_result add_result returns)
+plus_spec =
+    tie.close
+    (tie.spec
+    overflow_cast-result
+    overflow_add-result
+    returns)

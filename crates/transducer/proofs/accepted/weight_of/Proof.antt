@@ -1,4 +1,5 @@
 -- What a code is above 1, the weight is above the least one.
+use borrow.Author.Rules.{rules}
 use Rattle.std.proofs.Common.{◌-◌, ◌^◌, ◌<◌, refl, arith, to_z-of_z, w32, rules}
 use mir.Facts.{to_z_pos}
 use Rattle.transducer.specs.Weight.{weight_of}
@@ -9,14 +10,14 @@ use Rattle.transducer.proofs.accepted.weight_of.Tie as tie
 below : (c : tie.Start) → c.args.code - 1 < 2 ^ 31
 below c = omega (arith, c.requires.1)
 
-sub_result : tie.Need-overflow-sub-result
-sub_result c = search rules
+overflow_sub-result : tie.Need-overflow_sub-result
+overflow_sub-result c = search rules
 
-cast_result : tie.Need-overflow-cast-result
-cast_result c = search rules
+overflow_cast-result : tie.Need-overflow_cast-result
+overflow_cast-result c = search rules
 
-add_result : tie.Need-overflow-add-result
-add_result c = rw (to_z_pos w32 (below c)) (weight_of_fits c.args.code c.requires.1)
+overflow_add-result : tie.Need-overflow_add-result
+overflow_add-result c = rw (to_z_pos w32 (below c)) (weight_of_fits c.args.code c.requires.1)
 
 returns : tie.Need-returns
 unfolding weight_of
@@ -25,4 +26,10 @@ returns c =
     (refl, weight_of_good c.args.code c.requires.0 c.requires.1)
 
 pub weight_of_spec : {M : Type 1} → statement M
-weight_of_spec = tie.close (tie.spec sub_result cast_result add_result returns)
+weight_of_spec =
+    tie.close
+    (tie.spec
+    overflow_sub-result
+    overflow_cast-result
+    overflow_add-result
+    returns)

@@ -1,4 +1,5 @@
 -- A fold over the finals. The invariant: what is left to test, from the tests so far, gives the whole.
+use borrow.Author.Rules.{rules}
 use Rattle.std.proofs.Common.{◌-◌, refl, arith, rules}
 use Rattle.wire.specs.Bytes.{four}
 use Rattle.transducer.specs.Format.{final_at}
@@ -7,57 +8,57 @@ use Rattle.transducer.proofs.Checked.{Left, left_first, left_next, left_stop}
 use Rattle.transducer.proofs.check.check_finals.Statement.{statement}
 use Rattle.transducer.proofs.check.check_finals.Tie as tie
 
-abbrev invariant_loop : tie.invariant_loop
-invariant_loop bytes at count n checks₀ place₀ i₀ checks place i =
+abbrev invariant-loop-i : tie.invariant-loop-i
+invariant-loop-i bytes at count n checks₀ place₀ i₀ checks place i =
     Left (λ k p. finals_checked k p 10 n (four bytes) (final_at bytes)) count at 10 checks₀ i place checks
 
-abbrev decreases_loop : tie.decreases_loop
-decreases_loop bytes at count n checks₀ place₀ i₀ checks place i = count - i
+abbrev decreases-loop-i : tie.decreases-loop-i
+decreases-loop-i bytes at count n checks₀ place₀ i₀ checks place i = count - i
 
-loop_holds : tie.Need-loop-init invariant_loop decreases_loop
-loop_holds c = left_first
+loop-i-init : tie.Need-loop-i-init invariant-loop-i decreases-loop-i
+loop-i-init c = left_first
 
-u32_at_requires : tie.Need-u32-at-requires invariant_loop decreases_loop
-u32_at_requires c κs = omega arith
+u32_at-requires : tie.Need-u32_at-requires invariant-loop-i decreases-loop-i
+u32_at-requires c κs = omega arith
 
-load_final_requires : tie.Need-load-final-requires invariant_loop decreases_loop
-load_final_requires c κs = omega arith
+load_final-requires : tie.Need-load_final-requires invariant-loop-i decreases-loop-i
+load_final-requires c κs = omega arith
 
-check_final_requires : tie.Need-check-final-requires invariant_loop decreases_loop
-check_final_requires c κs = search rules
+check_final-checks-requires : tie.Need-check_final-checks-requires invariant-loop-i decreases-loop-i
+check_final-checks-requires c κs = search rules
 
-add_place : tie.Need-overflow-add-place invariant_loop decreases_loop
-add_place c = search rules
+overflow_add-place : tie.Need-overflow_add-place invariant-loop-i decreases-loop-i
+overflow_add-place c = search rules
 
-add_i : tie.Need-overflow-add-i invariant_loop decreases_loop
-add_i c = search rules
+overflow_add-i : tie.Need-overflow_add-i invariant-loop-i decreases-loop-i
+overflow_add-i c = search rules
 
-loop_less : tie.Need-loop-smaller invariant_loop decreases_loop
-loop_less c = search rules
+loop-i-smaller : tie.Need-loop-i-smaller invariant-loop-i decreases-loop-i
+loop-i-smaller c = search rules
 
-loop_again : tie.Need-loop-preserved invariant_loop decreases_loop
+loop-i-preserved : tie.Need-loop-i-preserved invariant-loop-i decreases-loop-i
 unfolding finals_checked
-loop_again c =
-    let inv = c.before.before.before.before.loop.invariant in
-    rw (c.check-final.ensures, c.before.load-final.ensures, c.before.before.u32-at.ensures)
-    (left_next (λ k p d. refl) inv c.before.before.before.loop-test.true)
+loop-i-preserved c =
+    let inv = c.before.before.before.before.loop-i.invariant in
+    rw (c.check_final-checks.ensures, c.before.load_final.ensures, c.before.before.u32_at.ensures)
+    (left_next (λ k p d. refl) inv c.before.before.before.loop-i-test.true)
 
-returns : tie.Need-returns invariant_loop decreases_loop
+returns : tie.Need-returns invariant-loop-i decreases-loop-i
 unfolding finals_checked
-returns c = left_stop (λ p d. refl) c.before.loop.invariant c.loop-test.false
+returns c = left_stop (λ p d. refl) c.before.loop-i.invariant c.loop-i-test.false
 
 pub check_finals_spec : {M : Type 1} → statement M
 check_finals_spec =
     tie.close
     (tie.spec
-    invariant_loop
-    decreases_loop
-    loop_holds
-    u32_at_requires
-    load_final_requires
-    check_final_requires
-    add_place
-    add_i
-    loop_less
-    loop_again
+    invariant-loop-i
+    decreases-loop-i
+    loop-i-init
+    u32_at-requires
+    load_final-requires
+    check_final-checks-requires
+    overflow_add-place
+    overflow_add-i
+    loop-i-smaller
+    loop-i-preserved
     returns)

@@ -1,4 +1,5 @@
 -- Each test that lets the arc by is a fact about its bytes.
+use borrow.Author.Rules.{rules}
 use Rattle.std.proofs.Common.{◌≡◌, ◌+◌, ◌<◌, true, refl, arith, rules, leb-false}
 use borrow.Author.Tests.{not-false}
 use Rattle.wire.specs.Bytes.{two, signed_four}
@@ -8,86 +9,86 @@ use Rattle.transducer.specs.Weight.{rebate}
 use Rattle.transducer.proofs.check.passing.Statement.{statement}
 use Rattle.transducer.proofs.check.passing.Tie as tie
 
-add_u32_at : tie.Need-overflow-add-u32-at
-add_u32_at c = search rules
+overflow_add-place : tie.Need-overflow_add-place
+overflow_add-place c = search rules
 
-u32_at_requires : tie.Need-u32-at-requires
-u32_at_requires c κs = search rules
+u32_at-requires : tie.Need-u32_at-requires
+u32_at-requires c κs = search rules
 
-weight_in_requires : tie.Need-weight-in-requires
-weight_in_requires c κs = search rules
+weight_in-requires : tie.Need-weight_in-requires
+weight_in-requires c κs = search rules
+
+returns-then-not-weight_in : tie.Need-returns-then-not-weight_in
+returns-then-not-weight_in c sure = absurd (sure refl)
+
+overflow_add-place-2 : tie.Need-overflow_add-place-2
+overflow_add-place-2 c = search rules
+
+u16_at-requires : tie.Need-u16_at-requires
+u16_at-requires c κs = search rules
+
+overflow_cast-u16_at : tie.Need-overflow_cast-u16_at
+overflow_cast-u16_at c = search rules
+
+returns-then-each-n : tie.Need-returns-then-each-n
+returns-then-each-n c sure = absurd (sure refl)
+
+u32_at-requires-2 : tie.Need-u32_at-requires-2
+u32_at-requires-2 c κs = search rules
+
+returns-then-u32_at-ne-ARC_WORD : tie.Need-returns-then-u32_at-ne-ARC_WORD
+returns-then-u32_at-ne-ARC_WORD c sure = absurd (sure refl)
+
+overflow_add-place-3 : tie.Need-overflow_add-place-3
+overflow_add-place-3 c = search rules
+
+u16_at-source-requires : tie.Need-u16_at-source-requires
+u16_at-source-requires c κs = search rules
+
+overflow_cast-source : tie.Need-overflow_cast-source
+overflow_cast-source c = search rules
+
+returns-then-source-before : tie.Need-returns-then-source-before
+returns-then-source-before c sure = absurd (sure refl)
 
 returns : tie.Need-returns
-returns c sure = absurd (sure refl)
-
-add_u16_at : tie.Need-overflow-add-u16-at
-add_u16_at c = search rules
-
-u16_at_requires : tie.Need-u16-at-requires
-u16_at_requires c κs = search rules
-
-cast_if2 : tie.Need-overflow-cast-if2
-cast_if2 c = search rules
-
-returns_2 : tie.Need-returns-2
-returns_2 c sure = absurd (sure refl)
-
-u32_at_requires_2 : tie.Need-u32-at-requires-2
-u32_at_requires_2 c κs = search rules
-
-returns_3 : tie.Need-returns-3
-returns_3 c sure = absurd (sure refl)
-
-add_u16_at_2 : tie.Need-overflow-add-u16-at-2
-add_u16_at_2 c = search rules
-
-u16_at_requires_2 : tie.Need-u16-at-requires-2
-u16_at_requires_2 c κs = search rules
-
-cast_source : tie.Need-overflow-cast-source
-cast_source c = search rules
-
-returns_4 : tie.Need-returns-4
-returns_4 c sure = absurd (sure refl)
-
-returns_5 : tie.Need-returns-5
 unfolding weight_at signed_four
-returns_5 c sure =
+returns c sure =
     let headed = c.before.before in
     let targeted = headed.before.before in
     let weighed = targeted.before.before in
     let s = weighed.before.before.before.before in
     let place = s.args.place in
-    let test = weighed.before.weight-in in
-    let read = targeted.before.u16-at in
+    let test = weighed.before.weight_in in
+    let read = targeted.before.u16_at in
     let weight : Between (rebate s.args.below) (weight_at s.args.bytes.now (place + 12)) max_weight =
-    rw weighed.before.before.u32-at.ensures at (test.ensures (not-false test.result weighed.if1.false)) in
+    rw weighed.before.before.u32_at.ensures at (test.ensures weighed.if-not-weight_in.false) in
     let target : s.args.each ≡ true → two s.args.bytes.now (place + 10) < s.args.n =
-    λ e. rw (← read.ensures) (leb-false s.args.n read.result (rw e at targeted.if2.false)) in
+    λ e. rw (← read.ensures) (leb-false s.args.n read.result (rw e at targeted.if-each-n.false)) in
     record {
       weight = weight;
       target = target;
-      head = omega (arith, headed.if3.false, headed.before.u32-at2.ensures);
-      source_is = c.before.u16-at2.ensures;
-      order = omega (arith, c.if4.false);
+      head = omega (arith, headed.if-u32_at-ne-ARC_WORD.false, headed.before.u32_at-2.ensures);
+      source_is = c.before.u16_at-source.ensures;
+      order = omega (arith, c.if-source-before.false);
     }
 
 pub passing_spec : {M : Type 1} → statement M
 passing_spec =
     tie.close
     (tie.spec
-    add_u32_at
-    u32_at_requires
-    weight_in_requires
-    returns
-    add_u16_at
-    u16_at_requires
-    cast_if2
-    returns_2
-    u32_at_requires_2
-    returns_3
-    add_u16_at_2
-    u16_at_requires_2
-    cast_source
-    returns_4
-    returns_5)
+    overflow_add-place
+    u32_at-requires
+    weight_in-requires
+    returns-then-not-weight_in
+    overflow_add-place-2
+    u16_at-requires
+    overflow_cast-u16_at
+    returns-then-each-n
+    u32_at-requires-2
+    returns-then-u32_at-ne-ARC_WORD
+    overflow_add-place-3
+    u16_at-source-requires
+    overflow_cast-source
+    returns-then-source-before
+    returns)

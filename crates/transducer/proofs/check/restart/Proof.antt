@@ -9,4 +9,7 @@ unfolding from_0
 returns c = refl
 
 pub restart_spec : {M : Type 1} → statement M
-restart_spec = tie.close (tie.spec returns)
+restart_spec =
+    tie.close
+    (tie.spec
+    returns)

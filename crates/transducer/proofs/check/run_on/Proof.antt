@@ -1,4 +1,5 @@
 -- The invariant (`RunSeen`): whatever was known of the arcs before goes on to this place.
+use borrow.Author.Rules.{rules}
 use Rattle.std.proofs.Common.{◌+◌, ◌-◌, ◌≤◌, length, arith, rules}
 use Rattle.wire.specs.Bytes.{Bytes}
 use Rattle.transducer.specs.Weight.{rebate}
@@ -6,70 +7,70 @@ use Rattle.transducer.proofs.FastCheck.{RunSeen, running_first, running_room, ru
 use Rattle.transducer.proofs.check.run_on.Statement.{statement}
 use Rattle.transducer.proofs.check.run_on.Tie as tie
 
-abbrev invariant_loop : tie.invariant_loop
-invariant_loop bytes from end n each last any all below before₀ most₀ lowest₀ place₀ before most lowest place =
+abbrev invariant-loop-place : tie.invariant-loop-place
+invariant-loop-place bytes from end n each last any all below before₀ most₀ lowest₀ place₀ before most lowest place =
     RunSeen bytes from end n each last any all (rebate below) before most lowest place
 
-abbrev decreases_loop : tie.decreases_loop
-decreases_loop bytes from end n each last any all below before₀ most₀ lowest₀ place₀ before most lowest place = end - place
+abbrev decreases-loop-place : tie.decreases-loop-place
+decreases-loop-place bytes from end n each last any all below before₀ most₀ lowest₀ place₀ before most lowest place = end - place
 
 -- A turn.
 abbrev Turn : Type 0
-Turn = tie.In-loop invariant_loop decreases_loop
+Turn = tie.In-loop-place invariant-loop-place decreases-loop-place
 
-abbrev start : Turn → tie.Start invariant_loop decreases_loop
+abbrev start : Turn → tie.Start invariant-loop-place decreases-loop-place
 start c = c.before.before.before
 
-room : (c : Turn) → c.before.loop.place + 16 ≤ length (start c).args.bytes.now
-room c = omega (arith, running_room c.before.loop.invariant c.loop-test.true, (start c).requires.0)
+room : (c : Turn) → c.before.loop-place.place + 16 ≤ length (start c).args.bytes.now
+room c = omega (arith, running_room c.before.loop-place.invariant c.loop-place-test.true, (start c).requires.0)
 
-loop_holds : tie.Need-loop-init invariant_loop decreases_loop
-loop_holds c = running_first c.before.requires.1
+loop-place-init : tie.Need-loop-place-init invariant-loop-place decreases-loop-place
+loop-place-init c = running_first c.before.requires.1
 
-passing_requires : tie.Need-passing-requires invariant_loop decreases_loop
-passing_requires c κs = (room c, (start c).requires.2)
+passing-source-requires : tie.Need-passing-source-requires invariant-loop-place decreases-loop-place
+passing-source-requires c κs = (room c, (start c).requires.2)
 
-add_fields_at : tie.Need-overflow-add-fields-at invariant_loop decreases_loop
-add_fields_at c = search rules
+overflow_add-place : tie.Need-overflow_add-place invariant-loop-place decreases-loop-place
+overflow_add-place c = search rules
 
-fields_at_requires : tie.Need-fields-at-requires invariant_loop decreases_loop
-fields_at_requires c κs = omega (arith, room c.before.before)
+fields_at-fields-requires : tie.Need-fields_at-fields-requires invariant-loop-place decreases-loop-place
+fields_at-fields-requires c κs = omega (arith, room c.before.before)
 
-add_place : tie.Need-overflow-add-place invariant_loop decreases_loop
-add_place c = search rules
+overflow_add-place-in-loop-place : tie.Need-overflow_add-place-in-loop-place invariant-loop-place decreases-loop-place
+overflow_add-place-in-loop-place c = search rules
 
-loop_less : tie.Need-loop-smaller invariant_loop decreases_loop
-loop_less c = search rules
+loop-place-smaller : tie.Need-loop-place-smaller invariant-loop-place decreases-loop-place
+loop-place-smaller c = search rules
 
-loop_again : tie.Need-loop-preserved invariant_loop decreases_loop
-loop_again c =
+loop-place-preserved : tie.Need-loop-place-preserved invariant-loop-place decreases-loop-place
+loop-place-preserved c =
     let tested = c.before in
     let turn = tested.before.before in
     let s = start turn in
-    let bytes : Bytes s.args.bytes.now = λ i. omega (arith, turn.before.before.shared-slice-known.given i) in
-    let passed = tested.before.passing in
-    rw c.fields_at.ensures
-    (running_next turn.before.loop.invariant turn.loop-test.true passed.result bytes (rebate_good s.args.below s.pre.2)
-    (passed.ensures tested.if1.false))
+    let bytes : Bytes s.args.bytes.now = λ i. omega (arith, turn.before.before.shared_slice_known-1.given i) in
+    let passed = tested.before.passing-source in
+    rw c.fields_at-fields.ensures
+    (running_next turn.before.loop-place.invariant turn.loop-place-test.true passed.result bytes (rebate_good s.args.below s.requires.2)
+    (passed.ensures tested.if-source.false))
 
-returns : tie.Need-returns invariant_loop decreases_loop
-returns c = c.before.loop.invariant.goes_on
+returns-after-loop-place : tie.Need-returns-after-loop-place invariant-loop-place decreases-loop-place
+returns-after-loop-place c = c.before.loop-place.invariant.goes_on
 
-returns_2 : tie.Need-returns-2 invariant_loop decreases_loop
-returns_2 c = c.before.before.before.loop.invariant.goes_on
+returns-then-source : tie.Need-returns-then-source invariant-loop-place decreases-loop-place
+returns-then-source c = c.before.before.before.loop-place.invariant.goes_on
 
 pub run_on_spec : {M : Type 1} → statement M
 run_on_spec =
     tie.close
     (tie.spec
-    invariant_loop
-    decreases_loop
-    loop_holds
-    passing_requires
-    add_fields_at
-    fields_at_requires
-    add_place
-    loop_less
-    loop_again
-    returns
-    returns_2)
+    invariant-loop-place
+    decreases-loop-place
+    loop-place-init
+    passing-source-requires
+    overflow_add-place
+    fields_at-fields-requires
+    overflow_add-place-in-loop-place
+    loop-place-smaller
+    loop-place-preserved
+    returns-after-loop-place
+    returns-then-source)

@@ -1,4 +1,5 @@
 -- A search over the arcs of the state. The invariant: none of those that were passed reads the symbol.
+use borrow.Author.Rules.{rules}
 use Rattle.std.proofs.Common.{◌≡◌, ℕ, ◌+◌, ◌-◌, ◌*◌, ◌<◌, ◌≤◌, eqb, length, sym, ◌∙◌, ⊎_elim, arith, rules, eqb-true}
 use native.Mathlib.Decide.{dec_le}
 use borrow.Author.Tests.{eqb-false}
@@ -11,69 +12,69 @@ use Rattle.transducer.proofs.Leaving.{no_any_label, no_label, named_label, unnam
 use Rattle.transducer.proofs.naming.label_at.Statement.{statement}
 use Rattle.transducer.proofs.naming.label_at.Tie as tie
 
-abbrev invariant_loop : tie.invariant_loop
-invariant_loop bytes first no_any from to symbol i₀ i =
+abbrev invariant-loop-i : tie.invariant-loop-i
+invariant-loop-i bytes first no_any from to symbol i₀ i =
     (from ≤ i) × ((k : ℕ) → from ≤ k → k < i → (arc (decode bytes) k).input ≡ symbol → ⊥)
 
-abbrev decreases_loop : tie.decreases_loop
-decreases_loop bytes first no_any from to symbol i₀ i = to - i
+abbrev decreases-loop-i : tie.decreases-loop-i
+decreases-loop-i bytes first no_any from to symbol i₀ i = to - i
 
 -- Places to look back to.
-abbrev start : tie.In-loop invariant_loop decreases_loop → tie.Start invariant_loop decreases_loop
+abbrev start : tie.In-loop-i invariant-loop-i decreases-loop-i → tie.Start invariant-loop-i decreases-loop-i
 start c = c.before.before.before.before
 
-returns : tie.Need-returns invariant_loop decreases_loop
-returns c =
+returns-then-no_any_input-symbol : tie.Need-returns-then-no_any_input-symbol invariant-loop-i decreases-loop-i
+returns-then-no_any_input-symbol c =
     let s = c.before.before in
     ⊎_elim (λ e. no_any_label (decode s.args.bytes.now) s.args.from s.args.to s.args.symbol (s.requires.0.1 e))
     (λ e. no_label (decode s.args.bytes.now) s.args.from s.args.to s.args.symbol (eqb-true s.args.symbol 0 e))
-    (or-true s.args.has_no_any_input (eqb s.args.symbol 0) c.if1.true)
+    (or-true s.args.no_any_input (eqb s.args.symbol 0) c.if-no_any_input-symbol.true)
 
-loop_holds : tie.Need-loop-init invariant_loop decreases_loop
-loop_holds c = (omega arith, λ k l h e. omega arith)
+loop-i-init : tie.Need-loop-i-init invariant-loop-i decreases-loop-i
+loop-i-init c = (omega arith, λ k l h e. omega arith)
 
-is_bytes : (c : tie.In-loop invariant_loop decreases_loop) → Bytes (start c).args.bytes.now
-is_bytes c = λ i. omega (arith, c.before.before.before.shared-slice-known.given i)
+is_bytes : (c : tie.In-loop-i invariant-loop-i decreases-loop-i) → Bytes (start c).args.bytes.now
+is_bytes c = λ i. omega (arith, c.before.before.before.shared_slice_known-1.given i)
 
-is_arc : (c : tie.In-loop invariant_loop decreases_loop) → c.before.loop.i < length (decode (start c).args.bytes.now).arcs
-is_arc c = omega (arith, c.loop-test.true, (start c).requires.1.1.rest.within)
+is_arc : (c : tie.In-loop-i invariant-loop-i decreases-loop-i) → c.before.loop-i.i < length (decode (start c).args.bytes.now).arcs
+is_arc c = omega (arith, c.loop-i-test.true, (start c).requires.1.1.rest.within)
 
-inside : (c : tie.In-loop invariant_loop decreases_loop) → (start c).args.first + arc_bytes * (c.before.loop.i + 1) ≤ length (start c).args.bytes.now
+inside : (c : tie.In-loop-i invariant-loop-i decreases-loop-i) → (start c).args.first + arc_bytes * (c.before.loop-i.i + 1) ≤ length (start c).args.bytes.now
 inside c =
-    opened_inside (start c).args.bytes.now (is_bytes c) (start c).args.first (start c).requires.0.0 (c.before.loop.i + 1) (omega (arith, is_arc c))
+    opened_inside (start c).args.bytes.now (is_bytes c) (start c).args.first (start c).requires.0.0 (c.before.loop-i.i + 1) (omega (arith, is_arc c))
 
-mul_u16_at : tie.Need-overflow-mul-u16-at invariant_loop decreases_loop
-mul_u16_at c = omega (arith, inside c, (start c).well-formed)
+overflow_mul-i : tie.Need-overflow_mul-i invariant-loop-i decreases-loop-i
+overflow_mul-i c = omega (arith, inside c, (start c).well_formed)
 
-add_u16_at : tie.Need-overflow-add-u16-at invariant_loop decreases_loop
-add_u16_at c = omega (arith, inside c, (start c).well-formed)
+overflow_add-first : tie.Need-overflow_add-first invariant-loop-i decreases-loop-i
+overflow_add-first c = omega (arith, inside c, (start c).well_formed)
 
-add_u16_at_2 : tie.Need-overflow-add-u16-at-2 invariant_loop decreases_loop
-add_u16_at_2 c = omega (arith, inside c, (start c).well-formed)
+overflow_add-first-in-loop-i : tie.Need-overflow_add-first-in-loop-i invariant-loop-i decreases-loop-i
+overflow_add-first-in-loop-i c = omega (arith, inside c, (start c).well_formed)
 
-u16_at_requires : tie.Need-u16-at-requires invariant_loop decreases_loop
-u16_at_requires c κs = omega (arith, inside c)
+u16_at-requires : tie.Need-u16_at-requires invariant-loop-i decreases-loop-i
+u16_at-requires c κs = omega (arith, inside c)
 
 -- What is loaded is the arc's input.
-input_is : (c : tie.After-u16-at invariant_loop decreases_loop)
-    → (arc (decode (start c.before).args.bytes.now) c.before.before.loop.i).input ≡ c.u16-at.result
+input_is : (c : tie.After-u16_at invariant-loop-i decreases-loop-i)
+    → (arc (decode (start c.before).args.bytes.now) c.before.before.loop-i.i).input ≡ c.u16_at.result
 input_is c =
     let s = start c.before in
-    input_in_place s.args.bytes.now (is_bytes c.before) s.args.first s.pre.0.0 c.before.before.loop.i (is_arc c.before)
-    ∙ sym c.u16-at.ensures
+    input_in_place s.args.bytes.now (is_bytes c.before) s.args.first s.requires.0.0 c.before.before.loop-i.i (is_arc c.before)
+    ∙ sym c.u16_at.ensures
 
-returns_2 : tie.Need-returns-2 invariant_loop decreases_loop
-returns_2 c =
+returns-then-u16_at-symbol : tie.Need-returns-then-u16_at-symbol invariant-loop-i decreases-loop-i
+returns-then-u16_at-symbol c =
     let turn = c.before.before in
     let s = start turn in
-    named_label (decode s.args.bytes.now) s.args.from s.args.to s.args.symbol s.pre.1.1 turn.before.loop.i
-    turn.before.loop.invariant.0 turn.loop-test.true (input_is c.before ∙ c.if2.true)
+    named_label (decode s.args.bytes.now) s.args.from s.args.to s.args.symbol s.requires.1.1 turn.before.loop-i.i
+    turn.before.loop-i.invariant.0 turn.loop-i-test.true (input_is c.before ∙ c.if-u16_at-symbol.true)
 
-add_i : tie.Need-overflow-add-i invariant_loop decreases_loop
-add_i c = search rules
+overflow_add-i : tie.Need-overflow_add-i invariant-loop-i decreases-loop-i
+overflow_add-i c = search rules
 
-loop_less : tie.Need-loop-smaller invariant_loop decreases_loop
-loop_less c = search rules
+loop-i-smaller : tie.Need-loop-i-smaller invariant-loop-i decreases-loop-i
+loop-i-smaller c = search rules
 
 -- A number up to i is below it or i.
 on_last : (k i : ℕ) → (k < i → ⊥) → (k ≡ i → ⊥) → k < i + 1 → ⊥
@@ -83,37 +84,37 @@ on_last k i below same h = on (dec_le i k)
     on (yes l) = same (omega arith)
     on (no l) = below (omega arith)
 
-loop_again : tie.Need-loop-preserved invariant_loop decreases_loop
-loop_again c =
+loop-i-preserved : tie.Need-loop-i-preserved invariant-loop-i decreases-loop-i
+loop-i-preserved c =
     let turn = c.before.before in
-    let i = turn.before.loop.i in
-    let passed = turn.before.loop.invariant in (
+    let i = turn.before.loop-i.i in
+    let passed = turn.before.loop-i.invariant in (
       omega (arith, passed.0),
       λ k l h e. on_last k i (λ less. passed.1 k l less e)
-          (λ same. c.if2.false (sym (input_is c.before) ∙ (rw same at e))) h,
+          (λ same. c.if-u16_at-symbol.false (sym (input_is c.before) ∙ (rw same at e))) h,
     )
 
-returns_3 : tie.Need-returns-3 invariant_loop decreases_loop
-returns_3 c =
+returns : tie.Need-returns invariant-loop-i decreases-loop-i
+returns c =
     let s = c.before.before.before.before in
-    let tests = or_false s.args.has_no_any_input (eqb s.args.symbol 0) c.before.before.if1.false in
+    let tests = or_false s.args.no_any_input (eqb s.args.symbol 0) c.before.before.if-no_any_input-symbol.false in
     unnamed_label (decode s.args.bytes.now) s.args.from s.args.to s.args.symbol s.requires.1.1 (eqb-false s.args.symbol 0 tests.1)
-    (λ i l h. c.before.loop.invariant.1 i l (omega (arith, c.loop-test.false)))
+    (λ i l h. c.before.loop-i.invariant.1 i l (omega (arith, c.loop-i-test.false)))
 
 pub label_at_spec : {M : Type 1} → statement M
 label_at_spec =
     tie.close
     (tie.spec
-    invariant_loop
-    decreases_loop
-    returns
-    loop_holds
-    mul_u16_at
-    add_u16_at
-    add_u16_at_2
-    u16_at_requires
-    returns_2
-    add_i
-    loop_less
-    loop_again
-    returns_3)
+    invariant-loop-i
+    decreases-loop-i
+    returns-then-no_any_input-symbol
+    loop-i-init
+    overflow_mul-i
+    overflow_add-first
+    overflow_add-first-in-loop-i
+    u16_at-requires
+    returns-then-u16_at-symbol
+    overflow_add-i
+    loop-i-smaller
+    loop-i-preserved
+    returns)

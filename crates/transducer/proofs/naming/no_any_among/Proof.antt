@@ -1,59 +1,60 @@
 -- A search over the arcs. The invariant, `NameSearch`: what is left of it gives the whole.
+use borrow.Author.Rules.{rules}
 use Rattle.std.proofs.Common.{◌-◌, sym, ◌∙◌, arith, rules}
 use Rattle.transducer.proofs.Named.{NameSearch, searching_first, searching_any, searching_next, searching_stop}
 use Rattle.transducer.proofs.naming.no_any_among.Statement.{statement}
 use Rattle.transducer.proofs.naming.no_any_among.Tie as tie
 
-abbrev invariant_loop : tie.invariant_loop
-invariant_loop bytes at count place₀ i₀ place i = NameSearch bytes at count place i
+abbrev invariant-loop-i : tie.invariant-loop-i
+invariant-loop-i bytes at count place₀ i₀ place i = NameSearch bytes at count place i
 
-abbrev decreases_loop : tie.decreases_loop
-decreases_loop bytes at count place₀ i₀ place i = count - i
+abbrev decreases-loop-i : tie.decreases-loop-i
+decreases-loop-i bytes at count place₀ i₀ place i = count - i
 
-loop_holds : tie.Need-loop-init invariant_loop decreases_loop
-loop_holds c = searching_first _ _ _
+loop-i-init : tie.Need-loop-i-init invariant-loop-i decreases-loop-i
+loop-i-init c = searching_first _ _ _
 
-add_u16_at : tie.Need-overflow-add-u16-at invariant_loop decreases_loop
-add_u16_at c = search rules
+overflow_add-place : tie.Need-overflow_add-place invariant-loop-i decreases-loop-i
+overflow_add-place c = search rules
 
-u16_at_requires : tie.Need-u16-at-requires invariant_loop decreases_loop
-u16_at_requires c κs = omega arith
+u16_at-requires : tie.Need-u16_at-requires invariant-loop-i decreases-loop-i
+u16_at-requires c κs = omega arith
 
-returns : tie.Need-returns invariant_loop decreases_loop
-returns c =
+returns-then-u16_at : tie.Need-returns-then-u16_at invariant-loop-i decreases-loop-i
+returns-then-u16_at c =
     let turn = c.before.before in
-    searching_any turn.before.loop.invariant turn.loop-test.true (sym c.before.u16-at.ensures ∙ c.if1.true)
+    searching_any turn.before.loop-i.invariant turn.loop-i-test.true (sym c.before.u16_at.ensures ∙ c.if-u16_at.true)
 
-add_place : tie.Need-overflow-add-place invariant_loop decreases_loop
-add_place c = search rules
+overflow_add-place-in-loop-i : tie.Need-overflow_add-place-in-loop-i invariant-loop-i decreases-loop-i
+overflow_add-place-in-loop-i c = search rules
 
-add_i : tie.Need-overflow-add-i invariant_loop decreases_loop
-add_i c = search rules
+overflow_add-i : tie.Need-overflow_add-i invariant-loop-i decreases-loop-i
+overflow_add-i c = search rules
 
-loop_less : tie.Need-loop-smaller invariant_loop decreases_loop
-loop_less c = search rules
+loop-i-smaller : tie.Need-loop-i-smaller invariant-loop-i decreases-loop-i
+loop-i-smaller c = search rules
 
-loop_again : tie.Need-loop-preserved invariant_loop decreases_loop
-loop_again c =
+loop-i-preserved : tie.Need-loop-i-preserved invariant-loop-i decreases-loop-i
+loop-i-preserved c =
     let turn = c.before.before in
-    searching_next turn.before.loop.invariant turn.loop-test.true
-    (omega (arith, c.before.u16-at.ensures, c.if1.false, c.before.u16-at.type-inv))
+    searching_next turn.before.loop-i.invariant turn.loop-i-test.true
+    (omega (arith, c.before.u16_at.ensures, c.if-u16_at.false, c.before.u16_at.type_inv))
 
-returns_2 : tie.Need-returns-2 invariant_loop decreases_loop
-returns_2 c = searching_stop c.before.loop.invariant c.loop-test.false
+returns : tie.Need-returns invariant-loop-i decreases-loop-i
+returns c = searching_stop c.before.loop-i.invariant c.loop-i-test.false
 
 pub no_any_among_spec : {M : Type 1} → statement M
 no_any_among_spec =
     tie.close
     (tie.spec
-    invariant_loop
-    decreases_loop
-    loop_holds
-    add_u16_at
-    u16_at_requires
-    returns
-    add_place
-    add_i
-    loop_less
-    loop_again
-    returns_2)
+    invariant-loop-i
+    decreases-loop-i
+    loop-i-init
+    overflow_add-place
+    u16_at-requires
+    returns-then-u16_at
+    overflow_add-place-in-loop-i
+    overflow_add-i
+    loop-i-smaller
+    loop-i-preserved
+    returns)

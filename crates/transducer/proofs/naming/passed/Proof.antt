@@ -5,13 +5,17 @@ use Rattle.transducer.specs.Each.{passed}
 use Rattle.transducer.proofs.naming.passed.Statement.{statement}
 use Rattle.transducer.proofs.naming.passed.Tie as tie
 
+returns-then-a-eq-ANY : tie.Need-returns-then-a-eq-ANY
+unfolding passed
+returns-then-a-eq-ANY c = rw (eq-eqb c.before.before.args.a.output any c.if-a-eq-ANY.true)
+
 returns : tie.Need-returns
 unfolding passed
-returns c = rw (eq-eqb c.before.before.args.a.output any c.if1.true)
-
-returns_2 : tie.Need-returns-2
-unfolding passed
-returns_2 c = rw (ne_eqb c.before.before.args.a.output any c.if1.false)
+returns c = rw (ne_eqb c.before.before.args.a.output any c.if-a-eq-ANY.false)
 
 pub passed_spec : {M : Type 1} → statement M
-passed_spec = tie.close (tie.spec returns returns_2)
+passed_spec =
+    tie.close
+    (tie.spec
+    returns-then-a-eq-ANY
+    returns)

@@ -1,4 +1,5 @@
 -- The invariant: the kinds from `at` on are good just where those of the whole are, and the framing there is right.
+use borrow.Author.Rules.{rules}
 use Rattle.std.proofs.Common.{◌≡◌, ◌-◌, length, sym, ◌∙◌, arith, rules}
 use borrow.Author.Tests.{not-true, not-false}
 use Rattle.wire.specs.Bytes.{two}
@@ -7,132 +8,132 @@ use Rattle.transducer.proofs.Records.{going_wrong, going_done}
 use Rattle.transducer.proofs.refusals.kinds_ok.Statement.{statement}
 use Rattle.transducer.proofs.refusals.kinds_ok.Tie as tie
 
-abbrev invariant_loop : tie.invariant_loop
-invariant_loop bytes after-arc₀ at₀ after_arc at = KindsFrom bytes at after_arc
+abbrev invariant-loop-at : tie.invariant-loop-at
+invariant-loop-at bytes after-arc₀ at₀ after_arc at = KindsFrom bytes at after_arc
 
-abbrev decreases_loop : tie.decreases_loop
-decreases_loop bytes after-arc₀ at₀ after_arc at = length bytes - at
+abbrev decreases-loop-at : tie.decreases-loop-at
+decreases-loop-at bytes after-arc₀ at₀ after_arc at = length bytes - at
 
 -- Places to look back to: the start, where there are some bytes, where the first record's kind is 1; and the head of a turn.
-abbrev start : tie.Else1 invariant_loop decreases_loop → tie.Start invariant_loop decreases_loop
+abbrev start : tie.Else-bytes-eq0 invariant-loop-at decreases-loop-at → tie.Start invariant-loop-at decreases-loop-at
 start c = c.before.before
 
-abbrev some : tie.Else2 invariant_loop decreases_loop → tie.Else1 invariant_loop decreases_loop
+abbrev some : tie.Else-u16_at-ne1 invariant-loop-at decreases-loop-at → tie.Else-bytes-eq0 invariant-loop-at decreases-loop-at
 some c = c.before.before
 
-abbrev turn : tie.After-u16-at4 invariant_loop decreases_loop → tie.In-loop invariant_loop decreases_loop
+abbrev turn : tie.After-u16_at-kind invariant-loop-at decreases-loop-at → tie.In-loop-at invariant-loop-at decreases-loop-at
 turn c = c.before.before
 
-returns : tie.Need-returns invariant_loop decreases_loop
-returns c =
+returns-then-bytes-eq0 : tie.Need-returns-then-bytes-eq0 invariant-loop-at decreases-loop-at
+returns-then-bytes-eq0 c =
     let bytes = c.before.before.args.bytes.now in
-    sym (kinds_none bytes c.if1.true)
+    sym (kinds_none bytes c.if-bytes-eq0.true)
 
-u16_at_requires : tie.Need-u16-at-requires invariant_loop decreases_loop
-u16_at_requires c κs = omega (arith, framed_head (start c).args.bytes.now (start c).requires (omega arith))
+u16_at-requires : tie.Need-u16_at-requires invariant-loop-at decreases-loop-at
+u16_at-requires c κs = omega (arith, framed_head (start c).args.bytes.now (start c).requires (omega arith))
 
-returns_2 : tie.Need-returns-2 invariant_loop decreases_loop
-returns_2 c =
+returns-then-u16_at-ne1 : tie.Need-returns-then-u16_at-ne1 invariant-loop-at decreases-loop-at
+returns-then-u16_at-ne1 c =
     let bytes = (start c.before.before).args.bytes.now in
-    sym (kinds_not_head bytes (omega arith) (λ e. c.if2.true (c.before.u16-at.ensures ∙ e)))
+    sym (kinds_not_head bytes (omega arith) (λ e. c.if-u16_at-ne1.true (c.before.u16_at.ensures ∙ e)))
 
-u16_at_requires_2 : tie.Need-u16-at-requires-2 invariant_loop decreases_loop
-u16_at_requires_2 c κs = let from = start (some c) in omega (arith, framed_head from.args.bytes.now from.pre (omega arith))
+u16_at-requires-2 : tie.Need-u16_at-requires-2 invariant-loop-at decreases-loop-at
+u16_at-requires-2 c κs = let from = start (some c) in omega (arith, framed_head from.args.bytes.now from.requires (omega arith))
 
-returns_3 : tie.Need-returns-3 invariant_loop decreases_loop
-returns_3 c =
+returns-then-u16_at-ne8 : tie.Need-returns-then-u16_at-ne8 invariant-loop-at decreases-loop-at
+returns-then-u16_at-ne8 c =
     let known = c.before.before in
     let bytes = (start (some known)).args.bytes.now in
-    let kind : two bytes 2 ≡ 1 = sym known.before.u16-at.ensures ∙ known.if2.false in
-    sym (kinds_not_8 bytes (omega arith) kind (λ e. c.if3.true (c.before.u16-at2.ensures ∙ e)))
+    let kind : two bytes 2 ≡ 1 = sym known.before.u16_at.ensures ∙ known.if-u16_at-ne1.false in
+    sym (kinds_not_8 bytes (omega arith) kind (λ e. c.if-u16_at-ne8.true (c.before.u16_at-2.ensures ∙ e)))
 
-loop_holds : tie.Need-loop-init invariant_loop decreases_loop
-loop_holds c =
+loop-at-init : tie.Need-loop-at-init invariant-loop-at decreases-loop-at
+loop-at-init c =
     let known = c.before.before in
     let from = start (some known) in
     let bytes = from.args.bytes.now in
-    let kind : two bytes 2 ≡ 1 = sym known.before.u16-at.ensures ∙ known.if2.false in
-    let size : two bytes 0 ≡ 8 = sym c.before.u16-at2.ensures ∙ c.if3.false in
-    going_first bytes from.pre (omega arith) kind size
+    let kind : two bytes 2 ≡ 1 = sym known.before.u16_at.ensures ∙ known.if-u16_at-ne1.false in
+    let size : two bytes 0 ≡ 8 = sym c.before.u16_at-2.ensures ∙ c.if-u16_at-ne8.false in
+    going_first bytes from.requires (omega arith) kind size
 
-u16_at_requires_3 : tie.Need-u16-at-requires-3 invariant_loop decreases_loop
-u16_at_requires_3 c κs = omega (arith, going_fits c.before.loop.invariant c.loop-test.true)
+u16_at-size-requires : tie.Need-u16_at-size-requires invariant-loop-at decreases-loop-at
+u16_at-size-requires c κs = omega (arith, going_fits c.before.loop-at.invariant c.loop-at-test.true)
 
-cast_size : tie.Need-overflow-cast-size invariant_loop decreases_loop
-cast_size c = search rules
+overflow_cast-size : tie.Need-overflow_cast-size invariant-loop-at decreases-loop-at
+overflow_cast-size c = search rules
 
-add_u16_at : tie.Need-overflow-add-u16-at invariant_loop decreases_loop
-add_u16_at c = search rules
+overflow_add-at : tie.Need-overflow_add-at invariant-loop-at decreases-loop-at
+overflow_add-at c = search rules
 
-u16_at_requires_4 : tie.Need-u16-at-requires-4 invariant_loop decreases_loop
-u16_at_requires_4 c κs = omega (arith, going_fits c.before.before.loop.invariant c.before.loop-test.true)
+u16_at-kind-requires : tie.Need-u16_at-kind-requires invariant-loop-at decreases-loop-at
+u16_at-kind-requires c κs = omega (arith, going_fits c.before.before.loop-at.invariant c.before.loop-at-test.true)
 
-kind_ok_requires : tie.Need-kind-ok-requires invariant_loop decreases_loop
-kind_ok_requires c κs = tt
+kind_ok-requires : tie.Need-kind_ok-requires invariant-loop-at decreases-loop-at
+kind_ok-requires c κs = tt
 
-returns_4 : tie.Need-returns-4 invariant_loop decreases_loop
-returns_4 c =
+returns-then-not-kind_ok : tie.Need-returns-then-not-kind_ok invariant-loop-at decreases-loop-at
+returns-then-not-kind_ok c =
     let kinds = c.before.before in
-    let size = kinds.before.u16-at3 in
-    let kind = kinds.u16-at4 in
-    let bad = sym c.before.Kind-ok.ensures ∙ not-true c.before.Kind-ok.result c.if4.true in
+    let size = kinds.before.u16_at-size in
+    let kind = kinds.u16_at-kind in
+    let bad = sym c.before.kind_ok.ensures ∙ c.if-not-kind_ok.true in
     sym
     (going_wrong
     kind.result
     size.result
-    (turn kinds).before.loop.invariant
-    (turn kinds).loop-test.true
+    (turn kinds).before.loop-at.invariant
+    (turn kinds).loop-at-test.true
     kind.ensures
     size.ensures
     bad)
 
-add_at : tie.Need-overflow-add-at invariant_loop decreases_loop
-add_at c = search rules
+overflow_add-at-in-loop-at : tie.Need-overflow_add-at-in-loop-at invariant-loop-at decreases-loop-at
+overflow_add-at-in-loop-at c = search rules
 
-add_at_2 : tie.Need-overflow-add-at-2 invariant_loop decreases_loop
-add_at_2 c = search rules
+overflow_add-at-in-loop-at-2 : tie.Need-overflow_add-at-in-loop-at-2 invariant-loop-at decreases-loop-at
+overflow_add-at-in-loop-at-2 c = search rules
 
-loop_less : tie.Need-loop-smaller invariant_loop decreases_loop
-loop_less c = search rules
+loop-at-smaller : tie.Need-loop-at-smaller invariant-loop-at decreases-loop-at
+loop-at-smaller c = search rules
 
-loop_again : tie.Need-loop-preserved invariant_loop decreases_loop
-loop_again c =
+loop-at-preserved : tie.Need-loop-at-preserved invariant-loop-at decreases-loop-at
+loop-at-preserved c =
     let kinds = c.before.before in
-    let size = kinds.before.u16-at3 in
-    let kind = kinds.u16-at4 in
-    let good = sym c.before.Kind-ok.ensures ∙ not-false c.before.Kind-ok.result c.if4.false in
+    let size = kinds.before.u16_at-size in
+    let kind = kinds.u16_at-kind in
+    let good = sym c.before.kind_ok.ensures ∙ c.if-not-kind_ok.false in
     going_more
     kind.result
     size.result
-    (turn kinds).before.loop.invariant
-    (turn kinds).loop-test.true
+    (turn kinds).before.loop-at.invariant
+    (turn kinds).loop-at-test.true
     kind.ensures
     size.ensures
     good
 
-returns_5 : tie.Need-returns-5 invariant_loop decreases_loop
-returns_5 c = sym (going_done c.before.loop.invariant c.loop-test.false)
+returns : tie.Need-returns invariant-loop-at decreases-loop-at
+returns c = sym (going_done c.before.loop-at.invariant c.loop-at-test.false)
 
 pub kinds_ok_spec : {M : Type 1} → statement M
 kinds_ok_spec =
     tie.close
     (tie.spec
-    invariant_loop
-    decreases_loop
-    returns
-    u16_at_requires
-    returns_2
-    u16_at_requires_2
-    returns_3
-    loop_holds
-    u16_at_requires_3
-    cast_size
-    add_u16_at
-    u16_at_requires_4
-    kind_ok_requires
-    returns_4
-    add_at
-    add_at_2
-    loop_less
-    loop_again
-    returns_5)
+    invariant-loop-at
+    decreases-loop-at
+    returns-then-bytes-eq0
+    u16_at-requires
+    returns-then-u16_at-ne1
+    u16_at-requires-2
+    returns-then-u16_at-ne8
+    loop-at-init
+    u16_at-size-requires
+    overflow_cast-size
+    overflow_add-at
+    u16_at-kind-requires
+    kind_ok-requires
+    returns-then-not-kind_ok
+    overflow_add-at-in-loop-at
+    overflow_add-at-in-loop-at-2
+    loop-at-smaller
+    loop-at-preserved
+    returns)

@@ -1,13 +1,18 @@
 -- The first part of what validation tells.
+use borrow.Author.Rules.{rules}
 use Rattle.std.proofs.Common.{rules}
 use Rattle.transducer.proofs.refusals.refusal.Statement.{statement}
 use Rattle.transducer.proofs.refusals.refusal.Tie as tie
 
-validate_requires : tie.Need-validate-requires
-validate_requires c κs = search rules
+validate-seen-requires : tie.Need-validate-seen-requires
+validate-seen-requires c κs = search rules
 
 returns : tie.Need-returns
-returns c = c.validate.ensures.refusal_is
+returns c = c.validate-seen.ensures.refusal_is
 
 pub refusal_spec : {M : Type 1} → statement M
-refusal_spec = tie.close (tie.spec validate_requires returns)
+refusal_spec =
+    tie.close
+    (tie.spec
+    validate-seen-requires
+    returns)

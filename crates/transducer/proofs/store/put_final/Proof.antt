@@ -1,4 +1,5 @@
 -- Four stores, each right behind the one before, make the record.
+use borrow.Author.Rules.{rules}
 use Rattle.std.proofs.Common.{to_z-of_z, w32, rules}
 use Rattle.transducer.specs.Encode.{weight_bytes}
 use Rattle.transducer.proofs.Encode.{sets_final}
@@ -6,32 +7,32 @@ use Rattle.transducer.proofs.store.put_final.Statement.{statement}
 use Rattle.transducer.proofs.store.put_final.Tie as tie
 
 -- Places to look back to.
-abbrev third : tie.After-put-i32 → tie.After-put-u163
+abbrev third : tie.After-put_i32 → tie.After-put_u16-3
 third c = c.before.before.before.before.before
 
-put_u16_requires : tie.Need-put-u16-requires
-put_u16_requires c κs = search rules
+put_u16-requires : tie.Need-put_u16-requires
+put_u16-requires c κs = search rules
 
-add_put_u16 : tie.Need-overflow-add-put-u16
-add_put_u16 c = search rules
+overflow_add-at : tie.Need-overflow_add-at
+overflow_add-at c = search rules
 
-put_u16_requires_2 : tie.Need-put-u16-requires-2
-put_u16_requires_2 c κs = search rules
+put_u16-requires-2 : tie.Need-put_u16-requires-2
+put_u16-requires-2 c κs = search rules
 
-add_put_u16_2 : tie.Need-overflow-add-put-u16-2
-add_put_u16_2 c = search rules
+overflow_add-at-2 : tie.Need-overflow_add-at-2
+overflow_add-at-2 c = search rules
 
-put_u16_requires_3 : tie.Need-put-u16-requires-3
-put_u16_requires_3 c κs = search rules
+put_u16-requires-3 : tie.Need-put_u16-requires-3
+put_u16-requires-3 c κs = search rules
 
-add_put_i32 : tie.Need-overflow-add-put-i32
-add_put_i32 c = search rules
+overflow_add-at-3 : tie.Need-overflow_add-at-3
+overflow_add-at-3 c = search rules
 
-put_i32_requires : tie.Need-put-i32-requires
-put_i32_requires c κs = search rules
+put_i32-requires : tie.Need-put_i32-requires
+put_i32-requires c κs = search rules
 
-same_length : tie.Need-same-length
-same_length c = search rules
+shape_of-out : tie.Need-shape_of-out
+shape_of-out c = search rules
 
 returns : tie.Need-returns
 unfolding weight_bytes
@@ -41,20 +42,20 @@ returns c =
     let c2 = c3.before.before.before.before in
     let c1 = c2.before.before.before.before in
     let x = c1.before.before.before.args in
-    let weight = to_z-of_z {w = w32} {z = x.f.weight} (record { sfits = c4.before.struct_told.given.1.0.1 }) in
-    sets_final x.out.now x.at x.f c1.put-u16.ensures c2.put-u162.ensures c3.put-u163.ensures
-    (rw weight at c4.put-i32.ensures)
+    let weight = to_z-of_z {w = w32} {z = x.f.weight} (record { sfits = c4.before.struct_told-1.given.1.0.1 }) in
+    sets_final x.out.now x.at x.f c1.put_u16.ensures c2.put_u16-2.ensures c3.put_u16-3.ensures
+    (rw weight at c4.put_i32.ensures)
 
 pub put_final_spec : {M : Type 1} → statement M
 put_final_spec =
     tie.close
     (tie.spec
-    put_u16_requires
-    add_put_u16
-    put_u16_requires_2
-    add_put_u16_2
-    put_u16_requires_3
-    add_put_i32
-    put_i32_requires
-    same_length
+    put_u16-requires
+    overflow_add-at
+    put_u16-requires-2
+    overflow_add-at-2
+    put_u16-requires-3
+    overflow_add-at-3
+    put_i32-requires
+    shape_of-out
     returns)
