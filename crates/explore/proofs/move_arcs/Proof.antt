@@ -59,7 +59,7 @@ loop-j-preserved c =
     let x = (start h).args in
     let inv = h.loop-j.invariant in (
       omega arith,
-      moved.auto.0 ∙ inv.1,
+      moved.auto.table ∙ inv.1,
       rw add-one (moved_next x.table.now h.loop-j.table _ x.from x.first h.loop-j.j (start h).requires.0 (omega arith) inv.2 moved.ensures),
     )
 

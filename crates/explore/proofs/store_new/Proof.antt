@@ -25,9 +25,9 @@ returns-then-number-count c = λ xs long is chained.
     let put = inserted c in
     let new = is_new put in
     let a = new.before.before.args in
-    let out = put.insert.last in
+    let out = put.insert.new in
     let e = new.if-number-count.true in
-    stored_new xs a.key a.count a.number long is out.0 out.1.0 out.1.1.0 e
+    stored_new xs a.key a.count a.number long is out.states out.heads out.links e
     (put.insert.ensures.0 xs long (found_new xs a.key a.count a.number long is e) chained)
 
 returns : tie.Need-returns

@@ -1,5 +1,5 @@
 -- The invariant: the states below `s` are live or marked.
-use mathlib.Core.Path.{◌≡◌, refl}
+use mathlib.Core.Path.{◌≡◌, refl, ap}
 use mathlib.Core.Bool.{Bool, true, false, ◌||◌, not}
 use Prim.Native.Nat.{ℕ, ◌-◌, ◌<◌}
 use native.Mathlib.Omega.{arith}
@@ -47,7 +47,7 @@ loop-s-preserved c =
     let l = c.before.before.before.before in
     let a = l.before.args in
     below_next (λ u. marked a.live.now u ≡ false → marked a.marks.now u ≡ true) l.loop-s.s l.loop-s.invariant
-    (either (marked a.live.now l.loop-s.s) (marked a.marks.now l.loop-s.s) c.if-not-live-s.false)
+    (either (marked a.live.now l.loop-s.s) (marked a.marks.now l.loop-s.s) (ap not c.if-not-live-s.false))
 
 returns : tie.Need-returns invariant-loop-s decreases-loop-s
 returns c = λ _ u h. c.before.loop-s.invariant u (omega (arith, c.loop-s-test.false))

@@ -30,7 +30,7 @@ u16_at-requires c κs =
     omega (arith, copied_inside 2 (length (start c).args.bytes.now) (start c).requires.1 c.loop-i-test.true c.before.loop-i.invariant)
 
 offset_bounds-out-i : tie.Need-offset_bounds-out-i invariant-loop-i decreases-loop-i
-offset_bounds-out-i c = let from = start c.before in omega (arith, from.good, from.requires.0)
+offset_bounds-out-i c = let from = start c.before in omega (arith, from.well_formed, from.requires.0)
 
 bounds-out-i : tie.Need-bounds-out-i invariant-loop-i decreases-loop-i
 bounds-out-i c = let from = start c.before in omega (arith, copied_length from.requires.0 c.before.before.loop-i.invariant, from.requires.0)
@@ -40,7 +40,7 @@ overflow_add-place c =
     let from = start c.before in
     omega (
       arith,
-      from.good,
+      from.well_formed,
       from.requires.2,
       copied_inside 2 (length from.args.bytes.now) from.requires.1 c.before.loop-i-test.true c.before.before.loop-i.invariant,
     )
@@ -64,7 +64,7 @@ shape_of-out : tie.Need-shape_of-out invariant-loop-i decreases-loop-i
 shape_of-out c =
     let after = c.before.before.before in
     let from = entry after in
-    c.before.before.clear16.auto.0 ∙ copied_length from.requires.0 after.before.before.loop-i.invariant
+    c.before.before.clear16.auto.out ∙ copied_length from.requires.0 after.before.before.loop-i.invariant
 
 returns : tie.Need-returns invariant-loop-i decreases-loop-i
 unfolding cleared filled
@@ -73,7 +73,7 @@ returns c =
     let from = entry after in
     copied_stop
     0
-    c.before.before.clear16.new.0
+    c.before.before.clear16.new.out
     from.requires.0
     after.before.loop-i-test.false
     c.before.before.clear16.ensures

@@ -33,52 +33,52 @@ fields_inside : (c : tie.In-loop-i invariant-loop-i decreases-loop-i) → 4 * c.
 fields_inside c = omega (arith, (start c).requires, fields_length (start c).requires.0 c.before.loop-i.invariant)
 
 overflow_mul-out : tie.Need-overflow_mul-out invariant-loop-i decreases-loop-i
-overflow_mul-out c = omega (arith, (start c.before).requires, (start c.before).good)
+overflow_mul-out c = omega (arith, (start c.before).requires, (start c.before).well_formed)
 
 offset_bounds-out-i : tie.Need-offset_bounds-out-i invariant-loop-i decreases-loop-i
-offset_bounds-out-i c = omega (arith, (start c.before).requires, (start c.before).good)
+offset_bounds-out-i c = omega (arith, (start c.before).requires, (start c.before).well_formed)
 
 bounds-out-i : tie.Need-bounds-out-i invariant-loop-i decreases-loop-i
 bounds-out-i c = omega (arith, fields_inside c.before)
 
 overflow_mul-out-in-loop-i : tie.Need-overflow_mul-out-in-loop-i invariant-loop-i decreases-loop-i
-overflow_mul-out-in-loop-i c = omega (arith, (start c.before).requires, (start c.before).good)
+overflow_mul-out-in-loop-i c = omega (arith, (start c.before).requires, (start c.before).well_formed)
 
 overflow_add-out : tie.Need-overflow_add-out invariant-loop-i decreases-loop-i
-overflow_add-out c = omega (arith, (start c.before).requires, (start c.before).good)
+overflow_add-out c = omega (arith, (start c.before).requires, (start c.before).well_formed)
 
 offset_bounds-out-i-in-loop-i : tie.Need-offset_bounds-out-i-in-loop-i invariant-loop-i decreases-loop-i
-offset_bounds-out-i-in-loop-i c = omega (arith, (start c.before).requires, (start c.before).good)
+offset_bounds-out-i-in-loop-i c = omega (arith, (start c.before).requires, (start c.before).well_formed)
 
 bounds-out-i-in-loop-i : tie.Need-bounds-out-i-in-loop-i invariant-loop-i decreases-loop-i
 bounds-out-i-in-loop-i c = simp length-set (omega (arith, fields_inside c.before))
 
 overflow_mul-out-in-loop-i-2 : tie.Need-overflow_mul-out-in-loop-i-2 invariant-loop-i decreases-loop-i
-overflow_mul-out-in-loop-i-2 c = omega (arith, (start c.before).requires, (start c.before).good)
+overflow_mul-out-in-loop-i-2 c = omega (arith, (start c.before).requires, (start c.before).well_formed)
 
 overflow_add-out-in-loop-i : tie.Need-overflow_add-out-in-loop-i invariant-loop-i decreases-loop-i
-overflow_add-out-in-loop-i c = omega (arith, (start c.before).requires, (start c.before).good)
+overflow_add-out-in-loop-i c = omega (arith, (start c.before).requires, (start c.before).well_formed)
 
 offset_bounds-out-i-in-loop-i-2 : tie.Need-offset_bounds-out-i-in-loop-i-2 invariant-loop-i decreases-loop-i
-offset_bounds-out-i-in-loop-i-2 c = omega (arith, (start c.before).requires, (start c.before).good)
+offset_bounds-out-i-in-loop-i-2 c = omega (arith, (start c.before).requires, (start c.before).well_formed)
 
 bounds-out-i-in-loop-i-2 : tie.Need-bounds-out-i-in-loop-i-2 invariant-loop-i decreases-loop-i
 bounds-out-i-in-loop-i-2 c = simp length-set (omega (arith, fields_inside c.before))
 
 overflow_mul-out-in-loop-i-3 : tie.Need-overflow_mul-out-in-loop-i-3 invariant-loop-i decreases-loop-i
-overflow_mul-out-in-loop-i-3 c = omega (arith, (start c.before).requires, (start c.before).good)
+overflow_mul-out-in-loop-i-3 c = omega (arith, (start c.before).requires, (start c.before).well_formed)
 
 overflow_add-out-in-loop-i-2 : tie.Need-overflow_add-out-in-loop-i-2 invariant-loop-i decreases-loop-i
-overflow_add-out-in-loop-i-2 c = omega (arith, (start c.before).requires, (start c.before).good)
+overflow_add-out-in-loop-i-2 c = omega (arith, (start c.before).requires, (start c.before).well_formed)
 
 offset_bounds-out-i-in-loop-i-3 : tie.Need-offset_bounds-out-i-in-loop-i-3 invariant-loop-i decreases-loop-i
-offset_bounds-out-i-in-loop-i-3 c = omega (arith, (start c.before).requires, (start c.before).good)
+offset_bounds-out-i-in-loop-i-3 c = omega (arith, (start c.before).requires, (start c.before).well_formed)
 
 bounds-out-i-in-loop-i-3 : tie.Need-bounds-out-i-in-loop-i-3 invariant-loop-i decreases-loop-i
 bounds-out-i-in-loop-i-3 c = simp length-set (omega (arith, fields_inside c.before))
 
 overflow_add-place : tie.Need-overflow_add-place invariant-loop-i decreases-loop-i
-overflow_add-place c = omega (arith, (start c.before).requires, c.before.before.loop-i.invariant.there, (start c.before).good)
+overflow_add-place c = omega (arith, (start c.before).requires, c.before.before.loop-i.invariant.there, (start c.before).well_formed)
 
 overflow_add-i : tie.Need-overflow_add-i invariant-loop-i decreases-loop-i
 overflow_add-i c = search rules
@@ -92,7 +92,7 @@ loop-i-preserved c =
     fields_next c.load_arc-a.result (start c.before).requires.0 c.before.loop-i-test.true c.load_arc-a.ensures c.before.before.loop-i.invariant
 
 overflow_mul-count : tie.Need-overflow_mul-count invariant-loop-i decreases-loop-i
-overflow_mul-count c = let from = entry c in omega (arith, from.requires, from.good)
+overflow_mul-count c = let from = entry c in omega (arith, from.requires, from.well_formed)
 
 clear16-requires : tie.Need-clear16-requires invariant-loop-i decreases-loop-i
 clear16-requires c κs =
@@ -103,14 +103,14 @@ shape_of-out : tie.Need-shape_of-out invariant-loop-i decreases-loop-i
 shape_of-out c =
     let after = c.before.before.before in
     let from = entry after in
-    c.before.before.clear16.auto.0 ∙ fields_length from.requires.0 after.before.before.loop-i.invariant
+    c.before.before.clear16.auto.out ∙ fields_length from.requires.0 after.before.before.loop-i.invariant
 
 returns : tie.Need-returns invariant-loop-i decreases-loop-i
 returns c =
     let after = c.before.before.before in
     let from = entry after in
     fields_stop
-    c.before.before.clear16.new.0
+    c.before.before.clear16.new.out
     from.requires.0
     after.before.loop-i-test.false
     c.before.before.clear16.ensures

@@ -69,7 +69,7 @@ shape_of-out : tie.Need-shape_of-out invariant-loop-i decreases-loop-i
 shape_of-out c =
     let after = c.before.before in
     let start = after.before.before.before.before in
-    c.before.clear_i32.auto.0 ∙ copied_length start.requires.0 after.before.before.loop-i.invariant
+    c.before.clear_i32.auto.out ∙ copied_length start.requires.0 after.before.before.loop-i.invariant
 
 returns : tie.Need-returns invariant-loop-i decreases-loop-i
 unfolding signed_cleared signed_filled
@@ -78,7 +78,7 @@ returns c =
     let start = after.before.before.before.before in
     copied_stop
     no_weight
-    c.before.clear_i32.new.0
+    c.before.clear_i32.new.out
     start.requires.0
     after.before.loop-i-test.false
     c.before.clear_i32.ensures

@@ -56,7 +56,7 @@ loop-i-preserved c =
     let same = ap (λ (a : Arc). sets h.loop-i.out h.loop-i.at (arc_record a)) c.before.before.before.given_arc.ensures in (
       omega arith,
       omega arith,
-      called.auto.0 ∙ inv.2,
+      called.auto.out ∙ inv.2,
       sets_arcs x.out.now x.first h.loop-i.at h.loop-i.i (arc_of x.fields.now x.weights.now) inv.1 inv.3 (called.ensures ∙ same),
     )
 

@@ -71,7 +71,7 @@ loop-i-preserved c =
     let inv = h.loop-i.invariant in (
       omega arith,
       omega arith,
-      called.auto.0 ∙ inv.2,
+      called.auto.out ∙ inv.2,
       sets_finals x.out.now head_bytes h.loop-i.at h.loop-i.i (final_of x.states.now x.weights.now) inv.1 inv.3
           (called.ensures ∙ ap stored weight),
     )

@@ -5,7 +5,7 @@ use Prim.Native.Nat.{ℕ, ◌-◌, ◌≤◌, ◌<◌}
 use native.Mathlib.Omega.{arith}
 use lib.ListN.{get_or, set}
 use Rattle.transducer.specs.Format.{max_arcs, max_states, decode}
-use Rattle.reach.proofs.cell.{Parts}
+use Rattle.reach.proofs.Cell.{Parts}
 use Rattle.reach.proofs.Sized.{Sized, sized}
 use Rattle.reach.proofs.Spreading.{number_most}
 use Rattle.reach.proofs.Stacked.{Serving, left_to_follow, serving_first, serving_to, serving_link, serving_room, serving_less, serving_fewer}
@@ -30,13 +30,13 @@ abbrev turn : Here → tie.In-loop-cell invariant-loop-cell decreases-loop-cell
 turn c = c.before.before
 
 abbrev start : tie.In-loop-cell invariant-loop-cell decreases-loop-cell → Start
-start c = c.before.before.before.before.before
+start c = c.before.before.before.before.before.before.before
 
 abbrev then : tie.Then-marks-to invariant-loop-cell decreases-loop-cell → Here
-then c = c.before.before.before
+then c = c.before.before.before.before.before
 
 abbrev else : tie.Else-marks-to invariant-loop-cell decreases-loop-cell → Here
-else c = c.before.before.before
+else c = c.before.before.before.before.before
 
 abbrev last : tie.Then-cell-eq0 invariant-loop-cell decreases-loop-cell → tie.Else-marks-to invariant-loop-cell decreases-loop-cell
 last c = c.before
@@ -82,21 +82,21 @@ offset_bounds-stack-top : tie.Need-offset_bounds-stack-top invariant-loop-cell d
 offset_bounds-stack-top c = omega (arith, inside c.before)
 
 bounds-stack-top : tie.Need-bounds-stack-top invariant-loop-cell decreases-loop-cell
-bounds-stack-top c = omega (arith, inside c.before, c.before.requires.3.stack_long)
+bounds-stack-top c = omega (arith, inside c.before.before, c.before.requires.3.stack_long)
 
 overflow_cast-s : tie.Need-overflow_cast-s invariant-loop-cell decreases-loop-cell
-overflow_cast-s c = omega (arith, state c.before.before)
+overflow_cast-s c = omega (arith, state c.before.before.before)
 
 offset_bounds-heads-s : tie.Need-offset_bounds-heads-s invariant-loop-cell decreases-loop-cell
-offset_bounds-heads-s c = omega (arith, state c.before.before)
+offset_bounds-heads-s c = omega (arith, state c.before.before.before)
 
 bounds-heads-s : tie.Need-bounds-heads-s invariant-loop-cell decreases-loop-cell
-bounds-heads-s c = omega (arith, state c.before.before, c.before.before.requires.2.heads_long)
+bounds-heads-s c = omega (arith, state c.before.before.before.before, c.before.before.requires.2.heads_long)
 
 loop-cell-init : tie.Need-loop-cell-init invariant-loop-cell decreases-loop-cell
 loop-cell-init c =
     let start = c.before.before.before in
-    serving_first (get_or start.args.stack.now start.args.top 0) (size start) refl start.requires.2 start.requires.3
+    serving_first (get_or start.args.stack.now start.args.top 0) (size start.before.before) refl start.requires.2 start.requires.3
 
 state_of-to-requires : tie.Need-state_of-to-requires invariant-loop-cell decreases-loop-cell
 state_of-to-requires c κs = tt
@@ -111,10 +111,10 @@ offset_bounds-next-link : tie.Need-offset_bounds-next-link invariant-loop-cell d
 offset_bounds-next-link c = omega (arith, (link c).1)
 
 bounds-next-link : tie.Need-bounds-next-link invariant-loop-cell decreases-loop-cell
-bounds-next-link c = omega (arith, (link c).0, (link c).1, (start (turn c)).requires.2.next_long)
+bounds-next-link c = omega (arith, (link c.before).0, (link c.before).1, (start (turn c.before)).requires.2.next_long)
 
 bounds-marks-to : tie.Need-bounds-marks-to invariant-loop-cell decreases-loop-cell
-bounds-marks-to c = omega (arith, to_below c.before, (turn c.before).before.loop-cell.invariant.marks_long)
+bounds-marks-to c = omega (arith, to_below c.before.before.before, (turn c.before.before.before).before.loop-cell.invariant.marks_long)
 
 loop-cell-smaller-then-marks-to : tie.Need-loop-cell-smaller-then-marks-to invariant-loop-cell decreases-loop-cell
 loop-cell-smaller-then-marks-to c =
@@ -133,16 +133,16 @@ offset_bounds-heads-s-then-cell-eq0 : tie.Need-offset_bounds-heads-s-then-cell-e
 offset_bounds-heads-s-then-cell-eq0 c = omega (arith, to_below (else (last c)))
 
 bounds-heads-s-then-cell-eq0 : tie.Need-bounds-heads-s-then-cell-eq0 invariant-loop-cell decreases-loop-cell
-bounds-heads-s-then-cell-eq0 c = omega (arith, to_below (else (last c)), (start (turn (else (last c)))).requires.2.heads_long)
+bounds-heads-s-then-cell-eq0 c = omega (arith, to_below (else (last c.before)), (start (turn (else (last c.before)))).requires.2.heads_long)
 
 loop-cell-smaller-then-cell-eq0 : tie.Need-loop-cell-smaller-then-cell-eq0 invariant-loop-cell decreases-loop-cell
 loop-cell-smaller-then-cell-eq0 c =
-    let e = last c.before in
+    let e = last c.before.before in
     fewer e (get_or (start (turn (else e))).args.heads.now (else e).before.state_of-to.result 0)
 
 loop-cell-preserved-then-cell-eq0 : tie.Need-loop-cell-preserved-then-cell-eq0 invariant-loop-cell decreases-loop-cell
 loop-cell-preserved-then-cell-eq0 c =
-    let e = last c.before in
+    let e = last c.before.before in
     let t = turn (else e) in
     serving_on (size (start t)) t.before.loop-cell.invariant t.loop-cell-test.true (parts (else e)) (start t).requires.2 e.if-marks-to.false c.before.if-cell-eq0.true
 
@@ -153,20 +153,20 @@ offset_bounds-stack-end : tie.Need-offset_bounds-stack-end invariant-loop-cell d
 offset_bounds-stack-end c = omega (arith, room (else (more c)))
 
 bounds-stack-end : tie.Need-bounds-stack-end invariant-loop-cell decreases-loop-cell
-bounds-stack-end c = omega (arith, room (else (more c)), (turn (else (more c))).before.loop-cell.invariant.stack_long)
+bounds-stack-end c = omega (arith, room (else (more c.before)), (turn (else (more c.before))).before.loop-cell.invariant.stack_long)
 
 overflow_add-end : tie.Need-overflow_add-end invariant-loop-cell decreases-loop-cell
-overflow_add-end c = omega (arith, room (else (more c)))
+overflow_add-end c = omega (arith, room (else (more c.before)))
 
 loop-cell-smaller : tie.Need-loop-cell-smaller invariant-loop-cell decreases-loop-cell
 loop-cell-smaller c =
-    let h = else (more c) in
-    fewer (more c) (get_or (start (turn h)).args.next.now (h.link_of-link.result - 1) 0)
+    let h = else (more c.before) in
+    fewer (more c.before) (get_or (start (turn h)).args.next.now (h.link_of-link.result - 1) 0)
 
 loop-cell-preserved : tie.Need-loop-cell-preserved invariant-loop-cell decreases-loop-cell
 loop-cell-preserved c =
-    let t = turn (else (more c)) in
-    serving_new (size (start t)) t.before.loop-cell.invariant t.loop-cell-test.true (parts (else (more c))) (start t).requires.2 (more c).if-marks-to.false
+    let t = turn (else (more c.before)) in
+    serving_new (size (start t)) t.before.loop-cell.invariant t.loop-cell-test.true (parts (else (more c.before))) (start t).requires.2 (more c.before).if-marks-to.false
 
 returns : tie.Need-returns invariant-loop-cell decreases-loop-cell
 returns c = serving_stop c.loop-cell-test.false c.before.loop-cell.invariant

@@ -23,13 +23,13 @@ size c =
 
 push_marked-count-requires : tie.Need-push_marked-count-requires
 push_marked-count-requires c κs =
-    let e = c.before.before in
+    let e = c.before in
     (omega (arith, (start e).requires.1, (size e).states), (start e).requires.3, refl)
 
 drain_stack-requires : tie.Need-drain_stack-requires
 drain_stack-requires c κs =
     let pushed = c.before.before in
-    let e = pushed.before.before.before in
+    let e = pushed.before.before in
     let pre = (start e).requires in
     (pre.0, pre.2, waiting_first (size e) (start e).args.back pre.1 pre.3 pushed.push_marked-count.ensures)
 

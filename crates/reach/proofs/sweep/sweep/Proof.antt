@@ -38,7 +38,7 @@ abbrev waited : tie.After-spread invariant-loop-k decreases-loop-k → tie.After
 waited c = c.before.before.before
 
 abbrev ends_of : tie.After-spread invariant-loop-k decreases-loop-k → Ends
-ends_of c = (waited c).before.before
+ends_of c = (waited c).before
 
 is_bytes : (c : tie.At-loop-k invariant-loop-k decreases-loop-k) → Bytes (start c).args.table.now
 is_bytes c = λ k. omega (arith, c.before.shared_slice_known-1.given k)
@@ -75,7 +75,7 @@ waits-requires c κs =
 
 spread-requires : tie.Need-spread-requires invariant-loop-k decreases-loop-k
 spread-requires c κs =
-    let ends = c.before.before.before.before in
+    let ends = c.before.before.before in
     let h = at (turn ends) in
     ((inside ends).0, (inside ends).1, h.loop-k.invariant.1.wider.long ∙ (start h).requires.2)
 
