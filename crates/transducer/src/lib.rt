@@ -28,7 +28,7 @@ pub use refusals::{refusal, validate};
 pub use store::{put_arc, put_final, put_head};
 
 // An arc: from its source, reading one label and writing one, to its target, at a weight.
-#[derive(Drop)]
+#[derive(Clone, Copy)]
 pub struct Arc {
     pub source: u16,
     pub input: u16,
@@ -38,7 +38,7 @@ pub struct Arc {
 }
 
 // A final state with its final weight.
-#[derive(Drop)]
+#[derive(Clone, Copy)]
 pub struct Final {
     pub state: u16,
     pub weight: i32,

@@ -69,7 +69,7 @@ returns-then-final_states-lt-MAX_STATES : tie.Need-returns-then-final_states-lt-
 returns-then-final_states-lt-MAX_STATES c =
     let at_refusal = c.before.before.before in
     let a = (entry at_refusal).args in
-    let room = short_states (length a.final_states-1.now) (length a.final_weights-1.now) (length a.fields-1.now) (length a.arc_weights-1.now) in
+    let room = short_states (length a.final_states.now) (length a.final_weights.now) (length a.fields.now) (length a.arc_weights.now) in
     says_short at_refusal.refusal-number.ensures c.before.before.if-number-ne0.false (room c.before.if-final_states-lt-MAX_STATES.true) c.unread-then-final_states-lt-MAX_STATES.ensures
 
 unread-requires-then-final_weights-lt-MAX_STATES : tie.Need-unread-requires-then-final_weights-lt-MAX_STATES
@@ -79,7 +79,7 @@ returns-then-final_weights-lt-MAX_STATES : tie.Need-returns-then-final_weights-l
 returns-then-final_weights-lt-MAX_STATES c =
     let at_refusal = c.before.before.before.before in
     let a = (entry at_refusal).args in
-    let room = short_weights (length a.final_states-1.now) (length a.final_weights-1.now) (length a.fields-1.now) (length a.arc_weights-1.now) in
+    let room = short_weights (length a.final_states.now) (length a.final_weights.now) (length a.fields.now) (length a.arc_weights.now) in
     says_short at_refusal.refusal-number.ensures c.before.before.before.if-number-ne0.false (room c.before.if-final_weights-lt-MAX_STATES.true) c.unread-then-final_weights-lt-MAX_STATES.ensures
 
 unread-requires-then-fields-lt-MAX_FIELDS : tie.Need-unread-requires-then-fields-lt-MAX_FIELDS
@@ -89,7 +89,7 @@ returns-then-fields-lt-MAX_FIELDS : tie.Need-returns-then-fields-lt-MAX_FIELDS
 returns-then-fields-lt-MAX_FIELDS c =
     let at_refusal = tested_4 c in
     let a = (entry at_refusal).args in
-    let room = short_fields (length a.final_states-1.now) (length a.final_weights-1.now) (length a.fields-1.now) (length a.arc_weights-1.now) in
+    let room = short_fields (length a.final_states.now) (length a.final_weights.now) (length a.fields.now) (length a.arc_weights.now) in
     says_short at_refusal.refusal-number.ensures c.before.before.before.before.if-number-ne0.false (room c.before.if-fields-lt-MAX_FIELDS.true) c.unread-then-fields-lt-MAX_FIELDS.ensures
 
 unread-requires-then-arc_weights-lt-MAX_ARCS : tie.Need-unread-requires-then-arc_weights-lt-MAX_ARCS
@@ -99,7 +99,7 @@ returns-then-arc_weights-lt-MAX_ARCS : tie.Need-returns-then-arc_weights-lt-MAX_
 returns-then-arc_weights-lt-MAX_ARCS c =
     let at_refusal = tested_5 c in
     let a = (entry at_refusal).args in
-    let room = short_arc_weights (length a.final_states-1.now) (length a.final_weights-1.now) (length a.fields-1.now) (length a.arc_weights-1.now) in
+    let room = short_arc_weights (length a.final_states.now) (length a.final_weights.now) (length a.fields.now) (length a.arc_weights.now) in
     says_short at_refusal.refusal-number.ensures (good_5 c).if-number-ne0.false (room c.before.if-arc_weights-lt-MAX_ARCS.true) c.unread-then-arc_weights-lt-MAX_ARCS.ensures
 
 header-head-requires : tie.Need-header-head-requires
