@@ -6,15 +6,20 @@ use Rattle.transducer.specs.Weight.{Weight}
 use Rattle.report.proofs.path.answer.Statement.{statement}
 use Rattle.report.proofs.path.answer.Tie as tie
 
-cast_t4 : tie.Need-overflow-cast-t4
-cast_t4 c = omega (arith, c.requires.0)
+overflow_cast-result : tie.Need-overflow_cast-result
+overflow_cast-result c = omega (arith, c.requires.0)
 
-cast_t5 : tie.Need-overflow-cast-t5
-cast_t5 c = omega (arith, c.requires.1)
+overflow_cast-result-2 : tie.Need-overflow_cast-result-2
+overflow_cast-result-2 c = omega (arith, c.requires.1)
 
 returns : tie.Need-returns
 returns c =
     ap (λ (z : Weight). record { refusal = 0; cost = z; arcs = c.args.arcs; labels = c.args.labels }) (to_z-of_z c.ranges.cost)
 
 pub answer_spec : {M : Type 1} → statement M
-answer_spec = tie.close (tie.spec cast_t4 cast_t5 returns)
+answer_spec =
+    tie.close
+    (tie.spec
+    overflow_cast-result
+    overflow_cast-result-2
+    returns)

@@ -5,21 +5,28 @@ use Rattle.steps.specs.Packing.{pack}
 use Rattle.steps.proofs.keys.pack.Statement.{statement}
 use Rattle.steps.proofs.keys.pack.Tie as tie
 
-mul_result : tie.Need-overflow-mul-result
-mul_result c = omega (arith, c.requires.left)
+overflow_mul-result : tie.Need-overflow_mul-result
+overflow_mul-result c = omega (arith, c.requires.left)
 
-add_result : tie.Need-overflow-add-result
-add_result c = omega (arith, c.requires.left, c.requires.right)
+overflow_add-result : tie.Need-overflow_add-result
+overflow_add-result c = omega (arith, c.requires.left, c.requires.right)
 
-mul_result_2 : tie.Need-overflow-mul-result-2
-mul_result_2 c = omega (arith, c.requires.left, c.requires.right)
+overflow_mul-result-2 : tie.Need-overflow_mul-result-2
+overflow_mul-result-2 c = omega (arith, c.requires.left, c.requires.right)
 
-add_result_2 : tie.Need-overflow-add-result-2
-add_result_2 c = omega (arith, c.requires.left, c.requires.right, c.requires.filter)
+overflow_add-result-2 : tie.Need-overflow_add-result-2
+overflow_add-result-2 c = omega (arith, c.requires.left, c.requires.right, c.requires.filter)
 
 returns : tie.Need-returns
 unfolding pack
 returns c = refl
 
 pub pack_spec : {M : Type 1} → statement M
-pack_spec = tie.close (tie.spec mul_result add_result mul_result_2 add_result_2 returns)
+pack_spec =
+    tie.close
+    (tie.spec
+    overflow_mul-result
+    overflow_add-result
+    overflow_mul-result-2
+    overflow_add-result-2
+    returns)

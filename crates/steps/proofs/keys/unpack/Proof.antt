@@ -15,4 +15,7 @@ returns c =
     rw (right, filter)
 
 pub unpack_spec : {M : Type 1} → statement M
-unpack_spec = tie.close (tie.spec returns)
+unpack_spec =
+    tie.close
+    (tie.spec
+    returns)

@@ -12,113 +12,113 @@ use Rattle.transducer.proofs.AcceptedAt.{opened_inside, opened_few}
 use Rattle.steps.proofs.lookup.along.Statement.{statement}
 use Rattle.steps.proofs.lookup.along.Tie as tie
 
-abbrev invariant_loop : tie.invariant_loop
-invariant_loop right rfirst chain head q label both next₀ next =
+abbrev invariant-loop-next : tie.invariant-loop-next
+invariant-loop-next right rfirst chain head q label both next₀ next =
     (from : ℕ) → Leads (decode right) q label from chain head → Along (decode right) q label from next
 
-abbrev decreases_loop : tie.decreases_loop
-decreases_loop right rfirst chain head q label both next₀ next = left_of (length (decode right).arcs) next
+abbrev decreases-loop-next : tie.decreases-loop-next
+decreases-loop-next right rfirst chain head q label both next₀ next = left_of (length (decode right).arcs) next
 
 -- Places to look back to.
-abbrev start : tie.In-loop invariant_loop decreases_loop → tie.Start invariant_loop decreases_loop
+abbrev start : tie.In-loop-next invariant-loop-next decreases-loop-next → tie.Start invariant-loop-next decreases-loop-next
 start c = c.before.before.before.before
 
-mul_both : tie.Need-overflow-mul-both invariant_loop decreases_loop
-mul_both c = search rules
+overflow_mul-both : tie.Need-overflow_mul-both invariant-loop-next decreases-loop-next
+overflow_mul-both c = search rules
 
-add_both : tie.Need-overflow-add-both invariant_loop decreases_loop
-add_both c = search rules
+overflow_add-both : tie.Need-overflow_add-both invariant-loop-next decreases-loop-next
+overflow_add-both c = search rules
 
-loop_holds : tie.Need-loop-init invariant_loop decreases_loop
-loop_holds c = λ from leads. along_first leads
+loop-next-init : tie.Need-loop-next-init invariant-loop-next decreases-loop-next
+loop-next-init c = λ from leads. along_first leads
 
 -- In a turn: `next` leads to an arc, and its record lies within the bytes.
-is_bytes : (c : tie.In-loop invariant_loop decreases_loop) → Bytes (start c).args.right.now
-is_bytes c = λ i. omega (arith, c.before.before.before.shared-slice-known.given i)
+is_bytes : (c : tie.In-loop-next invariant-loop-next decreases-loop-next) → Bytes (start c).args.right.now
+is_bytes c = λ i. omega (arith, c.before.before.before.shared_slice_known-1.given i)
 
-is_arc : (c : tie.In-loop invariant_loop decreases_loop) → c.before.loop.next - 1 < length (decode (start c).args.right.now).arcs
+is_arc : (c : tie.In-loop-next invariant-loop-next decreases-loop-next) → c.before.loop-next.next - 1 < length (decode (start c).args.right.now).arcs
 is_arc c =
     let leads = (start c).requires.1 in
-    (along_in leads.1 (c.before.loop.invariant leads.0 leads.1) c.loop-test.true).1
+    (along_in leads.1 (c.before.loop-next.invariant leads.0 leads.1) c.loop-next-test.true).1
 
-few : (c : tie.In-loop invariant_loop decreases_loop) → c.before.loop.next - 1 < max_arcs
+few : (c : tie.In-loop-next invariant-loop-next decreases-loop-next) → c.before.loop-next.next - 1 < max_arcs
 few c = omega (arith, is_arc c, opened_few (start c).args.right.now (is_bytes c) (start c).args.rfirst (start c).requires.0)
 
-inside : (c : tie.In-loop invariant_loop decreases_loop) → (start c).args.rfirst + 16 * (c.before.loop.next - 1 + 1) ≤ length (start c).args.right.now
+inside : (c : tie.In-loop-next invariant-loop-next decreases-loop-next) → (start c).args.rfirst + 16 * (c.before.loop-next.next - 1 + 1) ≤ length (start c).args.right.now
 inside c =
-    opened_inside (start c).args.right.now (is_bytes c) (start c).args.rfirst (start c).requires.0 (c.before.loop.next - 1 + 1)
+    opened_inside (start c).args.right.now (is_bytes c) (start c).args.rfirst (start c).requires.0 (c.before.loop-next.next - 1 + 1)
     (omega (arith, is_arc c))
 
-sub_j : tie.Need-overflow-sub-j invariant_loop decreases_loop
-sub_j c = omega (arith, c.loop-test.true)
+overflow_sub-j : tie.Need-overflow_sub-j invariant-loop-next decreases-loop-next
+overflow_sub-j c = omega (arith, c.loop-next-test.true)
 
-cast_j : tie.Need-overflow-cast-j invariant_loop decreases_loop
-cast_j c = omega (arith, few c)
+overflow_cast-j : tie.Need-overflow_cast-j invariant-loop-next decreases-loop-next
+overflow_cast-j c = omega (arith, few c)
 
-mul_u32_at : tie.Need-overflow-mul-u32-at invariant_loop decreases_loop
-mul_u32_at c = omega (arith, few c)
+overflow_mul-j : tie.Need-overflow_mul-j invariant-loop-next decreases-loop-next
+overflow_mul-j c = omega (arith, few c)
 
-add_u32_at : tie.Need-overflow-add-u32-at invariant_loop decreases_loop
-add_u32_at c = omega (arith, inside c, (start c).well-formed)
+overflow_add-rfirst : tie.Need-overflow_add-rfirst invariant-loop-next decreases-loop-next
+overflow_add-rfirst c = omega (arith, inside c, (start c).well_formed)
 
-add_u32_at_2 : tie.Need-overflow-add-u32-at-2 invariant_loop decreases_loop
-add_u32_at_2 c = omega (arith, inside c, (start c).well-formed)
+overflow_add-rfirst-in-loop-next : tie.Need-overflow_add-rfirst-in-loop-next invariant-loop-next decreases-loop-next
+overflow_add-rfirst-in-loop-next c = omega (arith, inside c, (start c).well_formed)
 
-u32_at_requires : tie.Need-u32-at-requires invariant_loop decreases_loop
-u32_at_requires c κs = omega (arith, inside c)
+u32_at-requires : tie.Need-u32_at-requires invariant-loop-next decreases-loop-next
+u32_at-requires c κs = omega (arith, inside c)
 
-returns : tie.Need-returns invariant_loop decreases_loop
-returns c = λ from leads.
+returns-then-u32_at-both : tie.Need-returns-then-u32_at-both invariant-loop-next decreases-loop-next
+returns-then-u32_at-both c = λ from leads.
     let turn = c.before.before in
     let a = (start turn).args in
-    along_found leads (turn.before.loop.invariant from leads) turn.loop-test.true
-    (side_reads a.right.now (is_bytes turn) a.rfirst (start turn).requires.0 a.q a.label (turn.before.loop.next - 1) (is_arc turn)
-    (omega (arith, (start turn).ranges.q)) (sym c.before.u32-at.ensures ∙ c.if1.true))
+    along_found leads (turn.before.loop-next.invariant from leads) turn.loop-next-test.true
+    (side_reads a.right.now (is_bytes turn) a.rfirst (start turn).requires.0 a.q a.label (turn.before.loop-next.next - 1) (is_arc turn)
+    (omega (arith, (start turn).ranges.q)) (sym c.before.u32_at.ensures ∙ c.if-u32_at-both.true))
 
-mul_next : tie.Need-overflow-mul-next invariant_loop decreases_loop
-mul_next c = omega (arith, few c.before.before)
+offset_bounds-chain-j : tie.Need-offset_bounds-chain-j invariant-loop-next decreases-loop-next
+offset_bounds-chain-j c = omega (arith, few c.before.before)
 
-shared_slice_read_next : tie.Need-shared-slice-read-next invariant_loop decreases_loop
-shared_slice_read_next c =
+bounds-chain-j : tie.Need-bounds-chain-j invariant-loop-next decreases-loop-next
+bounds-chain-j c =
     let turn = c.before.before.before in
     let leads = (start turn).requires.1 in
     omega (arith, is_arc turn, leads.1.chained.long)
 
-loop_less : tie.Need-loop-smaller invariant_loop decreases_loop
-loop_less c =
+loop-next-smaller : tie.Need-loop-next-smaller invariant-loop-next decreases-loop-next
+loop-next-smaller c =
     let turn = c.before.before.before in
     let leads = (start turn).requires.1 in
-    along_less leads.1 (turn.before.loop.invariant leads.0 leads.1) turn.loop-test.true
+    along_less leads.1 (turn.before.loop-next.invariant leads.0 leads.1) turn.loop-next-test.true
 
-loop_again : tie.Need-loop-preserved invariant_loop decreases_loop
-loop_again c = λ from leads.
+loop-next-preserved : tie.Need-loop-next-preserved invariant-loop-next decreases-loop-next
+loop-next-preserved c = λ from leads.
     let turn = c.before.before.before in
     let a = (start turn).args in
-    along_next leads (turn.before.loop.invariant from leads) turn.loop-test.true
-    (side_other a.right.now (is_bytes turn) a.rfirst (start turn).requires.0 a.q a.label (turn.before.loop.next - 1) (is_arc turn)
-    (λ e. c.before.if1.false (c.before.before.u32-at.ensures ∙ e)))
+    along_next leads (turn.before.loop-next.invariant from leads) turn.loop-next-test.true
+    (side_other a.right.now (is_bytes turn) a.rfirst (start turn).requires.0 a.q a.label (turn.before.loop-next.next - 1) (is_arc turn)
+    (λ e. c.before.if-u32_at-both.false (c.before.before.u32_at.ensures ∙ e)))
 
-returns_2 : tie.Need-returns-2 invariant_loop decreases_loop
-returns_2 c = λ from leads. along_none leads (c.before.loop.invariant from leads) c.loop-test.false
+returns : tie.Need-returns invariant-loop-next decreases-loop-next
+returns c = λ from leads. along_none leads (c.before.loop-next.invariant from leads) c.loop-next-test.false
 
 pub along_spec : {M : Type 1} → statement M
 along_spec =
     tie.close
     (tie.spec
-    invariant_loop
-    decreases_loop
-    mul_both
-    add_both
-    loop_holds
-    sub_j
-    cast_j
-    mul_u32_at
-    add_u32_at
-    add_u32_at_2
-    u32_at_requires
-    returns
-    mul_next
-    shared_slice_read_next
-    loop_less
-    loop_again
-    returns_2)
+    invariant-loop-next
+    decreases-loop-next
+    overflow_mul-both
+    overflow_add-both
+    loop-next-init
+    overflow_sub-j
+    overflow_cast-j
+    overflow_mul-j
+    overflow_add-rfirst
+    overflow_add-rfirst-in-loop-next
+    u32_at-requires
+    returns-then-u32_at-both
+    offset_bounds-chain-j
+    bounds-chain-j
+    loop-next-smaller
+    loop-next-preserved
+    returns)

@@ -9,60 +9,60 @@ use Rattle.steps.proofs.lookup.first_reading.Statement.{statement}
 use Rattle.steps.proofs.lookup.first_reading.Tie as tie
 
 -- Places to look back to.
-abbrev start : tie.After-label-bucket → tie.Start
+abbrev start : tie.After-label_bucket → tie.Start
 start c = c.before.before.before
 
 -- The head leads to the chain of the bucket.
-leads : (c : tie.After-label-bucket)
+leads : (c : tie.After-label_bucket)
     → Leads (decode (start c).args.right.now) (start c).args.q (start c).args.label 0 (start c).args.chain.now
     (get_or (start c).args.heads.now c.label_bucket.result 0)
 leads c =
     let s = start c in
-    chains_lead s.args.q s.args.label c.label_bucket.result s.pre.1 s.pre.2 c.label_bucket.ensures.0 c.label_bucket.ensures.1
+    chains_lead s.args.q s.args.label c.label_bucket.result s.requires.1 s.requires.2 c.label_bucket.ensures.0 c.label_bucket.ensures.1
 
-label_bucket_requires : tie.Need-label-bucket-requires
-label_bucket_requires c κs = search rules
+label_bucket-requires : tie.Need-label_bucket-requires
+label_bucket-requires c κs = search rules
 
-mul_head : tie.Need-overflow-mul-head
-mul_head c = search rules
+offset_bounds-heads-label_bucket : tie.Need-offset_bounds-heads-label_bucket
+offset_bounds-heads-label_bucket c = search rules
 
-element_copy_out_head : tie.Need-element-copy-out-head
-element_copy_out_head c = search rules
+bounds-heads-label_bucket : tie.Need-bounds-heads-label_bucket
+bounds-heads-label_bucket c = search rules
+
+returns-then-head-eq0 : tie.Need-returns-then-head-eq0
+returns-then-head-eq0 c = λ from leaving.
+    let k = c.before.before in
+    fit_none (start k.before).args.label _ leaving (along_none (leads k.before) (along_first (leads k.before)) c.if-head-eq0.true) refl
+
+along-link-requires : tie.Need-along-link-requires
+along-link-requires c κs = let k = c.before.before in ((start k.before).requires.0, (0, leads k.before))
+
+overflow_cast-link : tie.Need-overflow_cast-link
+overflow_cast-link c = search rules
+
+returns-then-link-eq0 : tie.Need-returns-then-link-eq0
+returns-then-link-eq0 c = λ from leaving.
+    let k = c.before.before.before.before in
+    fit_none (start k.before).args.label c.before.along-link.result leaving (c.before.along-link.ensures 0 (leads k.before)) c.if-link-eq0.true
+
+overflow_sub-result : tie.Need-overflow_sub-result
+overflow_sub-result c = search rules
 
 returns : tie.Need-returns
 returns c = λ from leaving.
-    let k = c.before.before in
-    fit_none (start k).args.label _ leaving (along_none (leads k) (along_first (leads k)) c.if1.true) refl
-
-along_requires : tie.Need-along-requires
-along_requires c κs = let k = c.before.before in ((start k).requires.0, (0, leads k))
-
-cast_link : tie.Need-overflow-cast-link
-cast_link c = search rules
-
-returns_2 : tie.Need-returns-2
-returns_2 c = λ from leaving.
     let k = c.before.before.before.before in
-    fit_none (start k).args.label c.before.along.result leaving (c.before.along.ensures 0 (leads k)) c.if2.true
-
-sub_result : tie.Need-overflow-sub-result
-sub_result c = search rules
-
-returns_3 : tie.Need-returns-3
-returns_3 c = λ from leaving.
-    let k = c.before.before.before.before in
-    fit_some (start k).args.label c.before.along.result leaving (c.before.along.ensures 0 (leads k)) c.if2.false
+    fit_some (start k.before).args.label c.before.along-link.result leaving (c.before.along-link.ensures 0 (leads k.before)) c.if-link-eq0.false
 
 pub first_reading_spec : {M : Type 1} → statement M
 first_reading_spec =
     tie.close
     (tie.spec
-    label_bucket_requires
-    mul_head
-    element_copy_out_head
-    returns
-    along_requires
-    cast_link
-    returns_2
-    sub_result
-    returns_3)
+    label_bucket-requires
+    offset_bounds-heads-label_bucket
+    bounds-heads-label_bucket
+    returns-then-head-eq0
+    along-link-requires
+    overflow_cast-link
+    returns-then-link-eq0
+    overflow_sub-result
+    returns)

@@ -6,15 +6,20 @@ use Rattle.steps.specs.Lookup.{label_bucket}
 use Rattle.steps.proofs.lookup.label_bucket.Statement.{statement}
 use Rattle.steps.proofs.lookup.label_bucket.Tie as tie
 
-mul_result : tie.Need-overflow-mul-result
-mul_result c = search rules
+overflow_mul-result : tie.Need-overflow_mul-result
+overflow_mul-result c = search rules
 
-add_result : tie.Need-overflow-add-result
-add_result c = search rules
+overflow_add-result : tie.Need-overflow_add-result
+overflow_add-result c = search rules
 
 returns : tie.Need-returns
 unfolding label_bucket
 returns c = let sum = c.args.state * 61 + c.args.label in (and_mask sum 11, mask_lt sum 11)
 
 pub label_bucket_spec : {M : Type 1} → statement M
-label_bucket_spec = tie.close (tie.spec mul_result add_result returns)
+label_bucket_spec =
+    tie.close
+    (tie.spec
+    overflow_mul-result
+    overflow_add-result
+    returns)

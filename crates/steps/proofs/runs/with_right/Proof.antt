@@ -4,11 +4,15 @@ use Rattle.transducer.specs.Format.{barred}
 use Rattle.steps.proofs.runs.with_right.Statement.{statement}
 use Rattle.steps.proofs.runs.with_right.Tie as tie
 
-returns : tie.Need-returns
-returns c = rw (eq-eqb c.before.args.left barred c.if1.true)
+returns-then-left-eq-STILL : tie.Need-returns-then-left-eq-STILL
+returns-then-left-eq-STILL c = rw (eq-eqb c.before.args.left barred c.if-left-eq-STILL.true)
 
-returns_2 : tie.Need-returns-2
-returns_2 c = rw (ne_eqb c.before.args.left barred c.if1.false)
+returns : tie.Need-returns
+returns c = rw (ne_eqb c.before.args.left barred c.if-left-eq-STILL.false)
 
 pub with_right_spec : {M : Type 1} → statement M
-with_right_spec = tie.close (tie.spec returns returns_2)
+with_right_spec =
+    tie.close
+    (tie.spec
+    returns-then-left-eq-STILL
+    returns)

@@ -4,14 +4,19 @@ use mathlib.Core.Path.{refl}
 use Rattle.trim.proofs.trimming.new_number.Statement.{statement}
 use Rattle.trim.proofs.trimming.new_number.Tie as tie
 
-mul_number : tie.Need-overflow-mul-number
-mul_number c = search rules
+offset_bounds-index-s : tie.Need-offset_bounds-index-s
+offset_bounds-index-s c = search rules
 
-element_copy_out_number : tie.Need-element-copy-out-number
-element_copy_out_number c = search rules
+bounds-index-s : tie.Need-bounds-index-s
+bounds-index-s c = search rules
 
 returns : tie.Need-returns
 returns c = refl
 
 pub new_number_spec : {M : Type 1} → statement M
-new_number_spec = tie.close (tie.spec mul_number element_copy_out_number returns)
+new_number_spec =
+    tie.close
+    (tie.spec
+    offset_bounds-index-s
+    bounds-index-s
+    returns)

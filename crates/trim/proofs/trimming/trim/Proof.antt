@@ -10,80 +10,80 @@ use Rattle.trim.proofs.trimming.trim.Statement.{statement}
 use Rattle.trim.proofs.trimming.trim.Tie as tie
 
 -- Places to look back to.
-abbrev entry : tie.After-refusal → tie.Start
+abbrev entry : tie.After-refusal-number → tie.Start
 entry c = c.before.before.before.before
 
-abbrev tested : tie.Else3 → tie.After-refusal
+abbrev tested : tie.Else-origins-lt-MAX_ARCS → tie.After-refusal-number
 tested c = c.before.before.before
 
-abbrev passed : tie.After-trim-into → tie.Else3
+abbrev passed : tie.After-trim_into-len → tie.Else-origins-lt-MAX_ARCS
 passed c = c.before.before.before
 
 -- The bytes are accepted.
-is_bytes : (c : tie.After-refusal) → Bytes (entry c).args.table.now
-is_bytes c = λ i. omega (arith, c.before.before.before.shared-slice-known.given i)
+is_bytes : (c : tie.After-refusal-number) → Bytes (entry c).args.table.now
+is_bytes c = λ i. omega (arith, c.before.before.before.shared_slice_known-1.given i)
 
-accepted : (c : tie.Else3) → refusal (entry (tested c)).args.table.now ≡ 0
-accepted c = sym (tested c).refusal.ensures ∙ c.before.before.if1.false
+accepted : (c : tie.Else-origins-lt-MAX_ARCS) → refusal (entry (tested c)).args.table.now ≡ 0
+accepted c = sym (tested c).refusal-number.ensures ∙ c.before.before.if-number-ne0.false
 
-refusal_requires : tie.Need-refusal-requires
-refusal_requires c κs = search rules
+refusal-number-requires : tie.Need-refusal-number-requires
+refusal-number-requires c κs = search rules
 
-refused_requires : tie.Need-refused-requires
-refused_requires c κs = tt
+refused-requires : tie.Need-refused-requires
+refused-requires c κs = tt
 
-returns : tie.Need-returns
-returns c = says_bad c.before.before.refusal.ensures c.before.if1.true c.refused.ensures
+returns-then-number-ne0 : tie.Need-returns-then-number-ne0
+returns-then-number-ne0 c = says_bad c.before.before.refusal-number.ensures c.before.if-number-ne0.true c.refused.ensures
 
-refused_requires_2 : tie.Need-refused-requires-2
-refused_requires_2 c κs = tt
+refused-requires-then-out-lt-MAX_BYTES : tie.Need-refused-requires-then-out-lt-MAX_BYTES
+refused-requires-then-out-lt-MAX_BYTES c κs = tt
 
-returns_2 : tie.Need-returns-2
-returns_2 c = says_short_table c.before.before.before.refusal.ensures c.before.before.if1.false c.before.if2.true c.refused2.ensures
+returns-then-out-lt-MAX_BYTES : tie.Need-returns-then-out-lt-MAX_BYTES
+returns-then-out-lt-MAX_BYTES c = says_short_table c.before.before.before.refusal-number.ensures c.before.before.if-number-ne0.false c.before.if-out-lt-MAX_BYTES.true c.refused-then-out-lt-MAX_BYTES.ensures
 
-refused_requires_3 : tie.Need-refused-requires-3
-refused_requires_3 c κs = tt
+refused-requires-then-origins-lt-MAX_ARCS : tie.Need-refused-requires-then-origins-lt-MAX_ARCS
+refused-requires-then-origins-lt-MAX_ARCS c κs = tt
 
-returns_3 : tie.Need-returns-3
-returns_3 c =
-    says_short_origins c.before.before.before.before.refusal.ensures c.before.before.before.if1.false c.before.before.if2.false
-    c.before.if3.true c.refused3.ensures
+returns-then-origins-lt-MAX_ARCS : tie.Need-returns-then-origins-lt-MAX_ARCS
+returns-then-origins-lt-MAX_ARCS c =
+    says_short_origins c.before.before.before.before.refusal-number.ensures c.before.before.before.if-number-ne0.false c.before.before.if-out-lt-MAX_BYTES.false
+    c.before.if-origins-lt-MAX_ARCS.true c.refused-then-origins-lt-MAX_ARCS.ensures
 
-trim_into_requires : tie.Need-trim-into-requires
-trim_into_requires c κs = let at = c.before.before in (accepted at, at.before.if2.false, at.if3.false, λ e. never e)
+trim_into-len-requires : tie.Need-trim_into-len-requires
+trim_into-len-requires c κs = let at = c.before.before in (accepted at, at.before.if-out-lt-MAX_BYTES.false, at.if-origins-lt-MAX_ARCS.false, λ e. never e)
 
-cast_t12 : tie.Need-overflow-cast-t12
-cast_t12 c =
+overflow_cast-result : tie.Need-overflow_cast-result
+overflow_cast-result c =
     let done = c.before.before.before.before in
     let at = passed done in
     let first = tested at in
-    omega (arith, trims_short (entry first).args.table.now (is_bytes first) (accepted at) done.trim-into.ensures)
+    omega (arith, trims_short (entry first).args.table.now (is_bytes first) (accepted at) done.trim_into-len.ensures)
 
-same_length : tie.Need-same-length
-same_length c = search rules
+shape_of-out : tie.Need-shape_of-out
+shape_of-out c = search rules
 
-same_length_2 : tie.Need-same-length-2
-same_length_2 c = search rules
+shape_of-origins : tie.Need-shape_of-origins
+shape_of-origins c = search rules
 
-returns_4 : tie.Need-returns-4
-returns_4 c =
+returns : tie.Need-returns
+returns c =
     let done = c.before.before.before.before in
     let at = passed done in
-    says_trimmed (accepted at) at.before.if2.left at.if3.left done.trim-into.ensures
+    says_trimmed (accepted at) at.before.if-out-lt-MAX_BYTES.false at.if-origins-lt-MAX_ARCS.false done.trim_into-len.ensures
 
 pub trim_spec : {M : Type 1} → statement M
 trim_spec =
     tie.close
     (tie.spec
-    refusal_requires
-    refused_requires
-    returns
-    refused_requires_2
-    returns_2
-    refused_requires_3
-    returns_3
-    trim_into_requires
-    cast_t12
-    same_length
-    same_length_2
-    returns_4)
+    refusal-number-requires
+    refused-requires
+    returns-then-number-ne0
+    refused-requires-then-out-lt-MAX_BYTES
+    returns-then-out-lt-MAX_BYTES
+    refused-requires-then-origins-lt-MAX_ARCS
+    returns-then-origins-lt-MAX_ARCS
+    trim_into-len-requires
+    overflow_cast-result
+    shape_of-out
+    shape_of-origins
+    returns)
