@@ -8,7 +8,7 @@ pub use capped::{MOST, own};
 pub use marks::{all_marked, dead_unmarked, mark_dead};
 
 // A count of paths: 99 stands for 99 or more.
-#[derive(Drop)]
+#[derive(Clone, Copy)]
 pub struct Count {
     pub value: u8,
 }

@@ -24,7 +24,7 @@ use transducer::{
 const FEW_ARCS: usize = 128;
 
 // What an attempt to compose has come to: an answer, or that it is to be done again, with room for more finals.
-#[derive(Drop)]
+#[derive(Clone, Copy)]
 struct Attempt {
     written: Written,
     retry: bool,

@@ -91,7 +91,7 @@ pub fn store_new(
 
 // How far a walk has come: states met, arcs (3,073 stands for more than 3,072), a weight out of range, more than 1,024 states met. Each step copies
 // it, so the two flags are words, 0 or 1: bools would leave padding to copy.
-#[derive(Drop)]
+#[derive(Clone, Copy)]
 pub struct Walk {
     pub states: usize,
     pub arcs: usize,
@@ -100,7 +100,7 @@ pub struct Walk {
 }
 
 // The finals written, and whether one of their weights is out of range.
-#[derive(Drop)]
+#[derive(Clone, Copy)]
 pub struct FinalsPut {
     pub count: usize,
     pub overflow: bool,

@@ -10,7 +10,7 @@ ghost use Rattle.lookup.specs.Lookup.{TableAsks, LatticeAsks, LookupAsks, CountS
 use transducer::{MAX_ARCS, MAX_BYTES, MAX_PATH, MAX_STATES};
 
 // What a lookup answers: the refusal or 0, the number of accepting paths, 99 standing for 99 or more, and the least cost; both 0 on refusal.
-#[derive(Drop)]
+#[derive(Clone, Copy)]
 pub struct LookedUp {
     pub refusal: u32,
     pub count: u32,
@@ -18,7 +18,7 @@ pub struct LookedUp {
 }
 
 // What applying and counting answer: the refusal or 0, the number of accepting paths, and the number of bytes of the lattice; both 0 on refusal.
-#[derive(Drop)]
+#[derive(Clone, Copy)]
 pub struct StringCount {
     pub refusal: u32,
     pub count: u32,

@@ -14,28 +14,28 @@ pub use path::nth_arcs;
 use transducer::MAX_STATES;
 
 // What the path count answers: the refusal or 0, then the count, 0 on refusal.
-#[derive(Drop)]
+#[derive(Clone, Copy)]
 pub struct Counted {
     pub refusal: u32,
     pub count: u32,
 }
 
 // The counts that one pass over the arcs comes to, and whether the states are topologically sorted: else the counts say nothing.
-#[derive(Drop)]
+#[derive(Clone, Copy)]
 pub struct Pass {
     pub counts: [Count; MAX_STATES],
     pub sorted: bool,
 }
 
 // The count that such a pass comes to at the start, and the same.
-#[derive(Drop)]
+#[derive(Clone, Copy)]
 pub struct FromStart {
     pub count: Count,
     pub sorted: bool,
 }
 
 // The counts from each state, and whether accepting paths are infinitely many.
-#[derive(Drop)]
+#[derive(Clone, Copy)]
 pub struct Totals {
     pub counts: [Count; MAX_STATES],
     pub endless: bool,

@@ -10,7 +10,7 @@ ghost use Rattle.shortest.specs.Tight.{first_giving, first_tight, follow};
 use transducer::INDEX_LEN;
 
 // A cost to come and a size.
-#[derive(Drop)]
+#[derive(Clone, Copy)]
 struct Distance {
     cost: i32,
     size: u32,

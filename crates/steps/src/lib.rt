@@ -11,7 +11,7 @@ pub use lookup::{LABEL_BUCKETS, first_any, put_chains};
 pub use runs::{left_origin, next_run, only_label, right_origin, run_of, step_of};
 
 // The arcs that a step of the composition comes from: an arc of the left transducer alone, of the right one alone, or one of each.
-#[derive(Drop)]
+#[derive(Clone, Copy)]
 pub enum Origin {
     Left(u16),
     Right(u16),
@@ -19,7 +19,7 @@ pub enum Origin {
 }
 
 // A composed state: a left state, a right state and the filter state.
-#[derive(Drop)]
+#[derive(Clone, Copy)]
 pub struct State {
     pub left: u32,
     pub right: u32,
@@ -27,7 +27,7 @@ pub struct State {
 }
 
 // A step from a composed state; its target is a packed state.
-#[derive(Drop)]
+#[derive(Clone, Copy)]
 pub struct Step {
     pub origin: Origin,
     pub input: u16,
@@ -39,7 +39,7 @@ pub struct Step {
 // Steps that differ in their right arc alone: of one left arc alone, of one left arc with each right arc that fits `label`, or of the
 // right arcs alone that read nothing (then `left` is 65,535). The right part of `target` is where a left arc alone leads; a right arc leads
 // to its own target.
-#[derive(Drop)]
+#[derive(Clone, Copy)]
 pub struct Run {
     pub alone: bool,
     pub left: u16,
@@ -50,7 +50,7 @@ pub struct Run {
 }
 
 // Where the next run begins: at left arc `i`, or behind the last one, with right arc `j`.
-#[derive(Drop)]
+#[derive(Clone, Copy)]
 pub struct Begin {
     pub alone: bool,
     pub i: usize,

@@ -145,7 +145,7 @@ pub fn check_arcs(bytes: &[u8], at: usize, count: usize, n: u32, c: Checks, last
 // What the fast check of arcs tells: the source of the last, or UNSURE; a weight that none is below; and where `close` is set, `top_sorted` only where each
 // leads to a
 // higher state and `no_output_epsilon` only where each writes a label.
-#[derive(Drop)]
+#[derive(Clone, Copy)]
 pub struct FastCheck {
     pub last: u32,
     pub least: i32,
@@ -257,7 +257,7 @@ fn fields_at(bytes: &[u8], at: usize) -> u64
 
 // Where a run of arcs ends that pass each test but that of what is gathered, the source of the last, and their fields gathered: by `|`, which is never below
 // any of them, and by `&`, which is never above.
-#[derive(Drop)]
+#[derive(Clone, Copy)]
 struct Run {
     place: usize,
     last: u32,

@@ -45,7 +45,7 @@ pub struct Final {
 }
 
 // The tests that have passed so far: heads of records, 5 states, 6 order, 7 labels, 8 weights; and the least state that may come next.
-#[derive(Drop)]
+#[derive(Clone, Copy)]
 pub struct Checks {
     pub heads: bool,
     pub states: bool,
@@ -58,7 +58,7 @@ pub struct Checks {
 // What validating bytes tells: the refusal or 0, and where they are accepted a weight that none of the arcs is below; `top_sorted` only where each arc leads
 // to a
 // higher state, `no_output_epsilon` only where each writes a label, `no_any_input` only where none is for any symbol.
-#[derive(Drop)]
+#[derive(Clone, Copy)]
 pub struct Validation {
     pub refusal: u32,
     pub least: i32,
@@ -68,7 +68,7 @@ pub struct Validation {
 }
 
 // What reading answers: the refusal or 0, then the head's numbers, 0 on refusal.
-#[derive(Drop)]
+#[derive(Clone, Copy)]
 pub struct Header {
     pub refusal: u32,
     pub states: u32,
@@ -78,7 +78,7 @@ pub struct Header {
 }
 
 // What a call that writes bytes answers: the refusal or 0, then the number of bytes written, 0 on refusal.
-#[derive(Drop)]
+#[derive(Clone, Copy)]
 pub struct Written {
     pub refusal: u32,
     pub len: u32,

@@ -89,7 +89,7 @@ fn diagnose(bytes: &[u8]) -> u32
 // The tests of all records, and a weight that none of the arcs is below; `top_sorted` only where each arc leads to a higher state, `no_output_epsilon` only
 // where
 // each writes a label, `no_any_input` only where none is for any symbol.
-#[derive(Drop)]
+#[derive(Clone, Copy)]
 struct All {
     checks: Checks,
     least: i32,

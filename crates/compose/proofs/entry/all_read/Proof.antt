@@ -5,34 +5,43 @@ use native.Mathlib.Omega.{arith}
 use Rattle.compose.proofs.entry.all_read.Statement.{statement}
 use Rattle.compose.proofs.entry.all_read.Tie as tie
 
-abbrev invariant_loop : tie.invariant_loop
-invariant_loop bytes first arcs i₀ i = i ≤ arcs
+abbrev invariant-loop-i : tie.invariant-loop-i
+invariant-loop-i bytes first arcs i₀ i = i ≤ arcs
 
-abbrev decreases_loop : tie.decreases_loop
-decreases_loop bytes first arcs i₀ i = arcs - i
+abbrev decreases-loop-i : tie.decreases-loop-i
+decreases-loop-i bytes first arcs i₀ i = arcs - i
 
-loop_holds : tie.Need-loop-init invariant_loop decreases_loop
-loop_holds c = omega arith
+loop-i-init : tie.Need-loop-i-init invariant-loop-i decreases-loop-i
+loop-i-init c = omega arith
 
-arc_of_requires : tie.Need-arc-of-requires invariant_loop decreases_loop
-arc_of_requires c κs = search rules
+arc_of-a-requires : tie.Need-arc_of-a-requires invariant-loop-i decreases-loop-i
+arc_of-a-requires c κs = search rules
 
-add_i : tie.Need-overflow-add-i invariant_loop decreases_loop
-add_i c = search rules
+overflow_add-i : tie.Need-overflow_add-i invariant-loop-i decreases-loop-i
+overflow_add-i c = search rules
 
-returns : tie.Need-returns invariant_loop decreases_loop
+returns-then-a-eq0 : tie.Need-returns-then-a-eq0 invariant-loop-i decreases-loop-i
+returns-then-a-eq0 c = tt
+
+loop-i-smaller : tie.Need-loop-i-smaller invariant-loop-i decreases-loop-i
+loop-i-smaller c = search rules
+
+loop-i-preserved : tie.Need-loop-i-preserved invariant-loop-i decreases-loop-i
+loop-i-preserved c = search rules
+
+returns : tie.Need-returns invariant-loop-i decreases-loop-i
 returns c = tt
-
-loop_less : tie.Need-loop-smaller invariant_loop decreases_loop
-loop_less c = search rules
-
-loop_again : tie.Need-loop-preserved invariant_loop decreases_loop
-loop_again c = search rules
-
-returns_2 : tie.Need-returns-2 invariant_loop decreases_loop
-returns_2 c = tt
 
 pub all_read_spec : {M : Type 1} → statement M
 all_read_spec =
     tie.close
-    (tie.spec invariant_loop decreases_loop loop_holds arc_of_requires add_i returns loop_less loop_again returns_2)
+    (tie.spec
+    invariant-loop-i
+    decreases-loop-i
+    loop-i-init
+    arc_of-a-requires
+    overflow_add-i
+    returns-then-a-eq0
+    loop-i-smaller
+    loop-i-preserved
+    returns)

@@ -17,210 +17,210 @@ use Rattle.transducer.specs.Format.{weight_good}
 use Rattle.transducer.specs.Weight.{plus, weight_of}
 use Rattle.transducer.proofs.Weights.{plus_fits}
 
-abbrev invariant_loop : tie.invariant_loop
-invariant_loop lcodes rcodes states count table₀ finals₀ overflow₀ s₀ table finals overflow s =
+abbrev invariant-loop-s : tie.invariant-loop-s
+invariant-loop-s lcodes rcodes states count table₀ finals₀ overflow₀ s₀ table finals overflow s =
     Finishing (key_final lcodes rcodes) (key_weight lcodes rcodes) states count table₀ table finals overflow s
 
-abbrev decreases_loop : tie.decreases_loop
-decreases_loop lcodes rcodes states count table₀ finals₀ overflow₀ s₀ table finals overflow s = count - s
+abbrev decreases-loop-s : tie.decreases-loop-s
+decreases-loop-s lcodes rcodes states count table₀ finals₀ overflow₀ s₀ table finals overflow s = count - s
 
 -- The way back from a place to an earlier one.
-abbrev unpacking : tie.After-b invariant_loop decreases_loop → tie.After-unpack invariant_loop decreases_loop
-unpacking c = c.before.before.before.before
+abbrev unpacking : tie.After-b-1 invariant-loop-s decreases-loop-s → tie.After-unpack-x invariant-loop-s decreases-loop-s
+unpacking c = c.before.before.before.before.before.before
 
-abbrev right_final : tie.After-weight-ok invariant_loop decreases_loop → tie.Then2 invariant_loop decreases_loop
+abbrev right_final : tie.After-weight_ok invariant-loop-s decreases-loop-s → tie.Then-b-ne0 invariant-loop-s decreases-loop-s
 right_final c = c.before.before.before.before.before.before.before
 
-abbrev codes : tie.After-weight-ok invariant_loop decreases_loop → tie.After-b invariant_loop decreases_loop
+abbrev codes : tie.After-weight_ok invariant-loop-s decreases-loop-s → tie.After-b-1 invariant-loop-s decreases-loop-s
 codes c = (right_final c).before.before
 
-abbrev turn : tie.After-unpack invariant_loop decreases_loop → tie.At-loop invariant_loop decreases_loop
+abbrev turn : tie.After-unpack-x invariant-loop-s decreases-loop-s → tie.At-loop-s invariant-loop-s decreases-loop-s
 turn c = c.before.before.before
 
 -- The parts of the key are below 1,024.
-parts : (c : tie.After-unpack invariant_loop decreases_loop) → Bounded c.unpack.result
+parts : (c : tie.After-unpack-x invariant-loop-s decreases-loop-s) → Bounded c.unpack-x.result
 parts c =
     let h = turn c in
-    rw c.unpack.ensures (h.before.before.before.pre.keys h.loop.s c.before.before.loop-test.true)
+    rw c.unpack-x.ensures (h.before.before.before.requires.keys h.loop-s.s c.before.before.loop-s-test.true)
 
-loop_holds : tie.Need-loop-init invariant_loop decreases_loop
-loop_holds c =
+loop-s-init : tie.Need-loop-s-init invariant-loop-s decreases-loop-s
+loop-s-init c =
     let x = c.before.before.args in
     finishing_first (key_final x.lcodes.now x.rcodes.now) (key_weight x.lcodes.now x.rcodes.now) x.states.now x.count x.table.now
 
-cast_state : tie.Need-overflow-cast-state invariant_loop decreases_loop
-cast_state c = omega arith
+overflow_cast-state : tie.Need-overflow_cast-state invariant-loop-s decreases-loop-s
+overflow_cast-state c = omega arith
 
-mul_unpack : tie.Need-overflow-mul-unpack invariant_loop decreases_loop
-mul_unpack c = omega arith
+offset_bounds-states-s : tie.Need-offset_bounds-states-s invariant-loop-s decreases-loop-s
+offset_bounds-states-s c = omega arith
 
-shared_slice_read_unpack : tie.Need-shared-slice-read-unpack invariant_loop decreases_loop
-shared_slice_read_unpack c = omega arith
+bounds-states-s : tie.Need-bounds-states-s invariant-loop-s decreases-loop-s
+bounds-states-s c = omega arith
 
-unpack_requires : tie.Need-unpack-requires invariant_loop decreases_loop
-unpack_requires c κs = search rules
+unpack-x-requires : tie.Need-unpack-x-requires invariant-loop-s decreases-loop-s
+unpack-x-requires c κs = search rules
 
-cast_p : tie.Need-overflow-cast-p invariant_loop decreases_loop
-cast_p c = omega arith
+overflow_cast-p : tie.Need-overflow_cast-p invariant-loop-s decreases-loop-s
+overflow_cast-p c = omega arith
 
-cast_q : tie.Need-overflow-cast-q invariant_loop decreases_loop
-cast_q c = omega arith
+overflow_cast-q : tie.Need-overflow_cast-q invariant-loop-s decreases-loop-s
+overflow_cast-q c = omega arith
 
-mul_a : tie.Need-overflow-mul-a invariant_loop decreases_loop
-mul_a c = omega (arith, (parts c.before.before).left)
+offset_bounds-lcodes-p : tie.Need-offset_bounds-lcodes-p invariant-loop-s decreases-loop-s
+offset_bounds-lcodes-p c = omega (arith, (parts c.before.before).left)
 
-element_copy_out_a : tie.Need-element-copy-out-a invariant_loop decreases_loop
-element_copy_out_a c = (parts c.before.before).left
+bounds-lcodes-p : tie.Need-bounds-lcodes-p invariant-loop-s decreases-loop-s
+bounds-lcodes-p c = (parts c.before.before.before).left
 
-mul_b : tie.Need-overflow-mul-b invariant_loop decreases_loop
-mul_b c = omega (arith, (parts c.before.before.before).right)
+offset_bounds-rcodes-q : tie.Need-offset_bounds-rcodes-q invariant-loop-s decreases-loop-s
+offset_bounds-rcodes-q c = omega (arith, (parts c.before.before.before.before).right)
 
-element_copy_out_b : tie.Need-element-copy-out-b invariant_loop decreases_loop
-element_copy_out_b c = (parts c.before.before.before).right
+bounds-rcodes-q : tie.Need-bounds-rcodes-q invariant-loop-s decreases-loop-s
+bounds-rcodes-q c = (parts c.before.before.before.before.before).right
 
-add_s : tie.Need-overflow-add-s invariant_loop decreases_loop
-add_s c = omega arith
+overflow_add-s : tie.Need-overflow_add-s invariant-loop-s decreases-loop-s
+overflow_add-s c = omega arith
 
 -- Both codes are codes of good weights, and the sum of these is no-any in 32 bits.
-weight_of_requires : tie.Need-weight-of-requires invariant_loop decreases_loop
-weight_of_requires c κs =
+weight_of-requires : tie.Need-weight_of-requires invariant-loop-s decreases-loop-s
+weight_of-requires c κs =
     let here = unpacking c.before.before in
-    let x = here.unpack.result in
-    (omega (arith, c.before.if1.true), (turn here).before.before.before.pre.left x.left (parts here).left)
+    let x = here.unpack-x.result in
+    (omega (arith, c.before.if-a-ne0.true), (turn here).before.before.before.requires.left x.left (parts here).left)
 
-weight_of_requires_2 : tie.Need-weight-of-requires-2 invariant_loop decreases_loop
-weight_of_requires_2 c κs =
+weight_of-requires-then-b-ne0 : tie.Need-weight_of-requires-then-b-ne0 invariant-loop-s decreases-loop-s
+weight_of-requires-then-b-ne0 c κs =
     let here = unpacking c.before.before.before in
-    let x = here.unpack.result in
-    (omega (arith, c.before.if2.true), (turn here).before.before.before.pre.right x.right (parts here).right)
+    let x = here.unpack-x.result in
+    (omega (arith, c.before.if-b-ne0.true), (turn here).before.before.before.requires.right x.right (parts here).right)
 
-left_weight : (c : tie.After-weight-of2 invariant_loop decreases_loop) → SFits w32 c.before.weight_of.result
-left_weight c = record { sfits = c.before.weight_of.type-inv }
+left_weight : (c : tie.After-weight_of-then-b-ne0 invariant-loop-s decreases-loop-s) → SFits w32 c.before.weight_of.result
+left_weight c = record { sfits = c.before.weight_of.type_inv }
 
-right_weight : (c : tie.After-weight-of2 invariant_loop decreases_loop) → SFits w32 c.weight-of2.result
-right_weight c = record { sfits = c.weight-of2.type-inv }
+right_weight : (c : tie.After-weight_of-then-b-ne0 invariant-loop-s decreases-loop-s) → SFits w32 c.weight_of-then-b-ne0.result
+right_weight c = record { sfits = c.weight_of-then-b-ne0.type_inv }
 
-sum_fits : (c : tie.After-weight-of2 invariant_loop decreases_loop) → SFits w32 (plus c.before.weight_of.result c.weight-of2.result)
-sum_fits c = plus_fits c.before.weight_of.result c.weight-of2.result c.before.weight_of.ensures.1 c.weight-of2.ensures.1
+sum_fits : (c : tie.After-weight_of-then-b-ne0 invariant-loop-s decreases-loop-s) → SFits w32 (plus c.before.weight_of.result c.weight_of-then-b-ne0.result)
+sum_fits c = plus_fits c.before.weight_of.result c.weight_of-then-b-ne0.result c.before.weight_of.ensures.1 c.weight_of-then-b-ne0.ensures.1
 
-add_weight : tie.Need-overflow-add-weight invariant_loop decreases_loop
-add_weight c = rw (to_z-of_z (left_weight c), to_z-of_z (right_weight c)) (sum_fits c)
+overflow_add-weight : tie.Need-overflow_add-weight invariant-loop-s decreases-loop-s
+overflow_add-weight c = rw (to_z-of_z (left_weight c), to_z-of_z (right_weight c)) (sum_fits c)
 
-mul_put_final : tie.Need-overflow-mul-put-final invariant_loop decreases_loop
-mul_put_final c = omega arith
+overflow_mul-finals : tie.Need-overflow_mul-finals invariant-loop-s decreases-loop-s
+overflow_mul-finals c = omega arith
 
-add_put_final : tie.Need-overflow-add-put-final invariant_loop decreases_loop
-add_put_final c = omega arith
+overflow_add-finals : tie.Need-overflow_add-finals invariant-loop-s decreases-loop-s
+overflow_add-finals c = omega arith
 
-put_final_requires : tie.Need-put-final-requires invariant_loop decreases_loop
-put_final_requires c κs =
+put_final-requires : tie.Need-put_final-requires invariant-loop-s decreases-loop-s
+put_final-requires c κs =
     let h = turn (unpacking c.before.before.before.before.before) in
-    let pre = h.before.before.before.pre in
-    omega (arith, h.loop.inv.few, h.loop.inv.kept, pre.few, pre.room)
+    let pre = h.before.before.before.requires in
+    omega (arith, h.loop-s.invariant.few, h.loop-s.invariant.kept, pre.few, pre.room)
 
-weight_ok_requires : tie.Need-weight-ok-requires invariant_loop decreases_loop
-weight_ok_requires c κs = search rules
+weight_ok-requires : tie.Need-weight_ok-requires invariant-loop-s decreases-loop-s
+weight_ok-requires c κs = search rules
 
-add_finals : tie.Need-overflow-add-finals invariant_loop decreases_loop
-add_finals c =
+overflow_add-finals-then-b-ne0 : tie.Need-overflow_add-finals-then-b-ne0 invariant-loop-s decreases-loop-s
+overflow_add-finals-then-b-ne0 c =
     let h = turn (unpacking (codes c)) in
-    omega (arith, h.loop.inv.few, h.loop.inv.within, h.before.before.before.pre.few)
+    omega (arith, h.loop-s.invariant.few, h.loop-s.invariant.within, h.before.before.before.requires.few)
 
-loop_less : tie.Need-loop-smaller invariant_loop decreases_loop
-loop_less c = omega (arith, (unpacking (codes c)).before.before.loop-test.taken)
+loop-s-smaller-then-b-ne0 : tie.Need-loop-s-smaller-then-b-ne0 invariant-loop-s decreases-loop-s
+loop-s-smaller-then-b-ne0 c = omega (arith, (unpacking (codes c)).before.before.loop-s-test.true)
 
-loop_again : tie.Need-loop-preserved invariant_loop decreases_loop
-loop_again c =
+loop-s-preserved-then-b-ne0 : tie.Need-loop-s-preserved-then-b-ne0 invariant-loop-s decreases-loop-s
+loop-s-preserved-then-b-ne0 c =
     let here = unpacking (codes c) in
     let h = turn here in
     let start = h.before.before.before in
     let x = start.args in
-    let put = c.before.before.before.put-final in
+    let put = c.before.before.before.put_final in
     let ls = x.lcodes.now in
     let rs = x.rcodes.now in
-    let key = get_or x.states.now h.loop.s 0 in
-    let p = here.unpack.result in
+    let key = get_or x.states.now h.loop-s.s 0 in
+    let p = here.unpack-x.result in
     let both = c.before.before.before.before.before in
     let l = both.before.weight_of in
-    let r = both.weight-of2 in
+    let r = both.weight_of-then-b-ne0 in
     let weight : to_z w32 (of_z w32 (plus (to_z w32 (of_z w32 l.result)) (to_z w32 (of_z w32 r.result)))) ≡ plus l.result r.result =
     rw (to_z-of_z (left_weight both), to_z-of_z (right_weight both)) (to_z-of_z (sum_fits both)) in
     let value : plus l.result r.result ≡ plus (weight_of (get_or ls p.left 0)) (weight_of (get_or rs p.right 0)) =
     ap₂ plus l.ensures.0 r.ensures.0 in
-    finishing_more (key_final ls rs) (key_weight ls rs) x.states.now h.loop.inv here.before.before.loop-test.taken start.pre.stored _
-    (plus l.result r.result) c.weight-ok.result
-    (both_final ls rs key p here.unpack.ensures (right_final c).before.if1.true (right_final c).if2.true)
-    (value ∙ sym (both_weight ls rs key p here.unpack.ensures)) (rw weight at put.ensures) put.auto.0
-    (c.weight-ok.ensures ∙ ap weight_good weight)
+    finishing_more (key_final ls rs) (key_weight ls rs) x.states.now h.loop-s.invariant here.before.before.loop-s-test.true start.requires.stored _
+    (plus l.result r.result) c.weight_ok.result
+    (both_final ls rs key p here.unpack-x.ensures (right_final c).before.if-a-ne0.true (right_final c).if-b-ne0.true)
+    (value ∙ sym (both_weight ls rs key p here.unpack-x.ensures)) (rw weight at put.ensures) put.auto.out
+    (c.weight_ok.ensures ∙ ap weight_good weight)
 
-loop_less_2 : tie.Need-loop-smaller-2 invariant_loop decreases_loop
-loop_less_2 c = omega (arith, (unpacking c.before.before).before.before.loop-test.taken)
+loop-s-smaller-else-b-ne0 : tie.Need-loop-s-smaller-else-b-ne0 invariant-loop-s decreases-loop-s
+loop-s-smaller-else-b-ne0 c = omega (arith, (unpacking c.before.before).before.before.loop-s-test.true)
 
-loop_again_2 : tie.Need-loop-preserved-2 invariant_loop decreases_loop
-loop_again_2 c =
+loop-s-preserved-else-b-ne0 : tie.Need-loop-s-preserved-else-b-ne0 invariant-loop-s decreases-loop-s
+loop-s-preserved-else-b-ne0 c =
     let here = unpacking c.before.before in
     let h = turn here in
     let start = h.before.before.before in
     let x = start.args in
-    finishing_none (key_final x.lcodes.now x.rcodes.now) (key_weight x.lcodes.now x.rcodes.now) x.states.now h.loop.inv
-    here.before.before.loop-test.taken start.pre.stored
-    (right_not_final x.lcodes.now x.rcodes.now (get_or x.states.now h.loop.s 0) here.unpack.result here.unpack.ensures
-    c.before.if1.true c.if2.false)
+    finishing_none (key_final x.lcodes.now x.rcodes.now) (key_weight x.lcodes.now x.rcodes.now) x.states.now h.loop-s.invariant
+    here.before.before.loop-s-test.true start.requires.stored
+    (right_not_final x.lcodes.now x.rcodes.now (get_or x.states.now h.loop-s.s 0) here.unpack-x.result here.unpack-x.ensures
+    c.before.if-a-ne0.true c.if-b-ne0.false)
 
-loop_less_3 : tie.Need-loop-smaller-3 invariant_loop decreases_loop
-loop_less_3 c = omega (arith, (unpacking c.before).before.before.loop-test.taken)
+loop-s-smaller : tie.Need-loop-s-smaller invariant-loop-s decreases-loop-s
+loop-s-smaller c = omega (arith, (unpacking c.before).before.before.loop-s-test.true)
 
-loop_again_3 : tie.Need-loop-preserved-3 invariant_loop decreases_loop
-loop_again_3 c =
+loop-s-preserved : tie.Need-loop-s-preserved invariant-loop-s decreases-loop-s
+loop-s-preserved c =
     let here = unpacking c.before in
     let h = turn here in
     let start = h.before.before.before in
     let x = start.args in
-    finishing_none (key_final x.lcodes.now x.rcodes.now) (key_weight x.lcodes.now x.rcodes.now) x.states.now h.loop.inv
-    here.before.before.loop-test.taken start.pre.stored
-    (left_not_final x.lcodes.now x.rcodes.now (get_or x.states.now h.loop.s 0) here.unpack.result here.unpack.ensures c.if1.false)
+    finishing_none (key_final x.lcodes.now x.rcodes.now) (key_weight x.lcodes.now x.rcodes.now) x.states.now h.loop-s.invariant
+    here.before.before.loop-s-test.true start.requires.stored
+    (left_not_final x.lcodes.now x.rcodes.now (get_or x.states.now h.loop-s.s 0) here.unpack-x.result here.unpack-x.ensures c.if-a-ne0.false)
 
-same_length : tie.Need-same-length invariant_loop decreases_loop
-same_length c = c.before.loop.invariant.kept
+shape_of-table : tie.Need-shape_of-table invariant-loop-s decreases-loop-s
+shape_of-table c = c.before.loop-s.invariant.kept
 
-returns : tie.Need-returns invariant_loop decreases_loop
+returns : tie.Need-returns invariant-loop-s decreases-loop-s
 returns c =
     let h = c.before in
     let x = h.before.before.before.args in
-    finishing_stop (key_final x.lcodes.now x.rcodes.now) (key_weight x.lcodes.now x.rcodes.now) x.states.now h.loop.invariant
-    c.loop-test.false
+    finishing_stop (key_final x.lcodes.now x.rcodes.now) (key_weight x.lcodes.now x.rcodes.now) x.states.now h.loop-s.invariant
+    c.loop-s-test.false
 
 pub put_finals_spec : {M : Type 1} → statement M
 put_finals_spec =
     tie.close
     (tie.spec
-    invariant_loop
-    decreases_loop
-    loop_holds
-    cast_state
-    mul_unpack
-    shared_slice_read_unpack
-    unpack_requires
-    cast_p
-    cast_q
-    mul_a
-    element_copy_out_a
-    mul_b
-    element_copy_out_b
-    add_s
-    weight_of_requires
-    weight_of_requires_2
-    add_weight
-    mul_put_final
-    add_put_final
-    put_final_requires
-    weight_ok_requires
-    add_finals
-    loop_less
-    loop_again
-    loop_less_2
-    loop_again_2
-    loop_less_3
-    loop_again_3
-    same_length
+    invariant-loop-s
+    decreases-loop-s
+    loop-s-init
+    overflow_cast-state
+    offset_bounds-states-s
+    bounds-states-s
+    unpack-x-requires
+    overflow_cast-p
+    overflow_cast-q
+    offset_bounds-lcodes-p
+    bounds-lcodes-p
+    offset_bounds-rcodes-q
+    bounds-rcodes-q
+    overflow_add-s
+    weight_of-requires
+    weight_of-requires-then-b-ne0
+    overflow_add-weight
+    overflow_mul-finals
+    overflow_add-finals
+    put_final-requires
+    weight_ok-requires
+    overflow_add-finals-then-b-ne0
+    loop-s-smaller-then-b-ne0
+    loop-s-preserved-then-b-ne0
+    loop-s-smaller-else-b-ne0
+    loop-s-preserved-else-b-ne0
+    loop-s-smaller
+    loop-s-preserved
+    shape_of-table
     returns)

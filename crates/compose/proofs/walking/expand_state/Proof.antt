@@ -31,8 +31,8 @@ use Rattle.compose.proofs.WalkCode.{
 use Rattle.compose.proofs.walking.expand_state.Statement.{statement}
 use Rattle.compose.proofs.walking.expand_state.Tie as tie
 
-abbrev invariant_loop : tie.invariant_loop
-invariant_loop left lfirst lindex right rfirst rindex rheads chain again no_any source table₀ origins₀ states₀ heads₀ links₀ x p q from to last wild walk₀ i₀ only
+abbrev invariant-loop-i : tie.invariant-loop-i
+invariant-loop-i left lfirst lindex right rfirst rindex rheads chain again no_any source table₀ origins₀ states₀ heads₀ links₀ x p q from to last wild walk₀ i₀ only
     table origins states heads links walk i =
     ((b : Sofar) → Walked 2 b walk₀ table₀ origins₀ states₀ heads₀ links₀
     → Serving (decode left) (decode right) x source last (state_served (key_steps (decode left) (decode right)) source b) i walk table origins states
@@ -40,95 +40,95 @@ invariant_loop left lfirst lindex right rfirst rindex rheads chain again no_any 
     × Placed (decode left) (decode right) x i₀ last to × (length table ≡ length table₀) × (length origins ≡ length origins₀)
     × (length states ≡ length states₀)
 
-abbrev decreases_loop : tie.decreases_loop
-decreases_loop left lfirst lindex right rfirst rindex rheads chain again no_any source table₀ origins₀ states₀ heads₀ links₀ x p q from to last wild walk₀ i₀ only
+abbrev decreases-loop-i : tie.decreases-loop-i
+decreases-loop-i left lfirst lindex right rfirst rindex rheads chain again no_any source table₀ origins₀ states₀ heads₀ links₀ x p q from to last wild walk₀ i₀ only
     table origins states heads links walk i =
     last + 1 - i
 
 -- Places to look back to: the start, the state unpacked, the loop's head in a turn, the run made and its end, the run taken.
-abbrev start : tie.After-shared-slice-known2 invariant_loop decreases_loop → tie.Start invariant_loop decreases_loop
+abbrev start : tie.After-shared_slice_known-2-1 invariant-loop-i decreases-loop-i → tie.Start invariant-loop-i decreases-loop-i
 start c = c.before.before
 
-abbrev lent : tie.After-unpack invariant_loop decreases_loop → tie.After-shared-slice-known2 invariant_loop decreases_loop
+abbrev lent : tie.After-unpack-x invariant-loop-i decreases-loop-i → tie.After-shared_slice_known-2-1 invariant-loop-i decreases-loop-i
 lent c = c.before.before.before.before.before.before.before
 
-abbrev entry : tie.After-unpack invariant_loop decreases_loop → tie.Start invariant_loop decreases_loop
+abbrev entry : tie.After-unpack-x invariant-loop-i decreases-loop-i → tie.Start invariant-loop-i decreases-loop-i
 entry c = start (lent c)
 
-abbrev placing : tie.After-to invariant_loop decreases_loop → tie.After-unpack invariant_loop decreases_loop
-placing c = c.before.before.before.before
+abbrev placing : tie.After-to-1 invariant-loop-i decreases-loop-i → tie.After-unpack-x invariant-loop-i decreases-loop-i
+placing c = c.before.before.before.before.before
 
-abbrev unpacked : tie.After-first-any invariant_loop decreases_loop → tie.After-unpack invariant_loop decreases_loop
-unpacked c = placing c.before.before
+abbrev unpacked : tie.After-first_any-wild invariant-loop-i decreases-loop-i → tie.After-unpack-x invariant-loop-i decreases-loop-i
+unpacked c = placing c.before.before.before
 
-abbrev state : tie.At-loop invariant_loop decreases_loop → tie.After-unpack invariant_loop decreases_loop
+abbrev state : tie.At-loop-i invariant-loop-i decreases-loop-i → tie.After-unpack-x invariant-loop-i decreases-loop-i
 state c = unpacked c.before.before.before
 
-abbrev head : tie.After-next-run invariant_loop decreases_loop → tie.At-loop invariant_loop decreases_loop
+abbrev head : tie.After-next_run-at invariant-loop-i decreases-loop-i → tie.At-loop-i invariant-loop-i decreases-loop-i
 head c = c.before.before
 
-abbrev ending : tie.After-take-run-arg5 invariant_loop decreases_loop → tie.After-end-of invariant_loop decreases_loop
+abbrev ending : tie.After-take_run-arg-in-loop-i-4-1 invariant-loop-i decreases-loop-i → tie.After-end_of-end invariant-loop-i decreases-loop-i
 ending c = c.before.before.before.before.before
 
-abbrev ended : tie.After-take-run invariant_loop decreases_loop → tie.After-end-of invariant_loop decreases_loop
+abbrev ended : tie.After-take_run-walk invariant-loop-i decreases-loop-i → tie.After-end_of-end invariant-loop-i decreases-loop-i
 ended c = ending c.before
 
-abbrev made : tie.After-take-run invariant_loop decreases_loop → tie.After-run-of invariant_loop decreases_loop
+abbrev made : tie.After-take_run-walk invariant-loop-i decreases-loop-i → tie.After-run_of-r invariant-loop-i decreases-loop-i
 made c = (ended c).before
 
-abbrev taken : tie.After-struct-known3 invariant_loop decreases_loop → tie.After-take-run invariant_loop decreases_loop
+abbrev taken : tie.After-struct_known-in-loop-i-1 invariant-loop-i decreases-loop-i → tie.After-take_run-walk invariant-loop-i decreases-loop-i
 taken c = c.before.before.before.before.before.before.before
 
-abbrev turn : tie.After-take-run invariant_loop decreases_loop → tie.At-loop invariant_loop decreases_loop
+abbrev turn : tie.After-take_run-walk invariant-loop-i decreases-loop-i → tie.At-loop-i invariant-loop-i decreases-loop-i
 turn c = head (made c).before
 
 -- The state's parts, and where the arcs of each begin and end.
-abbrev both : tie.After-unpack invariant_loop decreases_loop → State
-both c = c.unpack.result
+abbrev both : tie.After-unpack-x invariant-loop-i decreases-loop-i → State
+both c = c.unpack-x.result
 
-abbrev first_of : tie.After-unpack invariant_loop decreases_loop → ℕ
+abbrev first_of : tie.After-unpack-x invariant-loop-i decreases-loop-i → ℕ
 first_of c = get_or (entry c).args.lindex.now (both c).left 0
 
-abbrev last_of : tie.After-unpack invariant_loop decreases_loop → ℕ
+abbrev last_of : tie.After-unpack-x invariant-loop-i decreases-loop-i → ℕ
 last_of c = get_or (entry c).args.lindex.now ((both c).left + 1) 0
 
-abbrev from_of : tie.After-unpack invariant_loop decreases_loop → ℕ
+abbrev from_of : tie.After-unpack-x invariant-loop-i decreases-loop-i → ℕ
 from_of c = get_or (entry c).args.rindex.now (both c).right 0
 
-abbrev to_of : tie.After-unpack invariant_loop decreases_loop → ℕ
+abbrev to_of : tie.After-unpack-x invariant-loop-i decreases-loop-i → ℕ
 to_of c = get_or (entry c).args.rindex.now ((both c).right + 1) 0
 
 -- Both transducers are good ones.
-left_good : (c : tie.After-shared-slice-known2 invariant_loop decreases_loop) → Good (decode (start c).args.left.now)
+left_good : (c : tie.After-shared_slice_known-2-1 invariant-loop-i decreases-loop-i) → Good (decode (start c).args.left.now)
 left_good c =
-    accepted_good (start c).args.left.now (λ i. omega (arith, c.before.shared-slice-known.given i)) (start c).requires.0.0.both.left_open.accepted
+    accepted_good (start c).args.left.now (λ i. omega (arith, c.before.shared_slice_known-1.given i)) (start c).requires.0.0.both.left_open.accepted
 
-right_good : (c : tie.After-shared-slice-known2 invariant_loop decreases_loop) → Good (decode (start c).args.right.now)
+right_good : (c : tie.After-shared_slice_known-2-1 invariant-loop-i decreases-loop-i) → Good (decode (start c).args.right.now)
 right_good c =
-    accepted_good (start c).args.right.now (λ i. omega (arith, c.shared-slice-known2.given i)) (start c).requires.0.0.both.right_open.accepted
+    accepted_good (start c).args.right.now (λ i. omega (arith, c.shared_slice_known-2-1.given i)) (start c).requires.0.0.both.right_open.accepted
 
 -- The state's number is that of a stored one.
-source_lt : (c : tie.After-shared-slice-known2 invariant_loop decreases_loop) → (start c).args.source < max_states
+source_lt : (c : tie.After-shared_slice_known-2-1 invariant-loop-i decreases-loop-i) → (start c).args.source < max_states
 source_lt c = let k = (start c).requires.1.1.1 in omega (arith, (start c).requires.0.1, k.states_are, k.chained.few)
 
-mul_unpack : tie.Need-overflow-mul-unpack invariant_loop decreases_loop
-mul_unpack c = omega (arith, source_lt c.before.before.before.before.before)
+offset_bounds-states-source : tie.Need-offset_bounds-states-source invariant-loop-i decreases-loop-i
+offset_bounds-states-source c = omega (arith, source_lt c.before.before.before.before.before)
 
-slice_read_unpack : tie.Need-slice-read-unpack invariant_loop decreases_loop
-slice_read_unpack c =
+bounds-states-source : tie.Need-bounds-states-source invariant-loop-i decreases-loop-i
+bounds-states-source c =
     let k = c.before.before.before.before.before.before in
     omega (arith, source_lt k, (start k).requires.1.1.1.chained.room)
 
-unpack_requires : tie.Need-unpack-requires invariant_loop decreases_loop
-unpack_requires c κs = search rules
+unpack-x-requires : tie.Need-unpack-x-requires invariant-loop-i decreases-loop-i
+unpack-x-requires c κs = search rules
 
 -- The parts of the state are states of the two transducers.
-inside : (c : tie.After-unpack invariant_loop decreases_loop) → InBoth (decode (entry c).args.left.now) (decode (entry c).args.right.now) (both c)
+inside : (c : tie.After-unpack-x invariant-loop-i decreases-loop-i) → InBoth (decode (entry c).args.left.now) (decode (entry c).args.right.now) (both c)
 inside c =
     let a = (entry c).args in
-    subst (λ (y : State). InBoth (decode a.left.now) (decode a.right.now) y) (sym c.unpack.ensures) (entry c).requires.1.0
+    subst (λ (y : State). InBoth (decode a.left.now) (decode a.right.now) y) (sym c.unpack-x.ensures) (entry c).requires.1.0
 
-parts : (c : tie.After-unpack invariant_loop decreases_loop) → ((both c).left < max_states) × ((both c).right < max_states)
+parts : (c : tie.After-unpack-x invariant-loop-i decreases-loop-i) → ((both c).left < max_states) × ((both c).right < max_states)
 parts c =
     let a = (entry c).args in
     let i = inside c in
@@ -137,7 +137,7 @@ parts c =
     (omega (arith, i.left_in, m), omega (arith, i.right_in, n))
 
 -- The bounds of the arcs of the state's parts.
-bounds : (c : tie.After-unpack invariant_loop decreases_loop)
+bounds : (c : tie.After-unpack-x invariant-loop-i decreases-loop-i)
     → Placed (decode (entry c).args.left.now) (decode (entry c).args.right.now) (both c) (first_of c) (last_of c) (to_of c)
 bounds c =
     let a = (entry c).args in
@@ -145,274 +145,274 @@ bounds c =
     placed (decode a.left.now) (decode a.right.now) (both c) a.lindex.now a.rindex.now walkable.both.left_index
     walkable.both.right_index (inside c)
 
-left_most : (c : tie.After-unpack invariant_loop decreases_loop) → (first_of c ≤ max_arcs) × (last_of c ≤ max_arcs)
+left_most : (c : tie.After-unpack-x invariant-loop-i decreases-loop-i) → (first_of c ≤ max_arcs) × (last_of c ≤ max_arcs)
 left_most c =
     let p = placed_left (bounds c) in
     let m = (good_range (decode (entry c).args.left.now) (left_good (lent c))).arcs in
     (omega (arith, p.0, p.1, m), omega (arith, p.1, m))
 
-right_most : (c : tie.After-unpack invariant_loop decreases_loop) → to_of c ≤ max_arcs
+right_most : (c : tie.After-unpack-x invariant-loop-i decreases-loop-i) → to_of c ≤ max_arcs
 right_most c = omega (arith, placed_right (bounds c), (good_range (decode (entry c).args.right.now) (right_good (lent c))).arcs)
 
-from_is : (c : tie.After-unpack invariant_loop decreases_loop) → from_of c ≡ right_from (decode (entry c).args.right.now) (both c)
+from_is : (c : tie.After-unpack-x invariant-loop-i decreases-loop-i) → from_of c ≡ right_from (decode (entry c).args.right.now) (both c)
 from_is c = (entry c).requires.0.0.both.right_index.at_state (both c).right (omega (arith, (inside c).right_in))
 
 -- The arcs of the right one.
-leaving : (c : tie.After-unpack invariant_loop decreases_loop) → Leaving (decode (entry c).args.right.now) (both c).right (from_of c) (to_of c)
+leaving : (c : tie.After-unpack-x invariant-loop-i decreases-loop-i) → Leaving (decode (entry c).args.right.now) (both c).right (from_of c) (to_of c)
 leaving c =
     subst (λ (n : ℕ). Leaving (decode (entry c).args.right.now) (both c).right n (to_of c)) (sym (from_is c))
     (placed_leaving (bounds c) (right_good (lent c)))
 
-cast_p : tie.Need-overflow-cast-p invariant_loop decreases_loop
-cast_p c = omega (arith, (parts c.before).0)
+overflow_cast-p : tie.Need-overflow_cast-p invariant-loop-i decreases-loop-i
+overflow_cast-p c = omega (arith, (parts c.before).0)
 
-cast_q : tie.Need-overflow-cast-q invariant_loop decreases_loop
-cast_q c = omega (arith, (parts c.before.before).1)
+overflow_cast-q : tie.Need-overflow_cast-q invariant-loop-i decreases-loop-i
+overflow_cast-q c = omega (arith, (parts c.before.before).1)
 
-mul_from : tie.Need-overflow-mul-from invariant_loop decreases_loop
-mul_from c = omega (arith, (parts c.before.before).1)
+offset_bounds-rindex-q : tie.Need-offset_bounds-rindex-q invariant-loop-i decreases-loop-i
+offset_bounds-rindex-q c = omega (arith, (parts c.before.before).1)
 
-element_copy_out_from : tie.Need-element-copy-out-from invariant_loop decreases_loop
-element_copy_out_from c = omega (arith, (parts c.before.before).1)
+bounds-rindex-q : tie.Need-bounds-rindex-q invariant-loop-i decreases-loop-i
+bounds-rindex-q c = omega (arith, (parts c.before.before.before).1)
 
-cast_from : tie.Need-overflow-cast-from invariant_loop decreases_loop
-cast_from c =
+overflow_cast-from : tie.Need-overflow_cast-from invariant-loop-i decreases-loop-i
+overflow_cast-from c =
     let k = c.before.before.before in
-    omega (arith, (leaving k).rest.order, right_most k)
+    omega (arith, (leaving k.before).rest.order, right_most k.before)
 
-add_to : tie.Need-overflow-add-to invariant_loop decreases_loop
-add_to c = omega (arith, (parts c.before.before.before).1)
+overflow_add-to : tie.Need-overflow_add-to invariant-loop-i decreases-loop-i
+overflow_add-to c = omega (arith, (parts c.before.before.before.before).1)
 
-mul_to : tie.Need-overflow-mul-to invariant_loop decreases_loop
-mul_to c = omega (arith, (parts c.before.before.before).1)
+offset_bounds-rindex-q-2 : tie.Need-offset_bounds-rindex-q-2 invariant-loop-i decreases-loop-i
+offset_bounds-rindex-q-2 c = omega (arith, (parts c.before.before.before.before).1)
 
-element_copy_out_to : tie.Need-element-copy-out-to invariant_loop decreases_loop
-element_copy_out_to c = omega (arith, (parts c.before.before.before).1)
+bounds-rindex-q-2 : tie.Need-bounds-rindex-q-2 invariant-loop-i decreases-loop-i
+bounds-rindex-q-2 c = omega (arith, (parts c.before.before.before.before).1)
 
-cast_to : tie.Need-overflow-cast-to invariant_loop decreases_loop
-cast_to c = omega (arith, right_most (placing c))
+overflow_cast-to : tie.Need-overflow_cast-to invariant-loop-i decreases-loop-i
+overflow_cast-to c = omega (arith, right_most (placing c))
 
-add_last : tie.Need-overflow-add-last invariant_loop decreases_loop
-add_last c = omega (arith, (parts (placing c)).0)
+overflow_add-last : tie.Need-overflow_add-last invariant-loop-i decreases-loop-i
+overflow_add-last c = omega (arith, (parts (placing c)).0)
 
-mul_last : tie.Need-overflow-mul-last invariant_loop decreases_loop
-mul_last c = omega (arith, (parts (placing c)).0)
+offset_bounds-lindex-p : tie.Need-offset_bounds-lindex-p invariant-loop-i decreases-loop-i
+offset_bounds-lindex-p c = omega (arith, (parts (placing c)).0)
 
-element_copy_out_last : tie.Need-element-copy-out-last invariant_loop decreases_loop
-element_copy_out_last c = omega (arith, (parts (placing c)).0)
+bounds-lindex-p : tie.Need-bounds-lindex-p invariant-loop-i decreases-loop-i
+bounds-lindex-p c = omega (arith, (parts (placing c.before)).0)
 
-cast_last : tie.Need-overflow-cast-last invariant_loop decreases_loop
-cast_last c = omega (arith, (left_most (placing c.before)).1)
+overflow_cast-last : tie.Need-overflow_cast-last invariant-loop-i decreases-loop-i
+overflow_cast-last c = omega (arith, (left_most (placing c.before.before)).1)
 
-cast_first_any : tie.Need-overflow-cast-first-any invariant_loop decreases_loop
-cast_first_any c = omega (arith, (parts (placing c.before)).1)
+overflow_cast-q-2 : tie.Need-overflow_cast-q-2 invariant-loop-i decreases-loop-i
+overflow_cast-q-2 c = omega (arith, (parts (placing c.before.before)).1)
 
-first_any_requires : tie.Need-first-any-requires invariant_loop decreases_loop
-first_any_requires c κs =
-    let walkable = (entry (placing c.before)).pre.0.0 in
+first_any-wild-requires : tie.Need-first_any-wild-requires invariant-loop-i decreases-loop-i
+first_any-wild-requires c κs =
+    let walkable = (entry (placing c.before.before)).requires.0.0 in
     (walkable.both.right_open, walkable.right_lookup.headed, walkable.right_lookup.chained, walkable.both.right_no_any)
 
-mul_i : tie.Need-overflow-mul-i invariant_loop decreases_loop
-mul_i c = omega (arith, (parts (unpacked c)).0)
+offset_bounds-lindex-p-2 : tie.Need-offset_bounds-lindex-p-2 invariant-loop-i decreases-loop-i
+offset_bounds-lindex-p-2 c = omega (arith, (parts (unpacked c)).0)
 
-element_copy_out_i : tie.Need-element-copy-out-i invariant_loop decreases_loop
-element_copy_out_i c = omega (arith, (parts (unpacked c)).0)
+bounds-lindex-p-2 : tie.Need-bounds-lindex-p-2 invariant-loop-i decreases-loop-i
+bounds-lindex-p-2 c = omega (arith, (parts (unpacked c)).0)
 
-cast_i : tie.Need-overflow-cast-i invariant_loop decreases_loop
-cast_i c = omega (arith, (left_most (unpacked c.before)).0)
+overflow_cast-i : tie.Need-overflow_cast-i invariant-loop-i decreases-loop-i
+overflow_cast-i c = omega (arith, (left_most (unpacked c.before)).0)
 
-only_label_requires : tie.Need-only-label-requires invariant_loop decreases_loop
-only_label_requires c κs =
+only_label-only-requires : tie.Need-only_label-only-requires invariant-loop-i decreases-loop-i
+only_label-only-requires c κs =
     let k = unpacked c.before in
     let p = bounds k in (
-      (entry k).pre.0.0.both.right_open,
+      (entry k).requires.0.0.both.right_open,
       (leaving k).rest.order,
       placed_right p,
       (placed_left p).0,
       (left_most k).1,
     )
 
-loop_holds : tie.Need-loop-init invariant_loop decreases_loop
-loop_holds c =
+loop-i-init : tie.Need-loop-i-init invariant-loop-i decreases-loop-i
+loop-i-init c =
     let k = unpacked c.before.before in
     let a = (entry k).args in
     let p = bounds k in (
       λ b was.
           serving_first (decode a.left.now) (decode a.right.now) (both k) a.source (first_of k) (last_of k) (to_of k) b a.w a.table.now
-          a.origins.now a.states.now a.heads.now a.links.now (left_good (lent k)) (right_good (lent k)) (entry k).pre.0.1
-          k.unpack.ensures p was,
+          a.origins.now a.states.now a.heads.now a.links.now (left_good (lent k)) (right_good (lent k)) (entry k).requires.0.1
+          k.unpack-x.ensures p was,
       p,
       refl,
       refl,
       refl,
     )
 
-cast_next_run : tie.Need-overflow-cast-next-run invariant_loop decreases_loop
-cast_next_run c = omega (arith, (parts (state c.before)).1)
+overflow_cast-q-in-loop-i : tie.Need-overflow_cast-q-in-loop-i invariant-loop-i decreases-loop-i
+overflow_cast-q-in-loop-i c = omega (arith, (parts (state c.before)).1)
 
-next_run_requires : tie.Need-next-run-requires invariant_loop decreases_loop
-next_run_requires c κs =
-    let walkable = (entry (state c.before)).pre.0.0 in (
-      (walkable.both.left_open, c.loop-test.true, (placed_left c.before.loop.invariant.1).1),
+next_run-at-requires : tie.Need-next_run-at-requires invariant-loop-i decreases-loop-i
+next_run-at-requires c κs =
+    let walkable = (entry (state c.before)).requires.0.0 in (
+      (walkable.both.left_open, c.loop-i-test.true, (placed_left c.before.loop-i.invariant.1).1),
       (walkable.both.right_open, walkable.right_lookup.headed, walkable.right_lookup.chained),
     )
 
 -- The run that begins at the place that `next_run` gave is the next one.
-begins : (c : tie.After-next-run invariant_loop decreases_loop) (r : Run)
-    → r ≡ run_at (decode (entry (state (head c))).args.left.now) (last_of (state (head c))) (both (state (head c))) c.next-run.result
+begins : (c : tie.After-next_run-at invariant-loop-i decreases-loop-i) (r : Run)
+    → r ≡ run_at (decode (entry (state (head c))).args.left.now) (last_of (state (head c))) (both (state (head c))) c.next_run-at.result
     → RunHere (decode (entry (state (head c))).args.left.now) (decode (entry (state (head c))).args.right.now) (both (state (head c)))
-    (head c).loop.i (last_of (state (head c))) (to_of (state (head c))) c.next-run.result r
+    (head c).loop-i.i (last_of (state (head c))) (to_of (state (head c))) c.next_run-at.result r
 begins c r r_is =
     let k = state (head c) in
     let a = (entry k).args in
     let p = bounds k in
     let u = decode a.right.now in
-    let wild_is = (head c).before.before.before.first_any.ensures (from_of k) (leaving k) in
-    let begun = c.next-run.ensures (from_of k) (leaving k) wild_is ((head c).before.only-label.ensures (both k).right (leaving k) wild_is) in
-    next_run_here (decode a.left.now) u (both k) (head c).loop.i (last_of k) (to_of k) c.next-run.result r (left_good (lent k))
-    (right_good (lent k)) p.inside p.to_is c.before.loop-test.true (placed_left p).1
-    (subst (λ (n : ℕ). c.next-run.result
-    ≡ begin_from (decode a.left.now) u (both k).filter n (to_of k - n) (last_of k - (head c).loop.i) (head c).loop.i) (from_is k) begun)
+    let wild_is = (head c).before.before.before.first_any-wild.ensures (from_of k) (leaving k) in
+    let begun = c.next_run-at.ensures (from_of k) (leaving k) wild_is ((head c).before.only_label-only.ensures (both k).right (leaving k) wild_is) in
+    next_run_here (decode a.left.now) u (both k) (head c).loop-i.i (last_of k) (to_of k) c.next_run-at.result r (left_good (lent k))
+    (right_good (lent k)) p.inside p.to_is c.before.loop-i-test.true (placed_left p).1
+    (subst (λ (n : ℕ). c.next_run-at.result
+    ≡ begin_from (decode a.left.now) u (both k).filter n (to_of k - n) (last_of k - (head c).loop-i.i) (head c).loop-i.i) (from_is k) begun)
     r_is
 
-run_of_requires : tie.Need-run-of-requires invariant_loop decreases_loop
-run_of_requires c κs =
+run_of-r-requires : tie.Need-run_of-r-requires invariant-loop-i decreases-loop-i
+run_of-r-requires c κs =
     let k = state (head c) in
-    let here = begins c (run_at (decode (entry k).args.left.now) (last_of k) (both k) c.next-run.result) refl in
-    ((entry k).pre.0.0.both.left_open, here.at_most, here.alone_before, (placed_left (bounds k)).1)
+    let here = begins c (run_at (decode (entry k).args.left.now) (last_of k) (both k) c.next_run-at.result) refl in
+    ((entry k).requires.0.0.both.left_open, here.at_most, here.alone_before, (placed_left (bounds k)).1)
 
-end_of_requires : tie.Need-end-of-requires invariant_loop decreases_loop
-end_of_requires c κs = search rules
+end_of-end-requires : tie.Need-end_of-end-requires invariant-loop-i decreases-loop-i
+end_of-end-requires c κs = search rules
 
-cast_take_run : tie.Need-overflow-cast-take-run invariant_loop decreases_loop
-cast_take_run c = omega (arith, source_lt (lent (state (head c.before.before))))
+overflow_cast-source : tie.Need-overflow_cast-source invariant-loop-i decreases-loop-i
+overflow_cast-source c = omega (arith, source_lt (lent (state (head c.before.before))))
 
 -- The run taken in this turn.
-here : (c : tie.After-run-of invariant_loop decreases_loop)
+here : (c : tie.After-run_of-r invariant-loop-i decreases-loop-i)
     → RunHere (decode (entry (state (head c.before))).args.left.now) (decode (entry (state (head c.before))).args.right.now)
-    (both (state (head c.before))) (head c.before).loop.i (last_of (state (head c.before))) (to_of (state (head c.before)))
-    c.before.next-run.result c.run_of.result
-here c = begins c.before c.run_of.result c.run_of.ensures
+    (both (state (head c.before))) (head c.before).loop-i.i (last_of (state (head c.before))) (to_of (state (head c.before)))
+    c.before.next_run-at.result c.run_of-r.result
+here c = begins c.before c.run_of-r.result c.run_of-r.ensures
 
-take_run_requires : tie.Need-take-run-requires invariant_loop decreases_loop
-take_run_requires c κs =
+take_run-walk-requires : tie.Need-take_run-walk-requires invariant-loop-i decreases-loop-i
+take_run-walk-requires c κs =
     let ended = ending c in
     let t = head ended.before.before in
-    let pre = (entry (state t)).pre in
-    let g = t.loop.inv.0 pre.1.1.0 pre.1.1.1 in (
-      (pre.0.0.both.right_open, pre.0.0.right_lookup.repeated, rw ended.end_of_lem.ensures (here ended.before).ready),
+    let pre = (entry (state t)).requires in
+    let g = t.loop-i.invariant.0 pre.1.1.0 pre.1.1.1 in (
+      (pre.0.0.both.right_open, pre.0.0.right_lookup.repeated, rw ended.end_of-end.ensures (here ended.before).ready),
       (g.taking.sofar, g.taking.walked),
     )
 
 -- What `take_run` leaves, with the run's end written out.
-went : (c : tie.After-take-run invariant_loop decreases_loop) (b : Sofar)
-    → Walked 2 b (turn c).loop.walk (turn c).loop.table (turn c).loop.origins (turn c).loop.states (turn c).loop.heads (turn c).loop.links
+went : (c : tie.After-take_run-walk invariant-loop-i decreases-loop-i) (b : Sofar)
+    → Walked 2 b (turn c).loop-i.walk (turn c).loop-i.table (turn c).loop-i.origins (turn c).loop-i.states (turn c).loop-i.heads (turn c).loop-i.links
     → Went 2 (all_taken (entry (state (turn c))).args.source
-    (run_left (decode (entry (state (turn c))).args.right.now) (made c).run_of.result
-    (cond (made c).before.next-run.result.alone 1 (to_of (state (turn c)))) (made c).before.next-run.result.j) b)
-    c.take-run.result c.take-run.new.1.1.1.1.1.1.1.1.0 c.take-run.new.1.1.1.1.1.1.1.1.1.0
-    c.take-run.new.1.1.1.1.1.1.1.1.1.1.0 c.take-run.new.1.1.1.1.1.1.1.1.1.1.1.0
-    c.take-run.new.1.1.1.1.1.1.1.1.1.1.1.1.0
-went c b k = rw (← (ended c).end_of_lem.ensures) (c.take-run.ensures b k)
+    (run_left (decode (entry (state (turn c))).args.right.now) (made c).run_of-r.result
+    (cond (made c).before.next_run-at.result.alone 1 (to_of (state (turn c)))) (made c).before.next_run-at.result.j) b)
+    c.take_run-walk.result c.take_run-walk.new.table c.take_run-walk.new.origins
+    c.take_run-walk.new.states c.take_run-walk.new.heads
+    c.take_run-walk.new.links
+went c b k = rw (← (ended c).end_of-end.ensures) (c.take_run-walk.ensures b k)
 
-same_length : tie.Need-same-length invariant_loop decreases_loop
-same_length c = let k = taken c.before in k.take-run.kept.1.1.1.1.1.1.1.1.0 ∙ (turn k).loop.inv.2
+shape_of-table-then-walk-ne0 : tie.Need-shape_of-table-then-walk-ne0 invariant-loop-i decreases-loop-i
+shape_of-table-then-walk-ne0 c = let k = taken c.before in k.take_run-walk.auto.table ∙ (turn k).loop-i.invariant.2
 
-same_length_2 : tie.Need-same-length-2 invariant_loop decreases_loop
-same_length_2 c = let k = taken c.before in k.take-run.kept.1.1.1.1.1.1.1.1.1.0 ∙ (turn k).loop.inv.3
+shape_of-origins-then-walk-ne0 : tie.Need-shape_of-origins-then-walk-ne0 invariant-loop-i decreases-loop-i
+shape_of-origins-then-walk-ne0 c = let k = taken c.before in k.take_run-walk.auto.origins ∙ (turn k).loop-i.invariant.3
 
-same_length_3 : tie.Need-same-length-3 invariant_loop decreases_loop
-same_length_3 c = let k = taken c.before in k.take-run.kept.1.1.1.1.1.1.1.1.1.1.0 ∙ (turn k).loop.inv.4
+shape_of-states-then-walk-ne0 : tie.Need-shape_of-states-then-walk-ne0 invariant-loop-i decreases-loop-i
+shape_of-states-then-walk-ne0 c = let k = taken c.before in k.take_run-walk.auto.states ∙ (turn k).loop-i.invariant.4
 
-returns : tie.Need-returns invariant_loop decreases_loop
-returns c = λ b was.
+returns-then-walk-ne0 : tie.Need-returns-then-walk-ne0 invariant-loop-i decreases-loop-i
+returns-then-walk-ne0 c = λ b was.
     let k = taken c.before in
-    let g = (turn k).loop.inv.0 b was in
-    let out = k.take-run.last.1.1.1.1.1.1.1.1 in
-    serving_full g (made k).before.before.loop-test.taken (here (made k)) k.take-run.result out.0 out.1.0 out.1.1.0
-    out.1.1.1.0 out.1.1.1.1.0 (went k g.taking.sofar g.taking.walked) c.if1.true
+    let g = (turn k).loop-i.invariant.0 b was in
+    let out = k.take_run-walk.new in
+    serving_full g (made k).before.before.loop-i-test.true (here (made k)) k.take_run-walk.result out.table out.origins out.states
+    out.heads out.links (went k g.taking.sofar g.taking.walked) c.if-walk-ne0.true
 
 -- The run taken, once it is known that the walk is not full.
-abbrev passed : tie.After-struct-known4 invariant_loop decreases_loop → tie.After-take-run invariant_loop decreases_loop
+abbrev passed : tie.After-struct_known-in-loop-i-2-1 invariant-loop-i decreases-loop-i → tie.After-take_run-walk invariant-loop-i decreases-loop-i
 passed c = taken c.before.before
 
-add_i : tie.Need-overflow-add-i invariant_loop decreases_loop
-add_i c = let k = passed c in omega (arith, (here (made k)).at_most, (left_most (state (turn k))).1)
+overflow_add-i : tie.Need-overflow_add-i invariant-loop-i decreases-loop-i
+overflow_add-i c = let k = passed c in omega (arith, (here (made k)).at_most, (left_most (state (turn k))).1)
 
-loop_less : tie.Need-loop-smaller invariant_loop decreases_loop
-loop_less c = let k = passed c in omega (arith, (here (made k)).at_least, (here (made k)).at_most, (made k).before.before.loop-test.taken)
+loop-i-smaller : tie.Need-loop-i-smaller invariant-loop-i decreases-loop-i
+loop-i-smaller c = let k = passed c in omega (arith, (here (made k)).at_least, (here (made k)).at_most, (made k).before.before.loop-i-test.true)
 
-loop_again : tie.Need-loop-preserved invariant_loop decreases_loop
-loop_again c =
+loop-i-preserved : tie.Need-loop-i-preserved invariant-loop-i decreases-loop-i
+loop-i-preserved c =
     let k = passed c in
-    let t = (turn k).loop in
-    let out = k.take-run.last.1.1.1.1.1.1.1.1 in
-    let kept = k.take-run.kept.1.1.1.1.1.1.1.1 in (
+    let t = (turn k).loop-i in
+    let out = k.take_run-walk.new in
+    let kept = k.take_run-walk.auto in (
       λ b was.
-          let g = t.inv.0 b was in
-          serving_next g (made k).before.before.loop-test.taken (here (made k)) k.take-run.result out.0 out.1.0 out.1.1.0
-          out.1.1.1.0 out.1.1.1.1.0 (went k g.taking.sofar g.taking.walked) c.before.if1.false,
-      t.inv.1,
-      kept.0 ∙ t.inv.2,
-      kept.1.0 ∙ t.inv.3,
-      kept.1.1.0 ∙ t.inv.4,
+          let g = t.invariant.0 b was in
+          serving_next g (made k).before.before.loop-i-test.true (here (made k)) k.take_run-walk.result out.table out.origins out.states
+          out.heads out.links (went k g.taking.sofar g.taking.walked) c.before.if-walk-ne0.false,
+      t.invariant.1,
+      kept.table ∙ t.invariant.2,
+      kept.origins ∙ t.invariant.3,
+      kept.states ∙ t.invariant.4,
     )
 
-same_length_4 : tie.Need-same-length-4 invariant_loop decreases_loop
-same_length_4 c = c.before.loop.invariant.2
+shape_of-table : tie.Need-shape_of-table invariant-loop-i decreases-loop-i
+shape_of-table c = c.before.loop-i.invariant.2
 
-same_length_5 : tie.Need-same-length-5 invariant_loop decreases_loop
-same_length_5 c = c.before.loop.invariant.3
+shape_of-origins : tie.Need-shape_of-origins invariant-loop-i decreases-loop-i
+shape_of-origins c = c.before.loop-i.invariant.3
 
-same_length_6 : tie.Need-same-length-6 invariant_loop decreases_loop
-same_length_6 c = c.before.loop.invariant.4
+shape_of-states : tie.Need-shape_of-states invariant-loop-i decreases-loop-i
+shape_of-states c = c.before.loop-i.invariant.4
 
-returns_2 : tie.Need-returns-2 invariant_loop decreases_loop
-returns_2 c = λ b k. serving_stop (c.before.loop.invariant.0 b k) c.loop-test.false
+returns : tie.Need-returns invariant-loop-i decreases-loop-i
+returns c = λ b k. serving_stop (c.before.loop-i.invariant.0 b k) c.loop-i-test.false
 
 pub expand_state_spec : {M : Type 1} → statement M
 expand_state_spec =
     tie.close
     (tie.spec
-    invariant_loop
-    decreases_loop
-    mul_unpack
-    slice_read_unpack
-    unpack_requires
-    cast_p
-    cast_q
-    mul_from
-    element_copy_out_from
-    cast_from
-    add_to
-    mul_to
-    element_copy_out_to
-    cast_to
-    add_last
-    mul_last
-    element_copy_out_last
-    cast_last
-    cast_first_any
-    first_any_requires
-    mul_i
-    element_copy_out_i
-    cast_i
-    only_label_requires
-    loop_holds
-    cast_next_run
-    next_run_requires
-    run_of_requires
-    end_of_requires
-    cast_take_run
-    take_run_requires
-    same_length
-    same_length_2
-    same_length_3
-    returns
-    add_i
-    loop_less
-    loop_again
-    same_length_4
-    same_length_5
-    same_length_6
-    returns_2)
+    invariant-loop-i
+    decreases-loop-i
+    offset_bounds-states-source
+    bounds-states-source
+    unpack-x-requires
+    overflow_cast-p
+    overflow_cast-q
+    offset_bounds-rindex-q
+    bounds-rindex-q
+    overflow_cast-from
+    overflow_add-to
+    offset_bounds-rindex-q-2
+    bounds-rindex-q-2
+    overflow_cast-to
+    overflow_add-last
+    offset_bounds-lindex-p
+    bounds-lindex-p
+    overflow_cast-last
+    overflow_cast-q-2
+    first_any-wild-requires
+    offset_bounds-lindex-p-2
+    bounds-lindex-p-2
+    overflow_cast-i
+    only_label-only-requires
+    loop-i-init
+    overflow_cast-q-in-loop-i
+    next_run-at-requires
+    run_of-r-requires
+    end_of-end-requires
+    overflow_cast-source
+    take_run-walk-requires
+    shape_of-table-then-walk-ne0
+    shape_of-origins-then-walk-ne0
+    shape_of-states-then-walk-ne0
+    returns-then-walk-ne0
+    overflow_add-i
+    loop-i-smaller
+    loop-i-preserved
+    shape_of-table
+    shape_of-origins
+    shape_of-states
+    returns)

@@ -6,58 +6,58 @@ use Rattle.compose.proofs.WalkCode.{traced_pair, traced_full}
 use Rattle.compose.proofs.walking.put_origins.Statement.{statement}
 use Rattle.compose.proofs.walking.put_origins.Tie as tie
 
-left_origin_requires : tie.Need-left-origin-requires
-left_origin_requires c κs = search rules
+left_origin-requires : tie.Need-left_origin-requires
+left_origin-requires c κs = search rules
 
-mul_origins : tie.Need-overflow-mul-origins
-mul_origins c = search rules
+overflow_mul-origins : tie.Need-overflow_mul-origins
+overflow_mul-origins c = search rules
 
-mul_origins_2 : tie.Need-overflow-mul-origins-2
-mul_origins_2 c = search rules
+offset_bounds-origins-arcs : tie.Need-offset_bounds-origins-arcs
+offset_bounds-origins-arcs c = search rules
 
-slice_write_origins : tie.Need-slice-write-origins
-slice_write_origins c = search rules
+bounds-origins-arcs : tie.Need-bounds-origins-arcs
+bounds-origins-arcs c = search rules
 
-right_origin_requires : tie.Need-right-origin-requires
-right_origin_requires c κs = search rules
+right_origin-requires : tie.Need-right_origin-requires
+right_origin-requires c κs = search rules
 
-mul_origins_3 : tie.Need-overflow-mul-origins-3
-mul_origins_3 c = search rules
+overflow_mul-origins-then-arcs-lt-MAX_ARCS : tie.Need-overflow_mul-origins-then-arcs-lt-MAX_ARCS
+overflow_mul-origins-then-arcs-lt-MAX_ARCS c = search rules
 
-add_origins : tie.Need-overflow-add-origins
-add_origins c = search rules
+overflow_add-origins : tie.Need-overflow_add-origins
+overflow_add-origins c = search rules
 
-mul_origins_4 : tie.Need-overflow-mul-origins-4
-mul_origins_4 c = search rules
+offset_bounds-origins-arcs-then-arcs-lt-MAX_ARCS : tie.Need-offset_bounds-origins-arcs-then-arcs-lt-MAX_ARCS
+offset_bounds-origins-arcs-then-arcs-lt-MAX_ARCS c = search rules
 
-slice_write_origins_2 : tie.Need-slice-write-origins-2
-slice_write_origins_2 c = simp length-set (omega (arith, c.before.before.before.before.requires, c.before.before.if1.true))
+bounds-origins-arcs-then-arcs-lt-MAX_ARCS : tie.Need-bounds-origins-arcs-then-arcs-lt-MAX_ARCS
+bounds-origins-arcs-then-arcs-lt-MAX_ARCS c = simp length-set (omega (arith, c.before.before.before.before.requires, c.before.before.if-arcs-lt-MAX_ARCS.true))
 
-same_length : tie.Need-same-length
-same_length c = search rules
+shape_of-origins : tie.Need-shape_of-origins
+shape_of-origins c = search rules
 
-returns : tie.Need-returns
-returns c =
+returns-then-arcs-lt-MAX_ARCS : tie.Need-returns-then-arcs-lt-MAX_ARCS
+returns-then-arcs-lt-MAX_ARCS c =
     let a = c.before.before.before.before.args in
-    traced_pair a.arcs a.o a.origins.now c.before.left_origin.result c.right_origin.result c.before.before.if1.true
+    traced_pair a.arcs a.o a.origins.now c.before.left_origin.result c.right_origin.result c.before.before.if-arcs-lt-MAX_ARCS.true
     c.before.left_origin.ensures c.right_origin.ensures
 
-returns_2 : tie.Need-returns-2
-returns_2 c = let a = c.before.before.args in traced_full a.arcs a.o a.origins.now c.if1.false
+returns-else-arcs-lt-MAX_ARCS : tie.Need-returns-else-arcs-lt-MAX_ARCS
+returns-else-arcs-lt-MAX_ARCS c = let a = c.before.before.args in traced_full a.arcs a.o a.origins.now c.if-arcs-lt-MAX_ARCS.false
 
 pub put_origins_spec : {M : Type 1} → statement M
 put_origins_spec =
     tie.close
     (tie.spec
-    left_origin_requires
-    mul_origins
-    mul_origins_2
-    slice_write_origins
-    right_origin_requires
-    mul_origins_3
-    add_origins
-    mul_origins_4
-    slice_write_origins_2
-    same_length
-    returns
-    returns_2)
+    left_origin-requires
+    overflow_mul-origins
+    offset_bounds-origins-arcs
+    bounds-origins-arcs
+    right_origin-requires
+    overflow_mul-origins-then-arcs-lt-MAX_ARCS
+    overflow_add-origins
+    offset_bounds-origins-arcs-then-arcs-lt-MAX_ARCS
+    bounds-origins-arcs-then-arcs-lt-MAX_ARCS
+    shape_of-origins
+    returns-then-arcs-lt-MAX_ARCS
+    returns-else-arcs-lt-MAX_ARCS)

@@ -29,106 +29,106 @@ first : (c : tie.Start) (b : Sofar)
 first c b k = let a = c.args in taking_first a.source (run_left (decode a.right.now) a.r a.to a.from) k
 
 -- The way back from a place to an earlier one.
-abbrev entered : tie.After-step-of → tie.Start
+abbrev entered : tie.After-step_of-s → tie.Start
 entered c = c.before.before.before.before.before.before
 
-abbrev stepped : tie.After-find → tie.After-step-of
-stepped c = c.before.before.before.before
+abbrev stepped : tie.After-find-number → tie.After-step_of-s
+stepped c = c.before
 
-abbrev start : tie.After-find → tie.Start
+abbrev start : tie.After-find-number → tie.Start
 start c = entered (stepped c)
 
-abbrev not_full : tie.After-record-step-arg2 → tie.Else2
+abbrev not_full : tie.After-record_step-arg-2-1 → tie.Else-number-eq-FULL
 not_full c = c.before.before.before.before.before.before.before.before
 
-abbrev recorded : tie.After-slice-known6 → tie.After-record-step
+abbrev recorded : tie.After-slice_known-6-1 → tie.After-record_step
 recorded c = c.before.before.before.before
 
-abbrev stored : tie.After-record-step → tie.After-store-new
+abbrev stored : tie.After-record_step → tie.After-store_new
 stored c = c.before.before.before.before.before
 
-abbrev found_at : tie.After-store-new → tie.After-find
+abbrev found_at : tie.After-store_new → tie.After-find-number
 found_at c = c.before.before.before.before.before
 
-returns : tie.Need-returns
-returns c = λ b k.
+returns-then-to-from : tie.Need-returns-then-to-from
+returns-then-to-from c = λ b k.
     let s = c.before.before.before.before.before in
     let a = s.args in
-    taking_stop (first s b k) (run_left_none (decode a.right.now) a.r a.to a.from c.if1.true)
+    taking_stop (first s b k) (run_left_none (decode a.right.now) a.r a.to a.from c.if-to-from.true)
 
-step_of_requires : tie.Need-step-of-requires
-step_of_requires c κs =
+step_of-s-requires : tie.Need-step_of-s-requires
+step_of-s-requires c κs =
     let pre = c.before.before.before.before.before.requires in
     (pre.0.0, λ e. clash pre.0.2 e, pre.0.1.target_fits, pre.0.1.weight_fits)
 
-find_requires : tie.Need-find-requires
-find_requires c κs = let k = (entered c.before.before.before).requires.1 in (k.0.keys, k.1.chained, sym k.1.states_are)
+find-number-requires : tie.Need-find-number-requires
+find-number-requires c κs = let k = (entered c).requires.1 in (k.0.keys, k.1.chained, sym k.1.states_are)
 
 -- The number found is the key's, or the next one.
-number_is : (c : tie.After-find) (xs : List ℕ) → Chained xs (start c).args.states.now (start c).args.heads.now (start c).args.links.now
-    → length xs ≡ (start c).args.w.states → c.find.result ≡ place eqb (stepped c).step_of.result.target xs
-number_is c xs chained long = c.find.ensures xs chained long
+number_is : (c : tie.After-find-number) (xs : List ℕ) → Chained xs (start c).args.states.now (start c).args.heads.now (start c).args.links.now
+    → length xs ≡ (start c).args.w.states → c.find-number.result ≡ place eqb (stepped c).step_of-s.result.target xs
+number_is c xs chained long = c.find-number.ensures xs chained long
 
-number_le : (c : tie.After-find) → c.find.result ≤ max_states
+number_le : (c : tie.After-find-number) → c.find-number.result ≤ max_states
 number_le c =
     let k = (start c).requires.1 in
     omega (
       arith,
       number_is c k.0.keys k.1.chained (sym k.1.states_are),
-      place_le (stepped c).step_of.result.target k.0.keys,
+      place_le (stepped c).step_of-s.result.target k.0.keys,
       k.1.chained.few,
     )
 
-same_length : tie.Need-same-length
-same_length c = search rules
+shape_of-states-then-number-eq-FULL : tie.Need-shape_of-states-then-number-eq-FULL
+shape_of-states-then-number-eq-FULL c = search rules
 
-returns_2 : tie.Need-returns-2
+returns-then-number-eq-FULL : tie.Need-returns-then-number-eq-FULL
 unfolding keyed_step
-returns_2 c = λ b k.
+returns-then-number-eq-FULL c = λ b k.
     let found = c.before in
     let s = start found in
     let a = s.args in
-    let step = (stepped found).step_of in
+    let step = (stepped found).step_of-s in
     let u = decode a.right.now in
     let g = first s b k in
     let w = g.walked in
     went_full (λ e. omega arith)
     (taking_over g (keyed_step step.result) (run_left u a.r a.to (suc a.from))
-    (run_left_first u a.r a.to a.from step.result s.pre.0.1 (stepped found).before.if1.false step.ensures) found.find.result
-    (number_is found g.sofar.keys w.chained (sym w.states_are)) c.if2.true)
+    (run_left_first u a.r a.to a.from step.result s.requires.0.1 (stepped found).before.if-to-from.false step.ensures) found.find-number.result
+    (number_is found g.sofar.keys w.chained (sym w.states_are)) c.if-number-eq-FULL.true)
 
 -- Fewer than 1,024 keys, or the key is one of them.
-number_lt : (c : tie.Else2) → c.before.find.result < max_states
-number_lt c = omega (arith, number_le c.before, c.if2.false)
+number_lt : (c : tie.Else-number-eq-FULL) → c.before.find-number.result < max_states
+number_lt c = omega (arith, number_le c.before, c.if-number-eq-FULL.false)
 
-store_new_requires : tie.Need-store-new-requires
-store_new_requires c κs =
+store_new-requires : tie.Need-store_new-requires
+store_new-requires c κs =
     let e = c.before.before.before in
     (number_lt e, (start e.before).requires.1.1.chained.room)
 
-record_step_requires : tie.Need-record-step-requires
-record_step_requires c κs =
+record_step-requires : tie.Need-record_step-requires
+record_step-requires c κs =
     let e = not_full c in
     let k = (start e.before).requires.1.1 in
     (number_lt e, k.recorded.arcs_held.table_long, k.recorded.origins_held.origins_long)
 
-same_length_2 : tie.Need-same-length-2
-same_length_2 c = search rules
+shape_of-table : tie.Need-shape_of-table
+shape_of-table c = search rules
 
-same_length_3 : tie.Need-same-length-3
-same_length_3 c = search rules
+shape_of-origins : tie.Need-shape_of-origins
+shape_of-origins c = search rules
 
-same_length_4 : tie.Need-same-length-4
-same_length_4 c = search rules
+shape_of-states : tie.Need-shape_of-states
+shape_of-states c = search rules
 
-returns_3 : tie.Need-returns-3
-returns_3 c = λ b k.
-    let put = (recorded c).record-step in
-    let store = (stored (recorded c)).store-new in
+returns : tie.Need-returns
+returns c = λ b k.
+    let put = (recorded c).record_step in
+    let store = (stored (recorded c)).store_new in
     let found = found_at (stored (recorded c)) in
     let s = start found in
     let a = s.args in
-    let step = (stepped found).step_of in
+    let step = (stepped found).step_of-s in
     let g = first s b k in
     let w = g.walked in
     let is = number_is found g.sofar.keys w.chained (sym w.states_are) in
@@ -137,10 +137,10 @@ returns_3 c = λ b k.
     taking_stop
     (taking_next g (keyed_step step.result) (run_left u a.r a.to a.to)
     (run_left_next u a.r a.to a.from a.to step.result
-    (next_alone u a.r a.from a.to s.pre.0.1 (stepped found).before.if1.left s.pre.0.2) step.ensures) put.result
-    put.last.0 put.last.1.0 store.last.0 store.last.1.0 store.last.1.1.0
-    (step_walked g.sofar a.source found.find.result store.result step.result a.w put.result a.table.now put.last.0
-    a.origins.now put.last.1.0 a.states.now store.last.0 a.heads.now store.last.1.0 a.links.now store.last.1.1.0 w is
+    (next_alone u a.r a.from a.to s.requires.0.1 (stepped found).before.if-to-from.false s.requires.0.2) step.ensures) put.result
+    put.new.table put.new.origins store.new.states store.new.heads store.new.links
+    (step_walked g.sofar a.source found.find-number.result store.result step.result a.w put.result a.table.now put.new.table
+    a.origins.now put.new.origins a.states.now store.new.states a.heads.now store.new.heads a.links.now store.new.links w is
     kept.0 kept.1 put.ensures.0 put.ensures.1))
     (run_left_none u a.r a.to a.to (omega arith))
 
@@ -148,14 +148,14 @@ pub take_one_spec : {M : Type 1} → statement M
 take_one_spec =
     tie.close
     (tie.spec
-    returns
-    step_of_requires
-    find_requires
-    same_length
-    returns_2
-    store_new_requires
-    record_step_requires
-    same_length_2
-    same_length_3
-    same_length_4
-    returns_3)
+    returns-then-to-from
+    step_of-s-requires
+    find-number-requires
+    shape_of-states-then-number-eq-FULL
+    returns-then-number-eq-FULL
+    store_new-requires
+    record_step-requires
+    shape_of-table
+    shape_of-origins
+    shape_of-states
+    returns)

@@ -8,32 +8,40 @@ use Rattle.lattice.proofs.applying.code_of.Statement.{statement}
 use Rattle.lattice.proofs.applying.code_of.Tie as tie
 
 -- Places to look back to.
-abbrev at_unpack : tie.After-struct-known2 → tie.After-unpack
+abbrev at_unpack : tie.After-struct_known-then-x-last-1 → tie.After-unpack-x
 at_unpack c = c.before.before.before
 
-unpack_requires : tie.Need-unpack-requires
-unpack_requires c κs = search rules
+unpack-x-requires : tie.Need-unpack-x-requires
+unpack-x-requires c κs = search rules
 
-cast_q : tie.Need-overflow-cast-q
-cast_q c = search rules
+overflow_cast-q : tie.Need-overflow_cast-q
+overflow_cast-q c = search rules
 
-mul_result : tie.Need-overflow-mul-result
-mul_result c = search rules
+offset_bounds-codes-q : tie.Need-offset_bounds-codes-q
+offset_bounds-codes-q c = search rules
 
-element_copy_out_result : tie.Need-element-copy-out-result
-element_copy_out_result c = let u = at_unpack c in rw u.unpack.ensures (omega (arith, unpacked_small u.before.args.key))
+bounds-codes-q : tie.Need-bounds-codes-q
+bounds-codes-q c = let u = at_unpack c.before in rw u.unpack-x.ensures (omega (arith, unpacked_small u.before.args.key))
+
+returns-then-x-last : tie.Need-returns-then-x-last
+returns-then-x-last c =
+    let u = at_unpack c.before.before in
+    let a = u.before.args in
+    sym (code_at_last a.codes.now a.last a.key u.unpack-x.result u.unpack-x.ensures c.before.before.if-x-last.true)
 
 returns : tie.Need-returns
 returns c =
-    let u = at_unpack c.before in
-    let a = u.before.args in
-    sym (code_at_last a.codes.now a.last a.key u.unpack.result u.unpack.ensures c.before.before.if1.true)
-
-returns_2 : tie.Need-returns-2
-returns_2 c =
     let u = c.before.before in
     let a = u.before.args in
-    sym (code_elsewhere a.codes.now a.last a.key u.unpack.result u.unpack.ensures c.if1.false)
+    sym (code_elsewhere a.codes.now a.last a.key u.unpack-x.result u.unpack-x.ensures c.if-x-last.false)
 
 pub code_of_spec : {M : Type 1} → statement M
-code_of_spec = tie.close (tie.spec unpack_requires cast_q mul_result element_copy_out_result returns returns_2)
+code_of_spec =
+    tie.close
+    (tie.spec
+    unpack-x-requires
+    overflow_cast-q
+    offset_bounds-codes-q
+    bounds-codes-q
+    returns-then-x-last
+    returns)

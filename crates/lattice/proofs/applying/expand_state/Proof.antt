@@ -32,160 +32,160 @@ use Rattle.lattice.proofs.Symbols.{string_short}
 use Rattle.lattice.proofs.applying.expand_state.Statement.{statement}
 use Rattle.lattice.proofs.applying.expand_state.Tie as tie
 
-abbrev invariant_loop : tie.invariant_loop
-invariant_loop string bytes no_any first index source table₀ origins₀ states₀ heads₀ links₀ key q position symbol end i₀ label walk₀
+abbrev invariant-loop-i : tie.invariant-loop-i
+invariant-loop-i string bytes no_any first index source table₀ origins₀ states₀ heads₀ links₀ key q position symbol end i₀ label walk₀
     table origins states heads links i walk =
     ((b : Sofar) → Walked 1 b walk₀ table₀ origins₀ states₀ heads₀ links₀
     → Taking 1 source (arcs_left string (decode bytes) (unpacked key) end i) (state_served (next string (decode bytes)) source b) walk
     table origins states heads links)
     × (length table ≡ length table₀) × (length origins ≡ length origins₀) × (length states ≡ length states₀) × (i₀ ≤ i)
 
-abbrev decreases_loop : tie.decreases_loop
-decreases_loop string bytes no_any first index source table₀ origins₀ states₀ heads₀ links₀ key q position symbol end i₀ label walk₀
+abbrev decreases-loop-i : tie.decreases-loop-i
+decreases-loop-i string bytes no_any first index source table₀ origins₀ states₀ heads₀ links₀ key q position symbol end i₀ label walk₀
     table origins states heads links i walk =
     end - i
 
 -- Places to look back to.
-abbrev entry : tie.After-shared-slice-known2 invariant_loop decreases_loop → tie.Start invariant_loop decreases_loop
+abbrev entry : tie.After-shared_slice_known-2-1 invariant-loop-i decreases-loop-i → tie.Start invariant-loop-i decreases-loop-i
 entry c = c.before.before
 
-abbrev lent : tie.After-unpack invariant_loop decreases_loop → tie.After-shared-slice-known2 invariant_loop decreases_loop
+abbrev lent : tie.After-unpack-x invariant-loop-i decreases-loop-i → tie.After-shared_slice_known-2-1 invariant-loop-i decreases-loop-i
 lent c = c.before.before.before.before.before
 
-abbrev start : tie.After-unpack invariant_loop decreases_loop → tie.Start invariant_loop decreases_loop
+abbrev start : tie.After-unpack-x invariant-loop-i decreases-loop-i → tie.Start invariant-loop-i decreases-loop-i
 start c = entry (lent c)
 
-abbrev at_unpack : tie.After-symbol-at invariant_loop decreases_loop → tie.After-unpack invariant_loop decreases_loop
+abbrev at_unpack : tie.After-symbol_at-symbol invariant-loop-i decreases-loop-i → tie.After-unpack-x invariant-loop-i decreases-loop-i
 at_unpack c = c.before.before
 
-abbrev at_symbol : tie.At-loop invariant_loop decreases_loop → tie.After-symbol-at invariant_loop decreases_loop
-at_symbol c = c.before.before.before.before
+abbrev at_symbol : tie.At-loop-i invariant-loop-i decreases-loop-i → tie.After-symbol_at-symbol invariant-loop-i decreases-loop-i
+at_symbol c = c.before.before.before.before.before
 
-abbrev opened : tie.At-loop invariant_loop decreases_loop → tie.After-unpack invariant_loop decreases_loop
+abbrev opened : tie.At-loop-i invariant-loop-i decreases-loop-i → tie.After-unpack-x invariant-loop-i decreases-loop-i
 opened c = at_unpack (at_symbol c)
 
-abbrev at_turn : tie.After-arc-of invariant_loop decreases_loop → tie.At-loop invariant_loop decreases_loop
+abbrev at_turn : tie.After-arc_of-a invariant-loop-i decreases-loop-i → tie.At-loop-i invariant-loop-i decreases-loop-i
 at_turn c = c.before.before
 
-abbrev at_join : tie.After-struct-known2 invariant_loop decreases_loop → tie.Joined1 invariant_loop decreases_loop
+abbrev at_join : tie.After-struct_known-in-loop-i-1 invariant-loop-i decreases-loop-i → tie.Joined-input-label invariant-loop-i decreases-loop-i
 at_join c = c.before.before.before
 
-abbrev at_arc : tie.After-struct-known2 invariant_loop decreases_loop → tie.After-arc-of invariant_loop decreases_loop
+abbrev at_arc : tie.After-struct_known-in-loop-i-1 invariant-loop-i decreases-loop-i → tie.After-arc_of-a invariant-loop-i decreases-loop-i
 at_arc c = (at_join c).before
 
-abbrev at_pack : tie.After-take-step invariant_loop decreases_loop → tie.After-pack invariant_loop decreases_loop
+abbrev at_pack : tie.After-take_step-walk invariant-loop-i decreases-loop-i → tie.After-pack-to invariant-loop-i decreases-loop-i
 at_pack c = c.before.before.before.before.before.before
 
-abbrev at_step : tie.After-struct-known3 invariant_loop decreases_loop → tie.After-take-step invariant_loop decreases_loop
+abbrev at_step : tie.After-struct_known-in-loop-i-2-1 invariant-loop-i decreases-loop-i → tie.After-take_step-walk invariant-loop-i decreases-loop-i
 at_step c = c.before.before.before.before.before.before.before
 
 -- The arc of the turn in which a step was taken.
-abbrev arc_read : tie.After-take-step invariant_loop decreases_loop → tie.After-arc-of invariant_loop decreases_loop
+abbrev arc_read : tie.After-take_step-walk invariant-loop-i decreases-loop-i → tie.After-arc_of-a invariant-loop-i decreases-loop-i
 arc_read c = at_arc (at_pack c).before
 
 -- What was read in it, and what is written for that.
-abbrev join_of : tie.After-take-step invariant_loop decreases_loop → tie.Joined1 invariant_loop decreases_loop
+abbrev join_of : tie.After-take_step-walk invariant-loop-i decreases-loop-i → tie.Joined-input-label invariant-loop-i decreases-loop-i
 join_of c = at_join (at_pack c).before
 
-abbrev packed : tie.After-take-step-arg5 invariant_loop decreases_loop → tie.After-struct-known2 invariant_loop decreases_loop
+abbrev packed : tie.After-take_step-arg-in-loop-i-4-1 invariant-loop-i decreases-loop-i → tie.After-struct_known-in-loop-i-1 invariant-loop-i decreases-loop-i
 packed c = c.before.before.before.before.before.before
 
 -- The transducer, and the key of the state served.
-abbrev table_of : tie.Start invariant_loop decreases_loop → Transducer
+abbrev table_of : tie.Start invariant-loop-i decreases-loop-i → Transducer
 table_of c = decode c.args.bytes.now
 
-abbrev key_of : tie.Start invariant_loop decreases_loop → ℕ
+abbrev key_of : tie.Start invariant-loop-i decreases-loop-i → ℕ
 key_of c = get_or c.args.states.now c.args.source 0
 
-good : (c : tie.After-shared-slice-known2 invariant_loop decreases_loop) → Good (table_of (entry c))
-good c = accepted_good (entry c).args.bytes.now (λ i. omega (arith, c.shared-slice-known2.given i)) (entry c).requires.0.0.opened.accepted
+good : (c : tie.After-shared_slice_known-2-1 invariant-loop-i decreases-loop-i) → Good (table_of (entry c))
+good c = accepted_good (entry c).args.bytes.now (λ i. omega (arith, c.shared_slice_known-2-1.given i)) (entry c).requires.0.0.opened.accepted
 
-source_lt : (c : tie.Start invariant_loop decreases_loop) → c.args.source < max_states
+source_lt : (c : tie.Start invariant-loop-i decreases-loop-i) → c.args.source < max_states
 source_lt c = omega (arith, c.requires.0.1, c.requires.1.1.states_are, c.requires.1.1.chained.few)
 
 -- Its parts: a position in the string and a state of the transducer.
-parts_in : (c : tie.After-unpack invariant_loop decreases_loop) → StateIn (start c).args.string.now (table_of (start c)) c.unpack.result
-parts_in c = subst (λ (x : State). StateIn (start c).args.string.now (table_of (start c)) x) (sym c.unpack.ensures) (start c).requires.0.2
+parts_in : (c : tie.After-unpack-x invariant-loop-i decreases-loop-i) → StateIn (start c).args.string.now (table_of (start c)) c.unpack-x.result
+parts_in c = subst (λ (x : State). StateIn (start c).args.string.now (table_of (start c)) x) (sym c.unpack-x.ensures) (start c).requires.0.2
 
-state_lt : (c : tie.After-unpack invariant_loop decreases_loop) → c.unpack.result.state < max_states
+state_lt : (c : tie.After-unpack-x invariant-loop-i decreases-loop-i) → c.unpack-x.result.state < max_states
 state_lt c = omega (arith, (parts_in c).state_in, (good_range (table_of (start c)) (good (lent c))).states)
 
-position_le : (c : tie.After-unpack invariant_loop decreases_loop) → c.unpack.result.position ≤ max_symbols
+position_le : (c : tie.After-unpack-x invariant-loop-i decreases-loop-i) → c.unpack-x.result.position ≤ max_symbols
 position_le c = omega (arith, (parts_in c).position_in, string_short (start c).args.string.now (start c).requires.0.0.good)
 
 -- The arcs of the state stand below the number of arcs.
-within : (c : tie.After-unpack invariant_loop decreases_loop)
-    → (get_or (start c).args.index.now c.unpack.result.state 0 ≤ length (table_of (start c)).arcs)
-    × (get_or (start c).args.index.now (c.unpack.result.state + 1) 0 ≤ length (table_of (start c)).arcs)
-within c = index_within (table_of (start c)) (start c).args.index.now (start c).requires.0.0.indexed c.unpack.result.state (parts_in c).state_in
+within : (c : tie.After-unpack-x invariant-loop-i decreases-loop-i)
+    → (get_or (start c).args.index.now c.unpack-x.result.state 0 ≤ length (table_of (start c)).arcs)
+    × (get_or (start c).args.index.now (c.unpack-x.result.state + 1) 0 ≤ length (table_of (start c)).arcs)
+within c = index_within (table_of (start c)) (start c).args.index.now (start c).requires.0.0.indexed c.unpack-x.result.state (parts_in c).state_in
 
-few_arcs : (c : tie.After-unpack invariant_loop decreases_loop) → length (table_of (start c)).arcs ≤ max_arcs
+few_arcs : (c : tie.After-unpack-x invariant-loop-i decreases-loop-i) → length (table_of (start c)).arcs ≤ max_arcs
 few_arcs c = (good_range (table_of (start c)) (good (lent c))).arcs
 
 -- The symbol at the state's position.
-symbol_is : (c : tie.After-symbol-at invariant_loop decreases_loop)
-    → c.symbol-at.result ≡ symbol_of (start (at_unpack c)).args.string.now (unpacked (key_of (start (at_unpack c))))
+symbol_is : (c : tie.After-symbol_at-symbol invariant-loop-i decreases-loop-i)
+    → c.symbol_at-symbol.result ≡ symbol_of (start (at_unpack c)).args.string.now (unpacked (key_of (start (at_unpack c))))
 unfolding symbol_of
-symbol_is c = c.symbol-at.ensures ∙ ap (symbol_of (start (at_unpack c)).args.string.now) (at_unpack c).unpack.ensures
+symbol_is c = c.symbol_at-symbol.ensures ∙ ap (symbol_of (start (at_unpack c)).args.string.now) (at_unpack c).unpack-x.ensures
 
-mul_key : tie.Need-overflow-mul-key invariant_loop decreases_loop
-mul_key c = omega (arith, source_lt (entry c.before.before.before))
+offset_bounds-states-source : tie.Need-offset_bounds-states-source invariant-loop-i decreases-loop-i
+offset_bounds-states-source c = omega (arith, source_lt (entry c.before.before.before))
 
-slice_read_key : tie.Need-slice-read-key invariant_loop decreases_loop
-slice_read_key c = let s = entry c.before.before.before.before in omega (arith, source_lt s, s.pre.1.1.chained.room)
+bounds-states-source : tie.Need-bounds-states-source invariant-loop-i decreases-loop-i
+bounds-states-source c = let s = entry c.before.before.before.before in omega (arith, source_lt s, s.requires.1.1.chained.room)
 
-unpack_requires : tie.Need-unpack-requires invariant_loop decreases_loop
-unpack_requires c κs = search rules
+unpack-x-requires : tie.Need-unpack-x-requires invariant-loop-i decreases-loop-i
+unpack-x-requires c κs = search rules
 
-cast_q : tie.Need-overflow-cast-q invariant_loop decreases_loop
-cast_q c = omega (arith, state_lt c.before)
+overflow_cast-q : tie.Need-overflow_cast-q invariant-loop-i decreases-loop-i
+overflow_cast-q c = omega (arith, state_lt c.before)
 
-cast_symbol_at : tie.Need-overflow-cast-symbol-at invariant_loop decreases_loop
-cast_symbol_at c = omega (arith, position_le c.before)
+overflow_cast-position : tie.Need-overflow_cast-position invariant-loop-i decreases-loop-i
+overflow_cast-position c = omega (arith, position_le c.before)
 
-symbol_at_requires : tie.Need-symbol-at-requires invariant_loop decreases_loop
-symbol_at_requires c κs = search rules
+symbol_at-symbol-requires : tie.Need-symbol_at-symbol-requires invariant-loop-i decreases-loop-i
+symbol_at-symbol-requires c κs = search rules
 
-add_end : tie.Need-overflow-add-end invariant_loop decreases_loop
-add_end c = omega (arith, state_lt (at_unpack c))
+overflow_add-end : tie.Need-overflow_add-end invariant-loop-i decreases-loop-i
+overflow_add-end c = omega (arith, state_lt (at_unpack c))
 
-mul_end : tie.Need-overflow-mul-end invariant_loop decreases_loop
-mul_end c = omega (arith, state_lt (at_unpack c))
+offset_bounds-index-q : tie.Need-offset_bounds-index-q invariant-loop-i decreases-loop-i
+offset_bounds-index-q c = omega (arith, state_lt (at_unpack c))
 
-element_copy_out_end : tie.Need-element-copy-out-end invariant_loop decreases_loop
-element_copy_out_end c = omega (arith, state_lt (at_unpack c))
+bounds-index-q : tie.Need-bounds-index-q invariant-loop-i decreases-loop-i
+bounds-index-q c = omega (arith, state_lt (at_unpack c.before))
 
-cast_end : tie.Need-overflow-cast-end invariant_loop decreases_loop
-cast_end c = let u = at_unpack c.before in omega (arith, (within u).1, few_arcs u)
+overflow_cast-end : tie.Need-overflow_cast-end invariant-loop-i decreases-loop-i
+overflow_cast-end c = let u = at_unpack c.before.before in omega (arith, (within u).1, few_arcs u)
 
-mul_i : tie.Need-overflow-mul-i invariant_loop decreases_loop
-mul_i c = omega (arith, state_lt (at_unpack c.before))
+offset_bounds-index-q-2 : tie.Need-offset_bounds-index-q-2 invariant-loop-i decreases-loop-i
+offset_bounds-index-q-2 c = omega (arith, state_lt (at_unpack c.before.before))
 
-element_copy_out_i : tie.Need-element-copy-out-i invariant_loop decreases_loop
-element_copy_out_i c = omega (arith, state_lt (at_unpack c.before))
+bounds-index-q-2 : tie.Need-bounds-index-q-2 invariant-loop-i decreases-loop-i
+bounds-index-q-2 c = omega (arith, state_lt (at_unpack c.before.before))
 
-cast_i : tie.Need-overflow-cast-i invariant_loop decreases_loop
-cast_i c = let u = at_unpack c.before.before in omega (arith, (within u).0, few_arcs u)
+overflow_cast-i : tie.Need-overflow_cast-i invariant-loop-i decreases-loop-i
+overflow_cast-i c = let u = at_unpack c.before.before.before in omega (arith, (within u).0, few_arcs u)
 
 -- The arcs of the state stand together.
-leaving : (c : tie.After-unpack invariant_loop decreases_loop)
-    → Leaving (table_of (start c)) c.unpack.result.state (get_or (start c).args.index.now c.unpack.result.state 0)
-    (get_or (start c).args.index.now (c.unpack.result.state + 1) 0)
+leaving : (c : tie.After-unpack-x invariant-loop-i decreases-loop-i)
+    → Leaving (table_of (start c)) c.unpack-x.result.state (get_or (start c).args.index.now c.unpack-x.result.state 0)
+    (get_or (start c).args.index.now (c.unpack-x.result.state + 1) 0)
 leaving c =
-    index_leaving (table_of (start c)) (start c).args.index.now (start c).requires.0.0.indexed c.unpack.result.state (parts_in c).state_in
+    index_leaving (table_of (start c)) (start c).args.index.now (start c).requires.0.0.indexed c.unpack-x.result.state (parts_in c).state_in
     (good (lent c))
 
-label_at_requires : tie.Need-label-at-requires invariant_loop decreases_loop
-label_at_requires c κs =
-    let u = at_unpack c.before.before in
-    (((start u).pre.0.0.opened, (start u).pre.0.0.no_any_says), (u.unpack.result.state, leaving u))
-
-loop_holds : tie.Need-loop-init invariant_loop decreases_loop
-loop_holds c =
+label_at-label-requires : tie.Need-label_at-label-requires invariant-loop-i decreases-loop-i
+label_at-label-requires c κs =
     let u = at_unpack c.before.before.before in
+    (((start u).requires.0.0.opened, (start u).requires.0.0.no_any_says), (u.unpack-x.result.state, leaving u))
+
+loop-i-init : tie.Need-loop-i-init invariant-loop-i decreases-loop-i
+loop-i-init c =
+    let u = at_unpack c.before.before.before.before in
     let s = start u in (
-      λ b k. serving_first s.args.string.now (table_of s) s.args.index.now s.args.source u.unpack.result (good (lent u))
-          s.pre.0.0.indexed u.unpack.ensures (parts_in u).state_in s.pre.0.1 k,
+      λ b k. serving_first s.args.string.now (table_of s) s.args.index.now s.args.source u.unpack-x.result (good (lent u))
+          s.requires.0.0.indexed u.unpack-x.ensures (parts_in u).state_in s.requires.0.1 k,
       refl,
       refl,
       refl,
@@ -193,254 +193,254 @@ loop_holds c =
     )
 
 -- The arc of this turn is one of the transducer's.
-below : (c : tie.In-loop invariant_loop decreases_loop) → c.before.loop.i < length (table_of (start (opened c.before))).arcs
-below c = omega (arith, c.loop-test.true, (within (opened c.before)).1)
+below : (c : tie.In-loop-i invariant-loop-i decreases-loop-i) → c.before.loop-i.i < length (table_of (start (opened c.before))).arcs
+below c = omega (arith, c.loop-i-test.true, (within (opened c.before)).1)
 
-number_lt : (c : tie.In-loop invariant_loop decreases_loop) → c.before.loop.i < max_arcs
+number_lt : (c : tie.In-loop-i invariant-loop-i decreases-loop-i) → c.before.loop-i.i < max_arcs
 number_lt c = omega (arith, below c, few_arcs (opened c.before))
 
-arc_of_requires : tie.Need-arc-of-requires invariant_loop decreases_loop
-arc_of_requires c κs = ((start (opened c.before)).pre.0.0.opened, below c)
+arc_of-a-requires : tie.Need-arc_of-a-requires invariant-loop-i decreases-loop-i
+arc_of-a-requires c κs = ((start (opened c.before)).requires.0.0.opened, below c)
 
-add_i : tie.Need-overflow-add-i invariant_loop decreases_loop
-add_i c = omega (arith, number_lt c.before)
+overflow_add-i : tie.Need-overflow_add-i invariant-loop-i decreases-loop-i
+overflow_add-i c = omega (arith, number_lt c.before)
 
 -- It fits the symbol at the state's position where it reads the label that was told.
-fits_by : (c : tie.After-arc-of invariant_loop decreases_loop)
+fits_by : (c : tie.After-arc_of-a invariant-loop-i decreases-loop-i)
     → fits (table_of (start (opened (at_turn c)))) (symbol_of (start (opened (at_turn c))).args.string.now (unpacked (key_of (start (opened (at_turn c))))))
-    c.arc_of.result
-    ≡ eqb c.arc_of.result.input (at_turn c).before.label_at.result
+    c.arc_of-a.result
+    ≡ eqb c.arc_of-a.result.input (at_turn c).before.label_at-label.result
 fits_by c =
     let turn = at_turn c in
     let t = table_of (start (opened turn)) in
-    let label = turn.before.label_at.result in
-    subst (λ (s : ℕ). fits t s c.arc_of.result ≡ eqb c.arc_of.result.input label) (symbol_is (at_symbol turn))
-    (subst (λ (a : Arc). fits t (at_symbol turn).symbol-at.result a ≡ eqb a.input label) (sym c.arc_of.ensures)
-    (turn.before.label_at.ensures turn.loop.i turn.loop.inv.4 c.before.loop-test.true))
+    let label = turn.before.label_at-label.result in
+    subst (λ (s : ℕ). fits t s c.arc_of-a.result ≡ eqb c.arc_of-a.result.input label) (symbol_is (at_symbol turn))
+    (subst (λ (a : Arc). fits t (at_symbol turn).symbol_at-symbol.result a ≡ eqb a.input label) (sym c.arc_of-a.ensures)
+    (turn.before.label_at-label.ensures turn.loop-i.i turn.loop-i.invariant.4 c.before.loop-i-test.true))
 
-loop_less : tie.Need-loop-smaller invariant_loop decreases_loop
-loop_less c = omega (arith, c.before.before.before.loop-test.true)
+loop-i-smaller-then-input-ne0 : tie.Need-loop-i-smaller-then-input-ne0 invariant-loop-i decreases-loop-i
+loop-i-smaller-then-input-ne0 c = omega (arith, c.before.before.before.loop-i-test.true)
 
-loop_again : tie.Need-loop-preserved invariant_loop decreases_loop
-loop_again c =
+loop-i-preserved-then-input-ne0 : tie.Need-loop-i-preserved-then-input-ne0 invariant-loop-i decreases-loop-i
+loop-i-preserved-then-input-ne0 c =
     let at = c.before.before in
     let turn = at_turn at in
     let s = start (opened turn) in
-    let a = at.arc_of.result in
-    let none = none_taken s.args.string.now (table_of s) (unpacked (key_of s)) turn.loop.i s.args.source a
-    at.arc_of.ensures c.if2.true (fits_by at ∙ ne_eqb a.input turn.before.label_at.result c.before.if1.true) in (
-      λ b k. serving_skip s.args.string.now (table_of s) (unpacked (key_of s)) (turn.loop.inv.0 b k) at.before.loop-test.true none,
-      turn.loop.inv.1,
-      turn.loop.inv.2,
-      turn.loop.inv.3,
-      omega (arith, turn.loop.inv.4),
+    let a = at.arc_of-a.result in
+    let none = none_taken s.args.string.now (table_of s) (unpacked (key_of s)) turn.loop-i.i s.args.source a
+    at.arc_of-a.ensures c.if-input-ne0.true (fits_by at ∙ ne_eqb a.input turn.before.label_at-label.result c.before.if-input-label.true) in (
+      λ b k. serving_skip s.args.string.now (table_of s) (unpacked (key_of s)) (turn.loop-i.invariant.0 b k) at.before.loop-i-test.true none,
+      turn.loop-i.invariant.1,
+      turn.loop-i.invariant.2,
+      turn.loop-i.invariant.3,
+      omega (arith, turn.loop-i.invariant.4),
     )
 
 -- What the arc of this turn reads, and what it writes for that.
-was_read : (c : tie.Joined1 invariant_loop decreases_loop)
+was_read : (c : tie.Joined-input-label invariant-loop-i decreases-loop-i)
     → Reads (start (opened (at_turn c.before))).args.string.now (table_of (start (opened (at_turn c.before))))
-    (unpacked (key_of (start (opened (at_turn c.before))))) c.before.arc_of.result c.if1.read c.if1.output
+    (unpacked (key_of (start (opened (at_turn c.before))))) c.before.arc_of-a.result c.if-input-label.read c.if-input-label.output
 was_read c =
     let at = c.before in
     let turn = at_turn at in
     let s = start (opened turn) in
-    let a = at.arc_of.result in
+    let a = at.arc_of-a.result in
     let cs = s.args.string.now in
     let x = unpacked (key_of s) in
-    let own = reads_nothing cs (table_of s) x (good (lent (opened turn))) turn.loop.i (below at.before) a at.arc_of.ensures
-    c.if1.read c.if1.output in
-    let itself = reads_itself cs (table_of s) x (good (lent (opened turn))) turn.loop.i (below at.before) a at.arc_of.ensures
-    c.if1.read c.if1.output in
-    let label = turn.before.label_at.result in
+    let own = reads_nothing cs (table_of s) x (good (lent (opened turn))) turn.loop-i.i (below at.before) a at.arc_of-a.ensures
+    c.if-input-label.read c.if-input-label.output in
+    let itself = reads_itself cs (table_of s) x (good (lent (opened turn))) turn.loop-i.i (below at.before) a at.arc_of-a.ensures
+    c.if-input-label.read c.if-input-label.output in
+    let label = turn.before.label_at-label.result in
     ⊎_elim (λ w. own w.2 w.3 w.1.left)
     (λ w. ⊎_elim
     (λ w. let fit = fits_by at ∙ eq-eqb a.input label w.0.left in
     reads_some (fits_other (table_of s) (symbol_of cs x) a (λ e. w.1.taken (e ∙ sym (symbol_is (at_symbol turn)))) fit) fit
     (w.3 ∙ symbol_is (at_symbol turn)) (w.4 ∙ w.2.ensures ∙ ap (λ (symbol : ℕ). passed symbol a) (sym w.3)))
-    (λ w. itself w.2 w.3 s.pre.0.0.good (w.1.left ∙ symbol_is (at_symbol turn))) w) c.if1.branch
+    (λ w. itself w.2 w.3 s.requires.0.0.good (w.1.left ∙ symbol_is (at_symbol turn))) w) c.if-input-label.branch
 
-cast_t41 : tie.Need-overflow-cast-t41 invariant_loop decreases_loop
-cast_t41 c = omega (arith, source_lt (start (opened (at_turn c.before))))
+overflow_cast-step : tie.Need-overflow_cast-step invariant-loop-i decreases-loop-i
+overflow_cast-step c = omega (arith, source_lt (start (opened (at_turn c.before))))
 
-passed_requires : tie.Need-passed-requires invariant_loop decreases_loop
-passed_requires c κs = search rules
+passed-output-requires : tie.Need-passed-output-requires invariant-loop-i decreases-loop-i
+passed-output-requires c κs = search rules
 
-moved_requires : tie.Need-moved-requires invariant_loop decreases_loop
-moved_requires c κs = search rules
+moved-requires : tie.Need-moved-requires invariant-loop-i decreases-loop-i
+moved-requires c κs = search rules
 
 -- The position of this step's target is at most one on.
-moved_le : (c : tie.After-moved invariant_loop decreases_loop) → c.moved.result ≤ 1
-moved_le c = subst (λ (n : ℕ). n ≤ 1) (sym c.moved.ensures) (cond_most (eqb c.before.before.if1.read 0) 0 1 (omega arith) (omega arith))
+moved_le : (c : tie.After-moved invariant-loop-i decreases-loop-i) → c.moved.result ≤ 1
+moved_le c = subst (λ (n : ℕ). n ≤ 1) (sym c.moved.ensures) (cond_most (eqb c.before.before.if-input-label.read 0) 0 1 (omega arith) (omega arith))
 
-target_le : (c : tie.After-moved invariant_loop decreases_loop)
-    → (opened (at_turn c.before.before.before)).unpack.result.position + c.moved.result ≤ max_symbols + 1
+target_le : (c : tie.After-moved invariant-loop-i decreases-loop-i)
+    → (opened (at_turn c.before.before.before)).unpack-x.result.position + c.moved.result ≤ max_symbols + 1
 target_le c = omega (arith, position_le (opened (at_turn c.before.before.before)), moved_le c)
 
-target_lt : (c : tie.After-arc-of invariant_loop decreases_loop) → c.arc_of.result.target < max_states
+target_lt : (c : tie.After-arc_of-a invariant-loop-i decreases-loop-i) → c.arc_of-a.result.target < max_states
 target_lt c =
     let u = opened (at_turn c) in
     let t = table_of (start u) in
     let g = good (lent u) in
-    rw c.arc_of.ensures (omega (arith, (good_content t g).target (at_turn c).loop.i (below c.before), (good_range t g).states))
+    rw c.arc_of-a.ensures (omega (arith, (good_content t g).target (at_turn c).loop-i.i (below c.before), (good_range t g).states))
 
-add_pack : tie.Need-overflow-add-pack invariant_loop decreases_loop
-add_pack c = omega (arith, target_le c)
+overflow_add-position : tie.Need-overflow_add-position invariant-loop-i decreases-loop-i
+overflow_add-position c = omega (arith, target_le c)
 
-cast_pack : tie.Need-overflow-cast-pack invariant_loop decreases_loop
-cast_pack c = omega (arith, target_lt (at_arc c))
+overflow_cast-a : tie.Need-overflow_cast-a invariant-loop-i decreases-loop-i
+overflow_cast-a c = omega (arith, target_lt (at_arc c))
 
-pack_requires : tie.Need-pack-requires invariant_loop decreases_loop
-pack_requires c κs = (omega (arith, target_le c.before), target_lt (at_arc c))
+pack-to-requires : tie.Need-pack-to-requires invariant-loop-i decreases-loop-i
+pack-to-requires c κs = (omega (arith, target_le c.before), target_lt (at_arc c))
 
 -- The step of this turn's arc.
-taken_here : (c : tie.After-pack invariant_loop decreases_loop)
+taken_here : (c : tie.After-pack-to invariant-loop-i decreases-loop-i)
     → arc_next (start (opened (at_turn (at_arc c.before)))).args.string.now (table_of (start (opened (at_turn (at_arc c.before)))))
-    (unpacked (key_of (start (opened (at_turn (at_arc c.before)))))) (at_turn (at_arc c.before)).loop.i
-    ≡ arc_keyed (reading (start (opened (at_turn (at_arc c.before)))).args.source (at_join c.before).if1.read (at_arc c.before).arc_of.result)
-    (at_turn (at_arc c.before)).loop.i c.pack.result ∷ []
+    (unpacked (key_of (start (opened (at_turn (at_arc c.before)))))) (at_turn (at_arc c.before)).loop-i.i
+    ≡ arc_keyed (reading (start (opened (at_turn (at_arc c.before)))).args.source (at_join c.before).if-input-label.read (at_arc c.before).arc_of-a.result)
+    (at_turn (at_arc c.before)).loop-i.i c.pack-to.result ∷ []
 taken_here c =
     let at = at_arc c.before in
     let turn = at_turn at in
     let u = opened turn in
     let s = start u in
     let x = unpacked (key_of s) in
-    let same : u.unpack.result.position ≡ x.position = ap (λ (x : State). x.position) u.unpack.ensures in
+    let same : u.unpack-x.result.position ≡ x.position = ap (λ (x : State). x.position) u.unpack-x.ensures in
     let call = c.before.before.moved in
-    read_taken s.args.string.now (table_of s) x turn.loop.i s.args.source at.arc_of.result at.arc_of.ensures _ refl
-    c.pack.result c.pack.ensures (at_join c.before).if1.read (at_join c.before).if1.output call.result
+    read_taken s.args.string.now (table_of s) x turn.loop-i.i s.args.source at.arc_of-a.result at.arc_of-a.ensures _ refl
+    c.pack-to.result c.pack-to.ensures (at_join c.before).if-input-label.read (at_join c.before).if-input-label.output call.result
     (was_read (at_join c.before)) call.ensures (omega (arith, same))
 
 -- The weight goes over from arc to arc as it is.
-weight_is : (c : tie.After-pack invariant_loop decreases_loop) →
-    to_z w32 (of_z w32 (at_arc c.before).arc_of.result.weight) ≡ (at_arc c.before).arc_of.result.weight
-weight_is c = to_z-of_z (record { sfits = c.before.before.before.struct_told.given.1.1.1.1.0.1 })
+weight_is : (c : tie.After-pack-to invariant-loop-i decreases-loop-i) →
+    to_z w32 (of_z w32 (at_arc c.before).arc_of-a.result.weight) ≡ (at_arc c.before).arc_of-a.result.weight
+weight_is c = to_z-of_z {w = w32} (record { sfits = c.before.before.before.struct_told-1.given.1.1.1.1.0.1 })
 
 -- The number of the state served, and its step by this turn's arc.
-abbrev source_of : tie.After-take-step invariant_loop decreases_loop → ℕ
+abbrev source_of : tie.After-take_step-walk invariant-loop-i decreases-loop-i → ℕ
 source_of c = (start (opened (at_turn (arc_read c)))).args.source
 
-abbrev step_by : tie.After-take-step invariant_loop decreases_loop → Arc → Keyed
-step_by c a = arc_keyed a (at_turn (arc_read c)).loop.i (at_pack c).pack.result
+abbrev step_by : tie.After-take_step-walk invariant-loop-i decreases-loop-i → Arc → Keyed
+step_by c a = arc_keyed a (at_turn (arc_read c)).loop-i.i (at_pack c).pack-to.result
 
-abbrev step_of : tie.After-take-step invariant_loop decreases_loop → Keyed
-step_of c = step_by c (reading (source_of c) (join_of c).if1.read (arc_read c).arc_of.result)
+abbrev step_of : tie.After-take_step-walk invariant-loop-i decreases-loop-i → Keyed
+step_of c = step_by c (reading (source_of c) (join_of c).if-input-label.read (arc_read c).arc_of-a.result)
 
 -- What `take_step` leaves, with the output and the weight of the arc written out.
-went : (c : tie.After-take-step invariant_loop decreases_loop) (b : Sofar) → let h = (at_turn (arc_read c)).loop in
+went : (c : tie.After-take_step-walk invariant-loop-i decreases-loop-i) (b : Sofar) → let h = (at_turn (arc_read c)).loop-i in
     Walked 1 b h.walk h.table h.origins h.states h.heads h.links
-    → let out = c.take_step.new.1.1.1.1 in
-    Went 1 (taken (source_of c) (step_of c) b) c.take_step.result out.0 out.1.0 out.1.1.0 out.1.1.1.0 out.1.1.1.1.0
+    → let out = c.take_step-walk.new in
+    Went 1 (taken (source_of c) (step_of c) b) c.take_step-walk.result out.table out.origins out.states out.heads out.links
 went c b k =
-    let a = (arc_read c).arc_of.result in
+    let a = (arc_read c).arc_of-a.result in
     let put : ℕ → Weight → Arc = λ o w.
-    record { source = source_of c; input = (join_of c).if1.read; output = o; target = a.target; weight = w } in
-    let out = c.take_step.new.1.1.1.1 in
+    record { source = source_of c; input = (join_of c).if-input-label.read; output = o; target = a.target; weight = w } in
+    let out = c.take_step-walk.new in
     let By : Arc → Type 0 = λ z.
-    Went 1 (taken (source_of c) (step_by c z) b) c.take_step.result out.0 out.1.0 out.1.1.0 out.1.1.1.0 out.1.1.1.1.0 in
+    Went 1 (taken (source_of c) (step_by c z) b) c.take_step-walk.result out.table out.origins out.states out.heads out.links in
     subst (λ (o : ℕ). By (put o a.weight)) (reads_written (was_read (join_of c)))
-    (subst (λ (w : Weight). By (put (join_of c).if1.output w)) (weight_is (at_pack c)) (c.take_step.ensures b k))
+    (subst (λ (w : Weight). By (put (join_of c).if-input-label.output w)) (weight_is (at_pack c)) (c.take_step-walk.ensures b k))
 
-take_step_requires : tie.Need-take-step-requires invariant_loop decreases_loop
-take_step_requires c κs =
+take_step-walk-requires : tie.Need-take_step-walk-requires invariant-loop-i decreases-loop-i
+take_step-walk-requires c κs =
     let at = at_arc (packed c) in
-    let pre = (start (opened (at_turn at))).pre in
-    let g = (at_turn at).loop.inv.0 pre.1.0 pre.1.1 in
+    let pre = (start (opened (at_turn at))).requires in
+    let g = (at_turn at).loop-i.invariant.0 pre.1.0 pre.1.1 in
     (omega (arith, number_lt at.before), (g.sofar, g.walked))
 
-same_length : tie.Need-same-length invariant_loop decreases_loop
-same_length c = let at = at_step c.before in at.take_step.kept.1.1.1.1.0 ∙ (at_turn (arc_read at)).loop.inv.1
+shape_of-table-then-walk-ne0 : tie.Need-shape_of-table-then-walk-ne0 invariant-loop-i decreases-loop-i
+shape_of-table-then-walk-ne0 c = let at = at_step c.before in at.take_step-walk.auto.table ∙ (at_turn (arc_read at)).loop-i.invariant.1
 
-same_length_2 : tie.Need-same-length-2 invariant_loop decreases_loop
-same_length_2 c = let at = at_step c.before in at.take_step.kept.1.1.1.1.1.0 ∙ (at_turn (arc_read at)).loop.inv.2
+shape_of-origins-then-walk-ne0 : tie.Need-shape_of-origins-then-walk-ne0 invariant-loop-i decreases-loop-i
+shape_of-origins-then-walk-ne0 c = let at = at_step c.before in at.take_step-walk.auto.origins ∙ (at_turn (arc_read at)).loop-i.invariant.2
 
-same_length_3 : tie.Need-same-length-3 invariant_loop decreases_loop
-same_length_3 c = let at = at_step c.before in at.take_step.kept.1.1.1.1.1.1.0 ∙ (at_turn (arc_read at)).loop.inv.3
+shape_of-states-then-walk-ne0 : tie.Need-shape_of-states-then-walk-ne0 invariant-loop-i decreases-loop-i
+shape_of-states-then-walk-ne0 c = let at = at_step c.before in at.take_step-walk.auto.states ∙ (at_turn (arc_read at)).loop-i.invariant.3
 
-returns : tie.Need-returns invariant_loop decreases_loop
-returns c = λ b k.
+returns-then-walk-ne0 : tie.Need-returns-then-walk-ne0 invariant-loop-i decreases-loop-i
+returns-then-walk-ne0 c = λ b k.
     let at = at_step c.before in
     let turn = at_turn (arc_read at) in
     let s = start (opened turn) in
-    let g = turn.loop.inv.0 b k in
-    let out = at.take_step.last.1.1.1.1 in
-    serving_full s.args.string.now (table_of s) (unpacked (key_of s)) g (arc_read at).before.loop-test.taken (step_of at)
-    (taken_here (at_pack at)) at.take_step.result out.0 out.1.0 out.1.1.0 out.1.1.1.0 out.1.1.1.1.0
-    (went at g.sofar g.walked) c.if4.true
+    let g = turn.loop-i.invariant.0 b k in
+    let out = at.take_step-walk.new in
+    serving_full s.args.string.now (table_of s) (unpacked (key_of s)) g (arc_read at).before.loop-i-test.true (step_of at)
+    (taken_here (at_pack at)) at.take_step-walk.result out.table out.origins out.states out.heads out.links
+    (went at g.sofar g.walked) c.if-walk-ne0.true
 
-loop_less_2 : tie.Need-loop-smaller-2 invariant_loop decreases_loop
-loop_less_2 c = omega (arith, (arc_read (at_step c.before)).before.loop-test.taken)
+loop-i-smaller : tie.Need-loop-i-smaller invariant-loop-i decreases-loop-i
+loop-i-smaller c = omega (arith, (arc_read (at_step c.before)).before.loop-i-test.true)
 
-loop_again_2 : tie.Need-loop-preserved-2 invariant_loop decreases_loop
-loop_again_2 c =
+loop-i-preserved : tie.Need-loop-i-preserved invariant-loop-i decreases-loop-i
+loop-i-preserved c =
     let at = at_step c.before in
     let turn = at_turn (arc_read at) in
     let s = start (opened turn) in
-    let out = at.take_step.last.1.1.1.1 in
-    let kept = at.take_step.kept.1.1.1.1 in (
+    let out = at.take_step-walk.new in
+    let kept = at.take_step-walk.auto in (
       λ b k.
-          let g = turn.loop.inv.0 b k in
-          serving_next s.args.string.now (table_of s) (unpacked (key_of s)) g (arc_read at).before.loop-test.taken (step_of at)
-          (taken_here (at_pack at)) at.take_step.result out.0 out.1.0 out.1.1.0 out.1.1.1.0 out.1.1.1.1.0
-          (went at g.sofar g.walked) c.if4.false,
-      kept.0 ∙ turn.loop.inv.1,
-      kept.1.0 ∙ turn.loop.inv.2,
-      kept.1.1.0 ∙ turn.loop.inv.3,
-      omega (arith, turn.loop.inv.4),
+          let g = turn.loop-i.invariant.0 b k in
+          serving_next s.args.string.now (table_of s) (unpacked (key_of s)) g (arc_read at).before.loop-i-test.true (step_of at)
+          (taken_here (at_pack at)) at.take_step-walk.result out.table out.origins out.states out.heads out.links
+          (went at g.sofar g.walked) c.if-walk-ne0.false,
+      kept.table ∙ turn.loop-i.invariant.1,
+      kept.origins ∙ turn.loop-i.invariant.2,
+      kept.states ∙ turn.loop-i.invariant.3,
+      omega (arith, turn.loop-i.invariant.4),
     )
 
-same_length_4 : tie.Need-same-length-4 invariant_loop decreases_loop
-same_length_4 c = c.before.loop.invariant.1
+shape_of-table : tie.Need-shape_of-table invariant-loop-i decreases-loop-i
+shape_of-table c = c.before.loop-i.invariant.1
 
-same_length_5 : tie.Need-same-length-5 invariant_loop decreases_loop
-same_length_5 c = c.before.loop.invariant.2
+shape_of-origins : tie.Need-shape_of-origins invariant-loop-i decreases-loop-i
+shape_of-origins c = c.before.loop-i.invariant.2
 
-same_length_6 : tie.Need-same-length-6 invariant_loop decreases_loop
-same_length_6 c = c.before.loop.invariant.3
+shape_of-states : tie.Need-shape_of-states invariant-loop-i decreases-loop-i
+shape_of-states c = c.before.loop-i.invariant.3
 
-returns_2 : tie.Need-returns-2 invariant_loop decreases_loop
-returns_2 c = λ b k.
+returns : tie.Need-returns invariant-loop-i decreases-loop-i
+returns c = λ b k.
     let s = start (opened c.before) in
-    serving_stop s.args.string.now (table_of s) (unpacked (key_of s)) (c.before.loop.invariant.0 b k) c.loop-test.false
+    serving_stop s.args.string.now (table_of s) (unpacked (key_of s)) (c.before.loop-i.invariant.0 b k) c.loop-i-test.false
 
 pub expand_state_spec : {M : Type 1} → statement M
 expand_state_spec =
     tie.close
     (tie.spec
-    invariant_loop
-    decreases_loop
-    mul_key
-    slice_read_key
-    unpack_requires
-    cast_q
-    cast_symbol_at
-    symbol_at_requires
-    add_end
-    mul_end
-    element_copy_out_end
-    cast_end
-    mul_i
-    element_copy_out_i
-    cast_i
-    label_at_requires
-    loop_holds
-    arc_of_requires
-    add_i
-    loop_less
-    loop_again
-    passed_requires
-    cast_t41
-    moved_requires
-    add_pack
-    cast_pack
-    pack_requires
-    take_step_requires
-    same_length
-    same_length_2
-    same_length_3
-    returns
-    loop_less_2
-    loop_again_2
-    same_length_4
-    same_length_5
-    same_length_6
-    returns_2)
+    invariant-loop-i
+    decreases-loop-i
+    offset_bounds-states-source
+    bounds-states-source
+    unpack-x-requires
+    overflow_cast-q
+    overflow_cast-position
+    symbol_at-symbol-requires
+    overflow_add-end
+    offset_bounds-index-q
+    bounds-index-q
+    overflow_cast-end
+    offset_bounds-index-q-2
+    bounds-index-q-2
+    overflow_cast-i
+    label_at-label-requires
+    loop-i-init
+    arc_of-a-requires
+    overflow_add-i
+    loop-i-smaller-then-input-ne0
+    loop-i-preserved-then-input-ne0
+    passed-output-requires
+    overflow_cast-step
+    moved-requires
+    overflow_add-position
+    overflow_cast-a
+    pack-to-requires
+    take_step-walk-requires
+    shape_of-table-then-walk-ne0
+    shape_of-origins-then-walk-ne0
+    shape_of-states-then-walk-ne0
+    returns-then-walk-ne0
+    loop-i-smaller
+    loop-i-preserved
+    shape_of-table
+    shape_of-origins
+    shape_of-states
+    returns)

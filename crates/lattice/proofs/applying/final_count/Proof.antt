@@ -6,81 +6,81 @@ use Rattle.lattice.proofs.KeyFinals.{FinalsCounted, counting_first, counting_non
 use Rattle.lattice.proofs.applying.final_count.Statement.{statement}
 use Rattle.lattice.proofs.applying.final_count.Tie as tie
 
-abbrev invariant_loop : tie.invariant_loop
-invariant_loop codes last states count finals₀ s₀ finals s = FinalsCounted codes last states count finals s
+abbrev invariant-loop-s : tie.invariant-loop-s
+invariant-loop-s codes last states count finals₀ s₀ finals s = FinalsCounted codes last states count finals s
 
-abbrev decreases_loop : tie.decreases_loop
-decreases_loop codes last states count finals₀ s₀ finals s = count - s
+abbrev decreases-loop-s : tie.decreases-loop-s
+decreases-loop-s codes last states count finals₀ s₀ finals s = count - s
 
 -- Places to look back to.
-abbrev turn : tie.After-code-of invariant_loop decreases_loop → tie.In-loop invariant_loop decreases_loop
+abbrev turn : tie.After-code_of-code invariant-loop-s decreases-loop-s → tie.In-loop-s invariant-loop-s decreases-loop-s
 turn c = c.before.before
 
-abbrev start : tie.In-loop invariant_loop decreases_loop → tie.Start invariant_loop decreases_loop
+abbrev start : tie.In-loop-s invariant-loop-s decreases-loop-s → tie.Start invariant-loop-s decreases-loop-s
 start c = c.before.before.before
 
-loop_holds : tie.Need-loop-init invariant_loop decreases_loop
-loop_holds c = let x = c.before.args in counting_first x.codes.now x.last x.states.now x.count
+loop-s-init : tie.Need-loop-s-init invariant-loop-s decreases-loop-s
+loop-s-init c = let x = c.before.args in counting_first x.codes.now x.last x.states.now x.count
 
-mul_code_of : tie.Need-overflow-mul-code-of invariant_loop decreases_loop
-mul_code_of c = omega arith
+offset_bounds-states-s : tie.Need-offset_bounds-states-s invariant-loop-s decreases-loop-s
+offset_bounds-states-s c = omega arith
 
-shared_slice_read_code_of : tie.Need-shared-slice-read-code-of invariant_loop decreases_loop
-shared_slice_read_code_of c = omega arith
+bounds-states-s : tie.Need-bounds-states-s invariant-loop-s decreases-loop-s
+bounds-states-s c = omega arith
 
-code_of_requires : tie.Need-code-of-requires invariant_loop decreases_loop
-code_of_requires c κs = search rules
+code_of-code-requires : tie.Need-code_of-code-requires invariant-loop-s decreases-loop-s
+code_of-code-requires c κs = search rules
 
-add_s : tie.Need-overflow-add-s invariant_loop decreases_loop
-add_s c = omega arith
+overflow_add-s : tie.Need-overflow_add-s invariant-loop-s decreases-loop-s
+overflow_add-s c = omega arith
 
-add_finals : tie.Need-overflow-add-finals invariant_loop decreases_loop
-add_finals c = let t = turn c.before in omega (arith, t.before.loop.inv.few, t.loop-test.taken, (start t).pre.1)
+overflow_add-finals : tie.Need-overflow_add-finals invariant-loop-s decreases-loop-s
+overflow_add-finals c = let t = turn c.before in omega (arith, t.before.loop-s.invariant.few, t.loop-s-test.true, (start t).requires.1)
 
-loop_less : tie.Need-loop-smaller invariant_loop decreases_loop
-loop_less c = omega (arith, (turn c.before).loop-test.taken)
+loop-s-smaller-then-code-ne0 : tie.Need-loop-s-smaller-then-code-ne0 invariant-loop-s decreases-loop-s
+loop-s-smaller-then-code-ne0 c = omega (arith, (turn c.before).loop-s-test.true)
 
-loop_again : tie.Need-loop-preserved invariant_loop decreases_loop
-loop_again c =
+loop-s-preserved-then-code-ne0 : tie.Need-loop-s-preserved-then-code-ne0 invariant-loop-s decreases-loop-s
+loop-s-preserved-then-code-ne0 c =
     let t = turn c.before in
-    let h = t.before.loop in
+    let h = t.before.loop-s in
     let x = (start t).args in
-    let code = c.before.code_of in
-    counting_more x.codes.now x.last x.states.now x.count h.finals h.s code.result t.loop-test.taken
-    (start t).pre.0 code.ensures h.inv c.if1.true
+    let code = c.before.code_of-code in
+    counting_more x.codes.now x.last x.states.now x.count h.finals h.s code.result t.loop-s-test.true
+    (start t).requires.0 code.ensures h.invariant c.if-code-ne0.true
 
-loop_less_2 : tie.Need-loop-smaller-2 invariant_loop decreases_loop
-loop_less_2 c = omega (arith, (turn c.before).loop-test.taken)
+loop-s-smaller : tie.Need-loop-s-smaller invariant-loop-s decreases-loop-s
+loop-s-smaller c = omega (arith, (turn c.before).loop-s-test.true)
 
-loop_again_2 : tie.Need-loop-preserved-2 invariant_loop decreases_loop
-loop_again_2 c =
+loop-s-preserved : tie.Need-loop-s-preserved invariant-loop-s decreases-loop-s
+loop-s-preserved c =
     let t = turn c.before in
-    let h = t.before.loop in
+    let h = t.before.loop-s in
     let x = (start t).args in
-    let code = c.before.code_of in
-    counting_none x.codes.now x.last x.states.now x.count h.finals h.s code.result t.loop-test.taken
-    (start t).pre.0 code.ensures h.inv c.if1.false
+    let code = c.before.code_of-code in
+    counting_none x.codes.now x.last x.states.now x.count h.finals h.s code.result t.loop-s-test.true
+    (start t).requires.0 code.ensures h.invariant c.if-code-ne0.false
 
-returns : tie.Need-returns invariant_loop decreases_loop
+returns : tie.Need-returns invariant-loop-s decreases-loop-s
 returns c =
-    let h = c.before.loop in
+    let h = c.before.loop-s in
     let x = c.before.before.before.args in
-    counting_stop x.codes.now x.last x.states.now x.count h.finals h.s c.loop-test.false h.invariant
+    counting_stop x.codes.now x.last x.states.now x.count h.finals h.s c.loop-s-test.false h.invariant
 
 pub final_count_spec : {M : Type 1} → statement M
 final_count_spec =
     tie.close
     (tie.spec
-    invariant_loop
-    decreases_loop
-    loop_holds
-    mul_code_of
-    shared_slice_read_code_of
-    code_of_requires
-    add_s
-    add_finals
-    loop_less
-    loop_again
-    loop_less_2
-    loop_again_2
+    invariant-loop-s
+    decreases-loop-s
+    loop-s-init
+    offset_bounds-states-s
+    bounds-states-s
+    code_of-code-requires
+    overflow_add-s
+    overflow_add-finals
+    loop-s-smaller-then-code-ne0
+    loop-s-preserved-then-code-ne0
+    loop-s-smaller
+    loop-s-preserved
     returns)

@@ -5,51 +5,51 @@ use Rattle.lattice.proofs.Symbols.{Testing, testing_first, testing_next, testing
 use Rattle.lattice.proofs.applying.string_ok.Statement.{statement}
 use Rattle.lattice.proofs.applying.string_ok.Tie as tie
 
-abbrev invariant_loop : tie.invariant_loop
-invariant_loop string n good₀ i₀ good i = Testing string good i
+abbrev invariant-loop-i : tie.invariant-loop-i
+invariant-loop-i string n good₀ i₀ good i = Testing string good i
 
-abbrev decreases_loop : tie.decreases_loop
-decreases_loop string n good₀ i₀ good i = n - i
+abbrev decreases-loop-i : tie.decreases-loop-i
+decreases-loop-i string n good₀ i₀ good i = n - i
 
-returns : tie.Need-returns invariant_loop decreases_loop
-returns c = string_long c.before.args.string.now c.if1.true
+returns-then-n-gt-MAX_SYMBOLS : tie.Need-returns-then-n-gt-MAX_SYMBOLS invariant-loop-i decreases-loop-i
+returns-then-n-gt-MAX_SYMBOLS c = string_long c.before.args.string.now c.if-n-gt-MAX_SYMBOLS.true
 
-loop_holds : tie.Need-loop-init invariant_loop decreases_loop
-loop_holds c = testing_first c.before.args.string.now
+loop-i-init : tie.Need-loop-i-init invariant-loop-i decreases-loop-i
+loop-i-init c = testing_first c.before.args.string.now
 
-mul_c : tie.Need-overflow-mul-c invariant_loop decreases_loop
-mul_c c = search rules
+offset_bounds-string-i : tie.Need-offset_bounds-string-i invariant-loop-i decreases-loop-i
+offset_bounds-string-i c = search rules
 
-shared_slice_read_c : tie.Need-shared-slice-read-c invariant_loop decreases_loop
-shared_slice_read_c c = search rules
+bounds-string-i : tie.Need-bounds-string-i invariant-loop-i decreases-loop-i
+bounds-string-i c = search rules
 
-add_i : tie.Need-overflow-add-i invariant_loop decreases_loop
-add_i c = search rules
+overflow_add-i : tie.Need-overflow_add-i invariant-loop-i decreases-loop-i
+overflow_add-i c = search rules
 
-loop_less : tie.Need-loop-smaller invariant_loop decreases_loop
-loop_less c = search rules
+loop-i-smaller : tie.Need-loop-i-smaller invariant-loop-i decreases-loop-i
+loop-i-smaller c = search rules
 
-loop_again : tie.Need-loop-preserved invariant_loop decreases_loop
-loop_again c =
-    let h = c.before.before.loop in
-    testing_next c.before.before.before.before.args.string.now h.good h.i c.before.loop-test.true h.invariant
+loop-i-preserved : tie.Need-loop-i-preserved invariant-loop-i decreases-loop-i
+loop-i-preserved c =
+    let h = c.before.before.loop-i in
+    testing_next c.before.before.before.before.args.string.now h.good h.i c.before.loop-i-test.true h.invariant
 
-returns_2 : tie.Need-returns-2 invariant_loop decreases_loop
-returns_2 c =
-    let h = c.before.loop in
-    testing_stop c.before.before.before.args.string.now h.good h.i c.before.before.if1.false c.loop-test.false h.invariant
+returns : tie.Need-returns invariant-loop-i decreases-loop-i
+returns c =
+    let h = c.before.loop-i in
+    testing_stop c.before.before.before.args.string.now h.good h.i c.before.before.if-n-gt-MAX_SYMBOLS.false c.loop-i-test.false h.invariant
 
 pub string_ok_spec : {M : Type 1} → statement M
 string_ok_spec =
     tie.close
     (tie.spec
-    invariant_loop
-    decreases_loop
-    returns
-    loop_holds
-    mul_c
-    shared_slice_read_c
-    add_i
-    loop_less
-    loop_again
-    returns_2)
+    invariant-loop-i
+    decreases-loop-i
+    returns-then-n-gt-MAX_SYMBOLS
+    loop-i-init
+    offset_bounds-string-i
+    bounds-string-i
+    overflow_add-i
+    loop-i-smaller
+    loop-i-preserved
+    returns)

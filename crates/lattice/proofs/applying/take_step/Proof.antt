@@ -18,124 +18,124 @@ use Rattle.lattice.proofs.applying.take_step.Statement.{statement}
 use Rattle.lattice.proofs.applying.take_step.Tie as tie
 
 -- Places to look back to.
-abbrev start : tie.After-find → tie.Start
-start c = c.before.before.before.before.before.before.before
+abbrev start : tie.After-find-number → tie.Start
+start c = c.before.before.before.before
 
-abbrev at_find : tie.Else1 → tie.After-find
+abbrev at_find : tie.Else-number-eq-MAX_STATES → tie.After-find-number
 at_find c = c.before
 
-abbrev in_new : tie.After-store-new → tie.Else1
+abbrev in_new : tie.After-store_new → tie.Else-number-eq-MAX_STATES
 in_new c = c.before.before.before.before
 
-abbrev at_store : tie.Joined2 → tie.After-store-new
+abbrev at_store : tie.Joined-arcs-lt-MAX_ARCS → tie.After-store_new
 at_store c = c.before.before.before
 
-abbrev found : tie.Joined2 → tie.After-find
+abbrev found : tie.Joined-arcs-lt-MAX_ARCS → tie.After-find-number
 found c = at_find (in_new (at_store c))
 
-abbrev at_record : tie.After-slice-known5 → tie.After-record-arc
+abbrev at_record : tie.After-slice_known-5-1 → tie.After-record_arc
 at_record c = c.before.before
 
-abbrev joined : tie.After-slice-known5 → tie.Joined2
+abbrev joined : tie.After-slice_known-5-1 → tie.Joined-arcs-lt-MAX_ARCS
 joined c = (at_record c).before.before.before
 
 abbrev start_of_find : tie.After-find-arg3 → tie.Start
 start_of_find c = c.before.before.before.before.before.before
 
-find_requires : tie.Need-find-requires
-find_requires c κs =
+find-number-requires : tie.Need-find-number-requires
+find-number-requires c κs =
     let k = (start_of_find c).requires.1 in
     (k.0.keys, k.1.chained, sym k.1.states_are)
 
-same_length : tie.Need-same-length
-same_length c = search rules
+shape_of-states-then-number-eq-MAX_STATES : tie.Need-shape_of-states-then-number-eq-MAX_STATES
+shape_of-states-then-number-eq-MAX_STATES c = search rules
+
+returns-then-number-eq-MAX_STATES : tie.Need-returns-then-number-eq-MAX_STATES
+unfolding arc_keyed
+returns-then-number-eq-MAX_STATES c = λ b k.
+    let at = c.before in
+    let a = (start at).args in
+    went_full (λ e. omega arith)
+    (taken_over a.a.source at.find-number.result (arc_keyed a.a a.i a.key) k (at.find-number.ensures b.keys k.chained (sym k.states_are))
+    c.if-number-eq-MAX_STATES.true)
+
+-- Fewer than 1,024 keys, or the key is one of them.
+number_lt : (c : tie.Else-number-eq-MAX_STATES) → (at_find c).find-number.result < max_states
+number_lt c =
+    let s = start (at_find c) in
+    let k = s.requires.1 in
+    let e = (at_find c).find-number.ensures k.0.keys k.1.chained (sym k.1.states_are) in
+    omega (arith, e, place_le s.args.key k.0.keys, k.1.chained.few, c.if-number-eq-MAX_STATES.false)
+
+store_new-requires : tie.Need-store_new-requires
+store_new-requires c κs = let e = c.before.before.before in (number_lt e, (start (at_find e)).requires.1.1.chained.room)
+
+overflow_cast-origins : tie.Need-overflow_cast-origins
+overflow_cast-origins c = search rules
+
+offset_bounds-origins-arcs : tie.Need-offset_bounds-origins-arcs
+offset_bounds-origins-arcs c = search rules
+
+bounds-origins-arcs : tie.Need-bounds-origins-arcs
+bounds-origins-arcs c = search rules
+
+record_arc-requires : tie.Need-record_arc-requires
+record_arc-requires c κs = search rules
+
+shape_of-table : tie.Need-shape_of-table
+shape_of-table c = search rules
+
+-- The origin is written where there is room for the arc.
+traced : (c : tie.Joined-arcs-lt-MAX_ARCS)
+    → c.if-arcs-lt-MAX_ARCS.origins
+    ≡ traced_by 1 (start (found c)).args.w.arcs ((start (found c)).args.i ∷ []) (start (found c)).args.origins.now
+traced c =
+    let a = (start (found c)).args in
+    ⊎_elim (λ w. traced_one a.w.arcs a.i a.origins.now c.if-arcs-lt-MAX_ARCS.origins w.0.taken w.1)
+    (λ w. traced_none a.w.arcs (a.i ∷ []) a.origins.now c.if-arcs-lt-MAX_ARCS.origins w.0.left w.1) c.if-arcs-lt-MAX_ARCS.branch
+
+shape_of-origins : tie.Need-shape_of-origins
+shape_of-origins c =
+    let at = joined c in
+    let a = (start (found at)).args in
+    ⊎_elim (λ w. ap length w.1 ∙ length-set a.origins.now a.w.arcs a.i) (λ w. ap length w.1) at.if-arcs-lt-MAX_ARCS.came
+
+shape_of-states : tie.Need-shape_of-states
+shape_of-states c = search rules
 
 returns : tie.Need-returns
 unfolding arc_keyed
 returns c = λ b k.
-    let at = c.before in
-    let a = (start at).args in
-    went_full (λ e. omega arith)
-    (taken_over a.a.source at.find.result (arc_keyed a.a a.i a.key) k (at.find.ensures b.keys k.chained (sym k.states_are))
-    c.if1.true)
-
--- Fewer than 1,024 keys, or the key is one of them.
-number_lt : (c : tie.Else1) → (at_find c).find.result < max_states
-number_lt c =
-    let s = start (at_find c) in
-    let k = s.pre.1 in
-    let e = (at_find c).find.ensures k.0.keys k.1.chained (sym k.1.states_are) in
-    omega (arith, e, place_le s.args.key k.0.keys, k.1.chained.few, c.if1.false)
-
-store_new_requires : tie.Need-store-new-requires
-store_new_requires c κs = let e = c.before.before.before in (number_lt e, (start (at_find e)).requires.1.1.chained.room)
-
-cast_origins : tie.Need-overflow-cast-origins
-cast_origins c = search rules
-
-mul_origins : tie.Need-overflow-mul-origins
-mul_origins c = search rules
-
-slice_write_origins : tie.Need-slice-write-origins
-slice_write_origins c = search rules
-
-cast_t27 : tie.Need-overflow-cast-t27
-cast_t27 c = omega (arith, number_lt (in_new (at_store c)))
-
-record_arc_requires : tie.Need-record-arc-requires
-record_arc_requires c κs = search rules
-
-same_length_2 : tie.Need-same-length-2
-same_length_2 c = search rules
-
--- The origin is written where there is room for the arc.
-traced : (c : tie.Joined2)
-    → c.if2.origins
-    ≡ traced_by 1 (start (found c)).args.w.arcs ((start (found c)).args.i ∷ []) (start (found c)).args.origins.now
-traced c =
-    let a = (start (found c)).args in
-    ⊎_elim (λ w. traced_one a.w.arcs a.i a.origins.now c.if2.origins w.0.taken w.1)
-    (λ w. traced_none a.w.arcs (a.i ∷ []) a.origins.now c.if2.origins w.0.left w.1) c.if2.branch
-
-same_length_3 : tie.Need-same-length-3
-same_length_3 c =
     let at = joined c in
     let a = (start (found at)).args in
-    ⊎_elim (λ w. ap length w.1 ∙ length-set a.origins.now a.w.arcs a.i) (λ w. ap length w.1) at.if2.came
-
-same_length_4 : tie.Need-same-length-4
-same_length_4 c = search rules
-
-returns_2 : tie.Need-returns-2
-unfolding arc_keyed
-returns_2 c = λ b k.
-    let at = joined c in
-    let a = (start (found at)).args in
-    let find = (found at).find in
-    let store = (at_store at).store-new in
-    let put = (at_record c).record-arc in
-    let weight = to_z-of_z {w = w32} {z = a.a.weight} (record { sfits = (at_record c).before.before.struct_told.given.1.1.1.1.0.1 }) in
+    let find = (found at).find-number in
+    let store = (at_store at).store_new in
+    let put = (at_record c).record_arc in
+    let weight = to_z-of_z {w = w32} {z = a.a.weight} (record { sfits = (at_record c).before.before.struct_told-1.given.1.1.1.1.0.1 }) in
     let is = find.ensures b.keys k.chained (sym k.states_are) in
     let stored = store.ensures b.keys (sym k.states_are) is k.chained in
     went_done
-    (walked_next 1 b a.a.source find.result store.result (arc_keyed a.a a.i a.key) a.w put.result a.table.now put.last.0
-    a.origins.now at.if2.origins a.states.now store.last.0 a.heads.now store.last.1.0 a.links.now store.last.1.1.0 k is
+    (walked_next 1 b a.a.source find.result store.result (arc_keyed a.a a.i a.key) a.w put.result a.table.now put.new.table
+    a.origins.now at.if-arcs-lt-MAX_ARCS.origins a.states.now store.new.states a.heads.now store.new.heads a.links.now store.new.links k is
     stored.0 stored.1 refl (traced at) (rw weight at put.ensures))
+
+overflow_cast-made : tie.Need-overflow_cast-made
+overflow_cast-made c = search rules
 
 pub take_step_spec : {M : Type 1} → statement M
 take_step_spec =
     tie.close
     (tie.spec
-    find_requires
-    same_length
-    returns
-    store_new_requires
-    cast_origins
-    mul_origins
-    slice_write_origins
-    cast_t27
-    record_arc_requires
-    same_length_2
-    same_length_3
-    same_length_4
-    returns_2)
+    find-number-requires
+    shape_of-states-then-number-eq-MAX_STATES
+    returns-then-number-eq-MAX_STATES
+    store_new-requires
+    overflow_cast-origins
+    offset_bounds-origins-arcs
+    bounds-origins-arcs
+    overflow_cast-made
+    record_arc-requires
+    shape_of-table
+    shape_of-origins
+    shape_of-states
+    returns)

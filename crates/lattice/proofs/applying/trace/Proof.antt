@@ -8,91 +8,91 @@ use Rattle.lattice.proofs.Tracing.{Tracing, tracing_first, tracing_here, tracing
 use Rattle.lattice.proofs.applying.trace.Statement.{statement}
 use Rattle.lattice.proofs.applying.trace.Tie as tie
 
-abbrev invariant_loop : tie.invariant_loop
-invariant_loop origins₀ count arcs i₀ origins i = Tracing arcs count origins₀ origins i
+abbrev invariant-loop-i : tie.invariant-loop-i
+invariant-loop-i origins₀ count arcs i₀ origins i = Tracing arcs count origins₀ origins i
 
-abbrev decreases_loop : tie.decreases_loop
-decreases_loop origins₀ count arcs i₀ origins i = count - i
+abbrev decreases-loop-i : tie.decreases-loop-i
+decreases-loop-i origins₀ count arcs i₀ origins i = count - i
 
 -- What is read is the number of an arc: it is not yet changed.
-arc_number : (c : tie.In-loop invariant_loop decreases_loop) → get_or c.before.loop.origins c.before.loop.i 0 < max_arcs
+arc_number : (c : tie.In-loop-i invariant-loop-i decreases-loop-i) → get_or c.before.loop-i.origins c.before.loop-i.i 0 < max_arcs
 arc_number c =
-    let h = c.before.loop in
+    let h = c.before.loop-i in
     let start = c.before.before in
     let x = start.args in
-    let less = c.loop-test.true in
+    let less = c.loop-i-test.true in
     omega (
       arith,
       tracing_here x.arcs.now x.count x.origins.now h.origins h.i h.invariant start.requires.0 less,
       start.requires.1 h.i less,
     )
 
-loop_holds : tie.Need-loop-init invariant_loop decreases_loop
-loop_holds c = tracing_first c.args.arcs.now c.args.count c.args.origins.now
+loop-i-init : tie.Need-loop-i-init invariant-loop-i decreases-loop-i
+loop-i-init c = tracing_first c.args.arcs.now c.args.count c.args.origins.now
 
-mul_j : tie.Need-overflow-mul-j invariant_loop decreases_loop
-mul_j c = omega arith
+offset_bounds-origins-i : tie.Need-offset_bounds-origins-i invariant-loop-i decreases-loop-i
+offset_bounds-origins-i c = omega arith
 
-slice_read_j : tie.Need-slice-read-j invariant_loop decreases_loop
-slice_read_j c = omega (arith, c.before.before.loop.invariant.kept, c.before.loop-test.true, c.before.before.before.requires.0)
+bounds-origins-i : tie.Need-bounds-origins-i invariant-loop-i decreases-loop-i
+bounds-origins-i c = omega (arith, c.before.before.loop-i.invariant.kept, c.before.loop-i-test.true, c.before.before.before.requires.0)
 
-cast_j : tie.Need-overflow-cast-j invariant_loop decreases_loop
-cast_j c = omega (arith, c.slice-known.given c.before.before.loop.i)
+overflow_cast-j : tie.Need-overflow_cast-j invariant-loop-i decreases-loop-i
+overflow_cast-j c = omega (arith, c.slice_known-1.given c.before.before.loop-i.i)
 
-mul_origins : tie.Need-overflow-mul-origins invariant_loop decreases_loop
-mul_origins c = omega (arith, arc_number c.before)
+offset_bounds-arcs-j : tie.Need-offset_bounds-arcs-j invariant-loop-i decreases-loop-i
+offset_bounds-arcs-j c = omega (arith, arc_number c.before)
 
-element_copy_out_origins : tie.Need-element-copy-out-origins invariant_loop decreases_loop
-element_copy_out_origins c = omega (arith, arc_number c.before)
+bounds-arcs-j : tie.Need-bounds-arcs-j invariant-loop-i decreases-loop-i
+bounds-arcs-j c = omega (arith, arc_number c.before.before)
 
-mul_origins_2 : tie.Need-overflow-mul-origins-2 invariant_loop decreases_loop
-mul_origins_2 c = omega arith
+offset_bounds-origins-i-in-loop-i : tie.Need-offset_bounds-origins-i-in-loop-i invariant-loop-i decreases-loop-i
+offset_bounds-origins-i-in-loop-i c = omega arith
 
-slice_write_origins : tie.Need-slice-write-origins invariant_loop decreases_loop
-slice_write_origins c =
+bounds-origins-i-in-loop-i : tie.Need-bounds-origins-i-in-loop-i invariant-loop-i decreases-loop-i
+bounds-origins-i-in-loop-i c =
     let turn = c.before.before in
-    omega (arith, turn.before.loop.invariant.kept, turn.loop-test.true, turn.before.before.requires.0)
+    omega (arith, turn.before.loop-i.invariant.kept, turn.loop-i-test.true, turn.before.before.requires.0)
 
-add_i : tie.Need-overflow-add-i invariant_loop decreases_loop
-add_i c = omega arith
+overflow_add-i : tie.Need-overflow_add-i invariant-loop-i decreases-loop-i
+overflow_add-i c = omega arith
 
-loop_less : tie.Need-loop-smaller invariant_loop decreases_loop
-loop_less c = omega arith
+loop-i-smaller : tie.Need-loop-i-smaller invariant-loop-i decreases-loop-i
+loop-i-smaller c = omega arith
 
-loop_again : tie.Need-loop-preserved invariant_loop decreases_loop
-loop_again c =
-    let h = c.before.before.before.loop in
+loop-i-preserved : tie.Need-loop-i-preserved invariant-loop-i decreases-loop-i
+loop-i-preserved c =
+    let h = c.before.before.before.loop-i in
     let start = c.before.before.before.before in
     let x = start.args in
-    let less = c.before.before.loop-test.true in
+    let less = c.before.before.loop-i-test.true in
     tracing_next x.arcs.now x.count x.origins.now h.origins h.i h.invariant start.requires.0 less _ refl
     (length-set h.origins h.i _)
 
-same_length : tie.Need-same-length invariant_loop decreases_loop
-same_length c = c.before.loop.invariant.kept
+shape_of-origins : tie.Need-shape_of-origins invariant-loop-i decreases-loop-i
+shape_of-origins c = c.before.loop-i.invariant.kept
 
-returns : tie.Need-returns invariant_loop decreases_loop
+returns : tie.Need-returns invariant-loop-i decreases-loop-i
 returns c =
-    let h = c.before.loop in
+    let h = c.before.loop-i in
     let x = c.before.before.args in
-    tracing_stop x.arcs.now x.count x.origins.now h.origins h.i h.invariant c.before.before.requires.0 c.loop-test.false
+    tracing_stop x.arcs.now x.count x.origins.now h.origins h.i h.invariant c.before.before.requires.0 c.loop-i-test.false
 
 pub trace_spec : {M : Type 1} → statement M
 trace_spec =
     tie.close
     (tie.spec
-    invariant_loop
-    decreases_loop
-    loop_holds
-    mul_j
-    slice_read_j
-    cast_j
-    mul_origins
-    element_copy_out_origins
-    mul_origins_2
-    slice_write_origins
-    add_i
-    loop_less
-    loop_again
-    same_length
+    invariant-loop-i
+    decreases-loop-i
+    loop-i-init
+    offset_bounds-origins-i
+    bounds-origins-i
+    overflow_cast-j
+    offset_bounds-arcs-j
+    bounds-arcs-j
+    offset_bounds-origins-i-in-loop-i
+    bounds-origins-i-in-loop-i
+    overflow_add-i
+    loop-i-smaller
+    loop-i-preserved
+    shape_of-origins
     returns)

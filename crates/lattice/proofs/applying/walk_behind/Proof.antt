@@ -10,51 +10,51 @@ use Rattle.lattice.proofs.applying.walk_behind.Statement.{statement}
 use Rattle.lattice.proofs.applying.walk_behind.Tie as tie
 
 -- Places to look back to.
-abbrev entry : tie.After-walk-all-arg2 → tie.Start
+abbrev entry : tie.After-walk_all-arg-2-1 → tie.Start
 entry c = c.before.before.before.before.before.before.before.before
 
-abbrev walked : tie.After-slice-known6 → tie.After-walk-all
+abbrev walked : tie.After-slice_known-6-1 → tie.After-walk_all
 walked c = c.before.before.before.before.before.before
 
-sub_part : tie.Need-overflow-sub-part
-sub_part c = search rules
+slice_bounds-part-count : tie.Need-slice_bounds-part-count
+slice_bounds-part-count c = search rules
 
-part_part_start : tie.Need-slice-bounds-part-start
-part_part_start c = search rules
+slice_bounds-part-start : tie.Need-slice_bounds-part-start
+slice_bounds-part-start c = search rules
 
-part_part_end : tie.Need-slice-bounds-part-end
-part_part_end c = search rules
+slice_bounds-part-end : tie.Need-slice_bounds-part-end
+slice_bounds-part-end c = search rules
 
-walk_all_requires : tie.Need-walk-all-requires
-walk_all_requires c κs =
+walk_all-requires : tie.Need-walk_all-requires
+walk_all-requires c κs =
     let pre = (entry c).requires in
     let table = (entry c).args.table.now in
     (pre.0, (omega (arith, ap length (part_to_end table arcs_place), length-drop arcs_place table, pre.1.0), pre.1.1, pre.1.2))
 
-same_length : tie.Need-same-length
-same_length c = search rules
+shape_of-table : tie.Need-shape_of-table
+shape_of-table c = search rules
 
-same_length_2 : tie.Need-same-length-2
-same_length_2 c = search rules
+shape_of-origins : tie.Need-shape_of-origins
+shape_of-origins c = search rules
 
-same_length_3 : tie.Need-same-length-3
-same_length_3 c = search rules
+shape_of-states : tie.Need-shape_of-states
+shape_of-states c = search rules
 
 returns : tie.Need-returns
 returns c =
     let walk = walked c in
     let s = entry walk.before in
-    says_behind 1 _ _ s.args.table.now _ _ _ _ _ _ arcs_place (omega (arith, s.pre.1.0)) refl walk.walk-all.ensures
+    says_behind 1 _ _ s.args.table.now _ _ _ _ _ _ arcs_place (omega (arith, s.requires.1.0)) refl walk.walk_all.ensures
 
 pub walk_behind_spec : {M : Type 1} → statement M
 walk_behind_spec =
     tie.close
     (tie.spec
-    sub_part
-    part_part_start
-    part_part_end
-    walk_all_requires
-    same_length
-    same_length_2
-    same_length_3
+    slice_bounds-part-count
+    slice_bounds-part-start
+    slice_bounds-part-end
+    walk_all-requires
+    shape_of-table
+    shape_of-origins
+    shape_of-states
     returns)

@@ -14,4 +14,7 @@ returns c =
     rw state
 
 pub unpack_spec : {M : Type 1} → statement M
-unpack_spec = tie.close (tie.spec returns)
+unpack_spec =
+    tie.close
+    (tie.spec
+    returns)

@@ -22,211 +22,211 @@ use Rattle.paths.proofs.Rested.{underway_rested}
 use Rattle.paths.proofs.counts.count_all.Statement.{statement}
 use Rattle.paths.proofs.counts.count_all.Tie as tie
 
-abbrev invariant_loop2 : tie.invariant_loop2
-invariant_loop2 table heads next waiting marks left₀ stack₀ counts₀ top₀ s whole cell₀ left stack counts top cell =
+abbrev invariant-loop-cell : tie.invariant-loop-cell
+invariant-loop-cell table heads next waiting marks left₀ stack₀ counts₀ top₀ s whole cell₀ left stack counts top cell =
     Releasing (decode table) marks s whole.value left stack top counts cell
 
-abbrev decreases_loop2 : tie.decreases_loop2
-decreases_loop2 table heads next waiting marks left₀ stack₀ counts₀ top₀ s whole cell₀ left stack counts top cell = link_of cell
+abbrev decreases-loop-cell : tie.decreases-loop-cell
+decreases-loop-cell table heads next waiting marks left₀ stack₀ counts₀ top₀ s whole cell₀ left stack counts top cell = link_of cell
 
-abbrev invariant_loop : tie.invariant_loop
-invariant_loop table heads next waiting marks₀ left₀ stack₀ counts₀ top₀ marks left stack counts top =
+abbrev invariant-loop-top : tie.invariant-loop-top
+invariant-loop-top table heads next waiting marks₀ left₀ stack₀ counts₀ top₀ marks left stack counts top =
     Underway (decode table) marks left stack top counts × Grown marks₀ marks
 
-abbrev decreases_loop : tie.decreases_loop
-decreases_loop table heads next waiting marks₀ left₀ stack₀ counts₀ top₀ marks left stack counts top = count (decode table).states (λ u. not (marked marks u))
+abbrev decreases-loop-top : tie.decreases-loop-top
+decreases-loop-top table heads next waiting marks₀ left₀ stack₀ counts₀ top₀ marks left stack counts top = count (decode table).states (λ u. not (marked marks u))
 
 -- The entry, with what is known of the bytes.
 abbrev Entry : Type 0
-Entry = tie.After-shared-slice-known invariant_loop2 decreases_loop2 invariant_loop decreases_loop
+Entry = tie.After-shared_slice_known-1 invariant-loop-cell decreases-loop-cell invariant-loop-top decreases-loop-top
 
-abbrev start : Entry → tie.Start invariant_loop2 decreases_loop2 invariant_loop decreases_loop
+abbrev start : Entry → tie.Start invariant-loop-cell decreases-loop-cell invariant-loop-top decreases-loop-top
 start c = c.before
 
 size : (c : Entry) → Sized (decode (start c).args.table.now)
 size c =
     let bs = (start c).args.table.now in
-    let bytes : Bytes bs = λ i. omega (arith, c.shared-slice-known.given i) in
+    let bytes : Bytes bs = λ i. omega (arith, c.shared_slice_known-1.given i) in
     sized bs bytes (start c).requires.0
 
 -- A turn of the outer loop, and the state on top.
 abbrev Turn : Type 0
-Turn = tie.In-loop invariant_loop2 decreases_loop2 invariant_loop decreases_loop
+Turn = tie.In-loop-top invariant-loop-cell decreases-loop-cell invariant-loop-top decreases-loop-top
 
 abbrev entry : Turn → Entry
 entry c = c.before.before
 
 abbrev state : Turn → ℕ
-state c = get_or c.before.loop.stack (c.before.loop.top - 1) 0
+state c = get_or c.before.loop-top.stack (c.before.loop-top.top - 1) 0
 
 waiting : (c : Turn)
-    → Underway (decode (start (entry c)).args.table.now) c.before.loop.marks c.before.loop.pending c.before.loop.stack
-    (c.before.loop.top - 1 + 1) c.before.loop.counts
+    → Underway (decode (start (entry c)).args.table.now) c.before.loop-top.marks c.before.loop-top.pending c.before.loop-top.stack
+    (c.before.loop-top.top - 1 + 1) c.before.loop-top.counts
 waiting c =
-    let one : c.before.loop.top - 1 + 1 ≡ c.before.loop.top = omega (arith, c.loop-test.true) in
-    rw one c.before.loop.invariant.0
+    let one : c.before.loop-top.top - 1 + 1 ≡ c.before.loop-top.top = omega (arith, c.loop-top-test.true) in
+    rw one c.before.loop-top.invariant.0
 
-top_of : (c : Turn) → (state c < (decode (start (entry c)).args.table.now).states) × (marked c.before.loop.marks (state c) ≡ false) × (state c < 1024)
+top_of : (c : Turn) → (state c < (decode (start (entry c)).args.table.now).states) × (marked c.before.loop-top.marks (state c) ≡ false) × (state c < 1024)
 top_of c =
     let t = decode (start (entry c)).args.table.now in
-    let l = c.before.loop in
+    let l = c.before.loop-top in
     let x = top_state t (size (entry c)) l.marks l.pending l.stack (l.top - 1) (state c) refl (waiting c).counting in
     (x.0, x.1, omega (arith, x.0, (size (entry c)).states))
 
-room : (c : Turn) → c.before.loop.top - 1 < 1024
-room c = omega (arith, c.loop-test.true, c.before.loop.invariant.0.counting.stacked.few, (size (entry c)).states)
+room : (c : Turn) → c.before.loop-top.top - 1 < 1024
+room c = omega (arith, c.loop-top-test.true, c.before.loop-top.invariant.0.counting.stacked.few, (size (entry c)).states)
 
-marks_room : (c : Turn) → state c < length c.before.loop.marks
-marks_room c = omega (arith, (top_of c).2, c.before.loop.invariant.0.counting.marks_long)
+marks_room : (c : Turn) → state c < length c.before.loop-top.marks
+marks_room c = omega (arith, (top_of c).2, c.before.loop-top.invariant.0.counting.marks_long)
 
 -- A turn of the inner loop, its cell taken apart.
 abbrev Inner : Type 0
-Inner = tie.After-link-of invariant_loop2 decreases_loop2 invariant_loop decreases_loop
+Inner = tie.After-link_of-link invariant-loop-cell decreases-loop-cell invariant-loop-top decreases-loop-top
 
-abbrev inner : Inner → tie.In-loop2 invariant_loop2 decreases_loop2 invariant_loop decreases_loop
+abbrev inner : Inner → tie.In-loop-cell invariant-loop-cell decreases-loop-cell invariant-loop-top decreases-loop-top
 inner c = c.before.before
 
-abbrev outer : tie.At-loop2 invariant_loop2 decreases_loop2 invariant_loop decreases_loop → Turn
-outer c = c.before.before.before.before
+abbrev outer : tie.At-loop-cell invariant-loop-cell decreases-loop-cell invariant-loop-top decreases-loop-top → Turn
+outer c = c.before.before.before.before.before.before.before
 
-abbrev added : tie.After-add invariant_loop2 decreases_loop2 invariant_loop decreases_loop → Inner
-added c = c.before.before.before
+abbrev added : tie.After-add invariant-loop-cell decreases-loop-cell invariant-loop-top decreases-loop-top → Inner
+added c = c.before.before.before.before
 
-parts : (c : Inner) → Parts c.before.state_of.result c.link_of.result (inner c).before.loop2.cell
-parts c = record { state_is = sym c.before.state_of.ensures; link_is = sym c.link_of.ensures }
+parts : (c : Inner) → Parts c.before.state_of-u.result c.link_of-link.result (inner c).before.loop-cell.cell
+parts c = record { state_is = sym c.before.state_of-u.ensures; link_is = sym c.link_of-link.ensures }
 
-source : (c : Inner) → c.before.state_of.result < 1024
+source : (c : Inner) → c.before.state_of-u.result < 1024
 source c =
     let i = inner c in
     let o = outer i.before in
-    let l = i.before.loop2 in
+    let l = i.before.loop-cell in
     let z = size (entry o) in
-    let below = releasing_source (decode (start (entry o)).args.table.now) z (set o.before.loop.marks (state o) true) (state o) _ l.pending
-    l.stack l.top l.counts l.cell l.inv i.loop2-test.taken (parts c) in
+    let below = releasing_source (decode (start (entry o)).args.table.now) z (set o.before.loop-top.marks (state o) true) (state o) _ l.pending
+    l.stack l.top l.counts l.cell l.invariant i.loop-cell-test.true (parts c) in
     omega (arith, below, z.states)
 
-link : (c : Inner) → (0 < c.link_of.result) × (c.link_of.result ≤ 3072)
+link : (c : Inner) → (0 < c.link_of-link.result) × (c.link_of-link.result ≤ 3072)
 link c =
     let i = inner c in
-    chain_link (size (entry (outer i.before))).arcs i.before.loop2.inv.chain (parts c) i.loop2-test.taken
+    chain_link (size (entry (outer i.before))).arcs i.before.loop-cell.invariant.chain (parts c) i.loop-cell-test.true
 
-loop_holds : tie.Need-loop-init invariant_loop2 decreases_loop2 invariant_loop decreases_loop
-loop_holds c = ((start c).requires.2, λ s m. m)
+loop-top-init : tie.Need-loop-top-init invariant-loop-cell decreases-loop-cell invariant-loop-top decreases-loop-top
+loop-top-init c = ((start c).requires.2, λ s m. m)
 
-sub_top : tie.Need-overflow-sub-top invariant_loop2 decreases_loop2 invariant_loop decreases_loop
-sub_top c = omega (arith, c.loop-test.true)
+overflow_sub-top : tie.Need-overflow_sub-top invariant-loop-cell decreases-loop-cell invariant-loop-top decreases-loop-top
+overflow_sub-top c = omega (arith, c.loop-top-test.true)
 
-mul_s : tie.Need-overflow-mul-s invariant_loop2 decreases_loop2 invariant_loop decreases_loop
-mul_s c = omega (arith, room c)
+offset_bounds-stack-top : tie.Need-offset_bounds-stack-top invariant-loop-cell decreases-loop-cell invariant-loop-top decreases-loop-top
+offset_bounds-stack-top c = omega (arith, room c)
 
-element_copy_out_s : tie.Need-element-copy-out-s invariant_loop2 decreases_loop2 invariant_loop decreases_loop
-element_copy_out_s c = room c
+bounds-stack-top : tie.Need-bounds-stack-top invariant-loop-cell decreases-loop-cell invariant-loop-top decreases-loop-top
+bounds-stack-top c = room c.before
 
-cast_s : tie.Need-overflow-cast-s invariant_loop2 decreases_loop2 invariant_loop decreases_loop
-cast_s c = omega (arith, (top_of c.before).2)
+overflow_cast-s : tie.Need-overflow_cast-s invariant-loop-cell decreases-loop-cell invariant-loop-top decreases-loop-top
+overflow_cast-s c = omega (arith, (top_of c.before.before).2)
 
-element_write_marks : tie.Need-element-write-marks invariant_loop2 decreases_loop2 invariant_loop decreases_loop
-element_write_marks c = (top_of c.before).2
+bounds-marks-s : tie.Need-bounds-marks-s invariant-loop-cell decreases-loop-cell invariant-loop-top decreases-loop-top
+bounds-marks-s c = (top_of c.before.before.before).2
 
-array_copy_out_whole : tie.Need-array-copy-out-whole invariant_loop2 decreases_loop2 invariant_loop decreases_loop
-array_copy_out_whole c = (top_of c.before).2
+bounds-counts-s : tie.Need-bounds-counts-s invariant-loop-cell decreases-loop-cell invariant-loop-top decreases-loop-top
+bounds-counts-s c = (top_of c.before.before.before).2
 
-mul_cell : tie.Need-overflow-mul-cell invariant_loop2 decreases_loop2 invariant_loop decreases_loop
-mul_cell c = omega (arith, (top_of c.before.before).2)
+offset_bounds-heads-s : tie.Need-offset_bounds-heads-s invariant-loop-cell decreases-loop-cell invariant-loop-top decreases-loop-top
+offset_bounds-heads-s c = omega (arith, (top_of c.before.before.before.before).2)
 
-element_copy_out_cell : tie.Need-element-copy-out-cell invariant_loop2 decreases_loop2 invariant_loop decreases_loop
-element_copy_out_cell c = (top_of c.before.before).2
+bounds-heads-s : tie.Need-bounds-heads-s invariant-loop-cell decreases-loop-cell invariant-loop-top decreases-loop-top
+bounds-heads-s c = (top_of c.before.before.before.before.before).2
 
-loop2_holds : tie.Need-loop2-init invariant_loop2 decreases_loop2 invariant_loop decreases_loop
+loop-cell-init : tie.Need-loop-cell-init invariant-loop-cell decreases-loop-cell invariant-loop-top decreases-loop-top
 unfolding at_state
-loop2_holds c =
+loop-cell-init c =
     let o = c.before.before.before in
-    let a = (start (entry o)).args in
-    let l = o.before.loop in
-    releasing_first (decode a.table.now) (size (entry o)) a.heads.now a.next.now (start (entry o)).pre.1 l.marks l.pending l.stack
-    (l.top - 1) (state o) l.counts refl (waiting o)
+    let a = (start (entry o.before.before.before)).args in
+    let l = o.before.loop-top in
+    releasing_first (decode a.table.now) (size (entry o.before.before.before)) a.heads.now a.next.now (start (entry o.before.before.before)).requires.1 l.marks l.pending l.stack
+    (l.top - 1) (state o.before.before.before) l.counts refl (waiting o.before.before.before)
 
-loop_less : tie.Need-loop-smaller invariant_loop2 decreases_loop2 invariant_loop decreases_loop
-loop_less c =
+loop-top-smaller : tie.Need-loop-top-smaller invariant-loop-cell decreases-loop-cell invariant-loop-top decreases-loop-top
+loop-top-smaller c =
     let o = outer c.before in
-    unmarked_less (decode (start (entry o)).args.table.now).states o.before.loop.marks (state o) (top_of o).0 (marks_room o) (top_of o).1
+    unmarked_less (decode (start (entry o)).args.table.now).states o.before.loop-top.marks (state o) (top_of o).0 (marks_room o) (top_of o).1
 
-loop_again : tie.Need-loop-preserved invariant_loop2 decreases_loop2 invariant_loop decreases_loop
-loop_again c =
+loop-top-preserved : tie.Need-loop-top-preserved invariant-loop-cell decreases-loop-cell invariant-loop-top decreases-loop-top
+loop-top-preserved c =
     let o = outer c.before in
-    let l = c.before.loop2 in
-    let ms = o.before.loop.marks in (
+    let l = c.before.loop-cell in
+    let ms = o.before.loop-top.marks in (
       releasing_stop (decode (start (entry o)).args.table.now) (size (entry o)) (set ms (state o) true) (state o) _ l.pending l.stack l.top
           l.counts
-          l.cell l.invariant c.loop2-test.false,
-      λ s m. marked_grows ms (state o) (marks_room o) s (o.before.loop.inv.1 s m),
+          l.cell l.invariant c.loop-cell-test.false,
+      λ s m. marked_grows ms (state o) (marks_room o) s (o.before.loop-top.invariant.1 s m),
     )
 
-state_of_requires : tie.Need-state-of-requires invariant_loop2 decreases_loop2 invariant_loop decreases_loop
-state_of_requires c κs = tt
+state_of-u-requires : tie.Need-state_of-u-requires invariant-loop-cell decreases-loop-cell invariant-loop-top decreases-loop-top
+state_of-u-requires c κs = tt
 
-link_of_requires : tie.Need-link-of-requires invariant_loop2 decreases_loop2 invariant_loop decreases_loop
-link_of_requires c κs = tt
+link_of-link-requires : tie.Need-link_of-link-requires invariant-loop-cell decreases-loop-cell invariant-loop-top decreases-loop-top
+link_of-link-requires c κs = tt
 
-sub_cell : tie.Need-overflow-sub-cell invariant_loop2 decreases_loop2 invariant_loop decreases_loop
-sub_cell c = omega (arith, (link c).0)
+overflow_sub-cell : tie.Need-overflow_sub-cell invariant-loop-cell decreases-loop-cell invariant-loop-top decreases-loop-top
+overflow_sub-cell c = omega (arith, (link c).0)
 
-mul_cell_2 : tie.Need-overflow-mul-cell-2 invariant_loop2 decreases_loop2 invariant_loop decreases_loop
-mul_cell_2 c = omega (arith, (link c).1)
+offset_bounds-next-link : tie.Need-offset_bounds-next-link invariant-loop-cell decreases-loop-cell invariant-loop-top decreases-loop-top
+offset_bounds-next-link c = omega (arith, (link c).1)
 
-element_copy_out_cell_2 : tie.Need-element-copy-out-cell-2 invariant_loop2 decreases_loop2 invariant_loop decreases_loop
-element_copy_out_cell_2 c = omega (arith, (link c).0, (link c).1)
+bounds-next-link : tie.Need-bounds-next-link invariant-loop-cell decreases-loop-cell invariant-loop-top decreases-loop-top
+bounds-next-link c = omega (arith, (link c.before).0, (link c.before).1)
 
-array_copy_out_add : tie.Need-array-copy-out-add invariant_loop2 decreases_loop2 invariant_loop decreases_loop
-array_copy_out_add c = source c.before
+bounds-counts-u : tie.Need-bounds-counts-u invariant-loop-cell decreases-loop-cell invariant-loop-top decreases-loop-top
+bounds-counts-u c = source c.before.before
 
-add_requires : tie.Need-add-requires invariant_loop2 decreases_loop2 invariant_loop decreases_loop
-add_requires c κs = tt
+add-requires : tie.Need-add-requires invariant-loop-cell decreases-loop-cell invariant-loop-top decreases-loop-top
+add-requires c κs = tt
 
-array_set_from_counts : tie.Need-array-set-from-counts invariant_loop2 decreases_loop2 invariant_loop decreases_loop
-array_set_from_counts c = source (added c)
+bounds-counts-u-in-loop-cell : tie.Need-bounds-counts-u-in-loop-cell invariant-loop-cell decreases-loop-cell invariant-loop-top decreases-loop-top
+bounds-counts-u-in-loop-cell c = source (added c)
 
-drop_pending_requires : tie.Need-drop-pending-requires invariant_loop2 decreases_loop2 invariant_loop decreases_loop
-drop_pending_requires c κs =
+drop_pending-top-requires : tie.Need-drop_pending-top-requires invariant-loop-cell decreases-loop-cell invariant-loop-top decreases-loop-top
+drop_pending-top-requires c κs =
     let here = added c.before.before in
     let i = inner here in
     let o = outer i.before in
-    let l = i.before.loop2 in
+    let l = i.before.loop-cell in
     let t = decode (start (entry o)).args.table.now in
-    let ms = set o.before.loop.marks (state o) true in (
+    let ms = set o.before.loop-top.marks (state o) true in (
       source here,
-      l.inv.counting.opened.long,
-      l.inv.counting.stacked.long,
-      releasing_some t (size (entry o)) ms (state o) _ l.pending l.stack l.top l.counts l.cell l.inv i.loop2-test.taken (parts here),
-      releasing_room t (size (entry o)) ms (state o) _ l.pending l.stack l.top l.counts l.cell l.inv i.loop2-test.taken (parts here),
+      l.invariant.counting.opened.long,
+      l.invariant.counting.stacked.long,
+      releasing_some t (size (entry o)) ms (state o) _ l.pending l.stack l.top l.counts l.cell l.invariant i.loop-cell-test.true (parts here),
+      releasing_room t (size (entry o)) ms (state o) _ l.pending l.stack l.top l.counts l.cell l.invariant i.loop-cell-test.true (parts here),
     )
 
-loop2_less : tie.Need-loop2-smaller invariant_loop2 decreases_loop2 invariant_loop decreases_loop
-loop2_less c =
+loop-cell-smaller : tie.Need-loop-cell-smaller invariant-loop-cell decreases-loop-cell invariant-loop-top decreases-loop-top
+loop-cell-smaller c =
     let here = added c.before.before.before in
     let i = inner here in
     let e = entry (outer i.before) in
-    chain_less (size e).arcs i.before.loop2.inv.chain (parts here) (start e).pre.1 i.loop2-test.taken
+    chain_less (size e).arcs i.before.loop-cell.invariant.chain (parts here) (start e).requires.1 i.loop-cell-test.true
 
-loop2_again : tie.Need-loop2-preserved invariant_loop2 decreases_loop2 invariant_loop decreases_loop
+loop-cell-preserved : tie.Need-loop-cell-preserved invariant-loop-cell decreases-loop-cell invariant-loop-top decreases-loop-top
 unfolding at_state
-loop2_again c =
+loop-cell-preserved c =
     let sum = c.before.before.before in
     let here = added sum in
     let i = inner here in
     let o = outer i.before in
     let a = (start (entry o)).args in
-    let l = i.before.loop2 in
-    releasing_next (decode a.table.now) (size (entry o)) (set o.before.loop.marks (state o) true) (state o) _ l.pending l.stack l.top
+    let l = i.before.loop-cell in
+    releasing_next (decode a.table.now) (size (entry o)) (set o.before.loop-top.marks (state o) true) (state o) _ l.pending l.stack l.top
     l.counts
-    l.cell l.inv i.loop2-test.taken (parts here) a.heads.now a.next.now (start (entry o)).pre.1 sum.add.result _ _
-    c.drop-pending.result sum.add.ensures c.drop-pending.ensures
+    l.cell l.invariant i.loop-cell-test.true (parts here) a.heads.now a.next.now (start (entry o)).requires.1 sum.add.result _ _
+    c.drop_pending-top.result sum.add.ensures c.drop_pending-top.ensures
 
-returns : tie.Need-returns invariant_loop2 decreases_loop2 invariant_loop decreases_loop
+returns : tie.Need-returns invariant-loop-cell decreases-loop-cell invariant-loop-top decreases-loop-top
 returns c =
-    let l = c.before.loop in
+    let l = c.before.loop-top in
     let e = c.before.before in (
-      underway_rested (decode (start e).args.table.now) (size e) l.marks l.pending l.stack l.top l.counts (omega (arith, c.loop-test.false))
+      underway_rested (decode (start e).args.table.now) (size e) l.marks l.pending l.stack l.top l.counts (omega (arith, c.loop-top-test.false))
           l.invariant.0,
       l.invariant.1,
     )
@@ -235,31 +235,31 @@ pub count_all_spec : {M : Type 1} → statement M
 count_all_spec =
     tie.close
     (tie.spec
-    invariant_loop2
-    decreases_loop2
-    invariant_loop
-    decreases_loop
-    loop_holds
-    sub_top
-    mul_s
-    element_copy_out_s
-    cast_s
-    element_write_marks
-    array_copy_out_whole
-    mul_cell
-    element_copy_out_cell
-    loop2_holds
-    loop_less
-    loop_again
-    state_of_requires
-    link_of_requires
-    sub_cell
-    mul_cell_2
-    element_copy_out_cell_2
-    array_copy_out_add
-    add_requires
-    array_set_from_counts
-    drop_pending_requires
-    loop2_less
-    loop2_again
+    invariant-loop-cell
+    decreases-loop-cell
+    invariant-loop-top
+    decreases-loop-top
+    loop-top-init
+    overflow_sub-top
+    offset_bounds-stack-top
+    bounds-stack-top
+    overflow_cast-s
+    bounds-marks-s
+    bounds-counts-s
+    offset_bounds-heads-s
+    bounds-heads-s
+    loop-cell-init
+    loop-top-smaller
+    loop-top-preserved
+    state_of-u-requires
+    link_of-link-requires
+    overflow_sub-cell
+    offset_bounds-next-link
+    bounds-next-link
+    bounds-counts-u
+    add-requires
+    bounds-counts-u-in-loop-cell
+    drop_pending-top-requires
+    loop-cell-smaller
+    loop-cell-preserved
     returns)

@@ -15,7 +15,7 @@ use Rattle.paths.proofs.counts.counts_of.Tie as tie
 
 -- The entry, with what is known of the bytes.
 abbrev Entry : Type 0
-Entry = tie.After-shared-slice-known
+Entry = tie.After-shared_slice_known-1
 
 abbrev start : Entry → tie.Start
 start c = c.before
@@ -23,75 +23,82 @@ start c = c.before
 size : (c : Entry) → Sized (decode (start c).args.table.now)
 size c =
     let bs = (start c).args.table.now in
-    let bytes : Bytes bs = λ i. omega (arith, c.shared-slice-known.given i) in
+    let bytes : Bytes bs = λ i. omega (arith, c.shared_slice_known-1.given i) in
     sized bs bytes (start c).requires.0.accepted
 
 few : (c : Entry) → (start c).args.states ≤ 1024
 few c = omega (arith, (start c).requires.1, (size c).states)
 
 -- Places to look back to.
-abbrev linking : tie.After-link-arcs → Entry
+abbrev linking : tie.After-link_arcs → Entry
 linking c = c.before.before.before.before
 
-abbrev pushing : tie.After-push-ready → tie.After-link-arcs
+abbrev pushing : tie.After-push_ready-waiting → tie.After-link_arcs
 pushing c = c.before.before.before.before
 
-abbrev stacked : tie.After-stack2 → tie.After-push-ready
+abbrev stacked : tie.After-stack-2-1 → tie.After-push_ready-waiting
 stacked c = c.before.before.before.before.before
 
-abbrev counting : tie.After-count-all → tie.After-push-ready
+abbrev counting : tie.After-count_all-counts → tie.After-push_ready-waiting
 counting c = stacked c.before
 
-abbrev asking : tie.After-all-marked → tie.After-count-all
+abbrev asking : tie.After-all_marked → tie.After-count_all-counts
 asking c = c.before.before
 
-link_arcs_requires : tie.Need-link-arcs-requires
-link_arcs_requires c κs =
+link_arcs-requires : tie.Need-link_arcs-requires
+link_arcs-requires c κs =
     let pre = (start c.before.before.before).requires in
     (pre.0, pre.2, refl, length-replicate {A = ℕ} 3072 0, refl)
 
-push_ready_requires : tie.Need-push-ready-requires
-push_ready_requires c κs = (few (linking c.before.before.before), length-replicate {A = ℕ} 1024 0)
+push_ready-waiting-requires : tie.Need-push_ready-waiting-requires
+push_ready-waiting-requires c κs = (few (linking c.before.before.before), length-replicate {A = ℕ} 1024 0)
 
-count_all_requires : tie.Need-count-all-requires
-count_all_requires c κs =
+count_all-counts-requires : tie.Need-count_all-counts-requires
+count_all-counts-requires c κs =
     let put = stacked c in
     let linked = pushing put in
     let e = linking linked in
     let a = (start e).args in
-    let pre = (start e).pre in
+    let pre = (start e).requires in
     let t = decode a.table.now in
-    let left = linked.link-arcs.last.1.1.1.1.1.0 in
-    let stack = put.push-ready.last.1.1.1.0 in (
+    let left = linked.link_arcs.new.pending in
+    let stack = put.push_ready-waiting.new.stack in (
       pre.0.accepted,
-      linked.link-arcs.ensures.0,
-      underway_first t (size e) left stack put.push-ready.result a.empty pre.4
-          (opened_all t (by_marks t (replicate 1024 false)) a.arcs left pre.2 linked.link-arcs.ensures.1)
-          (stacked_all t a.states (replicate 1024 false) left stack put.push-ready.result pre.1 put.push-ready.ensures),
+      linked.link_arcs.ensures.0,
+      underway_first t (size e) left stack put.push_ready-waiting.result a.empty pre.4
+          (opened_all t (by_marks t (replicate 1024 false)) a.arcs left pre.2 linked.link_arcs.ensures.1)
+          (stacked_all t a.states (replicate 1024 false) left stack put.push_ready-waiting.result pre.1 put.push_ready-waiting.ensures),
     )
 
-all_marked_requires : tie.Need-all-marked-requires
-all_marked_requires c κs = few (linking (pushing (counting c.before)))
+all_marked-requires : tie.Need-all_marked-requires
+all_marked-requires c κs = few (linking (pushing (counting c.before)))
 
-returns : tie.Need-returns
-returns c =
+returns-then-all_marked : tie.Need-returns-then-all_marked
+returns-then-all_marked c =
     let all = c.before in
     let done = asking all in
     let e = linking (pushing (counting done)) in
-    rested_all (decode (start e).args.table.now) (size e) _ done.count_all.result done.count_all.ensures.0
-    (λ s b. all.all-marked.ensures c.if1.true s (omega (arith, b, (start e).pre.1)))
+    rested_all (decode (start e).args.table.now) (size e) _ done.count_all-counts.result done.count_all-counts.ensures.0
+    (λ s b. all.all_marked.ensures c.if-all_marked.true s (omega (arith, b, (start e).requires.1)))
 
-counts_with_cycles_requires : tie.Need-counts-with-cycles-requires
-counts_with_cycles_requires c κs =
+counts_with_cycles-requires : tie.Need-counts_with_cycles-requires
+counts_with_cycles-requires c κs =
     let done = asking c.before.before.before.before in
     let linked = pushing (counting done) in
     let pre = (start (linking linked)).requires in
-    (pre.0, pre.1, pre.2, pre.3, linked.link-arcs.ensures.0, done.count_all.ensures.0)
+    (pre.0, pre.1, pre.2, pre.3, linked.link_arcs.ensures.0, done.count_all-counts.ensures.0)
 
-returns_2 : tie.Need-returns-2
-returns_2 c = c.counts-with-cycles.ensures
+returns : tie.Need-returns
+returns c = c.counts_with_cycles.ensures
 
 pub counts_of_spec : {M : Type 1} → statement M
 counts_of_spec =
     tie.close
-    (tie.spec link_arcs_requires push_ready_requires count_all_requires all_marked_requires returns counts_with_cycles_requires returns_2)
+    (tie.spec
+    link_arcs-requires
+    push_ready-waiting-requires
+    count_all-counts-requires
+    all_marked-requires
+    returns-then-all_marked
+    counts_with_cycles-requires
+    returns)

@@ -4,23 +4,23 @@ use Rattle.paths.proofs.CountSays.{count_bad, count_passed}
 use Rattle.paths.proofs.entry.count.Statement.{statement}
 use Rattle.paths.proofs.entry.count.Tie as tie
 
-refusal_requires : tie.Need-refusal-requires
-refusal_requires c κs = tt
+refusal-number-requires : tie.Need-refusal-number-requires
+refusal-number-requires c κs = tt
+
+returns-then-number-ne0 : tie.Need-returns-then-number-ne0
+returns-then-number-ne0 c = count_bad c.before.refusal-number.ensures c.if-number-ne0.true
+
+count_accepted-requires : tie.Need-count_accepted-requires
+count_accepted-requires c κs = sym c.before.refusal-number.ensures ∙ c.if-number-ne0.false
 
 returns : tie.Need-returns
-returns c = count_bad c.before.refusal.ensures c.if1.true
-
-count_accepted_requires : tie.Need-count-accepted-requires
-count_accepted_requires c κs = sym c.before.refusal.ensures ∙ c.if1.false
-
-returns_2 : tie.Need-returns-2
-returns_2 c = let passed = c.before in count_passed passed.before.refusal.ensures passed.if1.false c.count-accepted.ensures
+returns c = let passed = c.before in count_passed passed.before.refusal-number.ensures passed.if-number-ne0.false c.count_accepted.ensures
 
 pub count_spec : {M : Type 1} → statement M
 count_spec =
     tie.close
     (tie.spec
-    refusal_requires
-    returns
-    count_accepted_requires
-    returns_2)
+    refusal-number-requires
+    returns-then-number-ne0
+    count_accepted-requires
+    returns)

@@ -10,82 +10,82 @@ use Rattle.paths.proofs.entry.count_accepted.Statement.{statement}
 use Rattle.paths.proofs.entry.count_accepted.Tie as tie
 
 -- Places to look back to, from the last one to the first.
-abbrev at_other : tie.After-counts-of → tie.Else1
+abbrev at_other : tie.After-counts_of-totals → tie.Else-pass
 at_other c = c.before.before
 
-abbrev shape : tie.Else1 → tie.After-shape-of
+abbrev shape : tie.Else-pass → tie.After-shape_of-shape
 shape c = c.before.before.before
 
-abbrev start : tie.After-shared-slice-known → tie.Start
+abbrev start : tie.After-shared_slice_known-1 → tie.Start
 start c = c.before
 
-size : (c : tie.After-shared-slice-known) → Sized (decode (start c).args.table.now)
+size : (c : tie.After-shared_slice_known-1) → Sized (decode (start c).args.table.now)
 size c =
-    let bytes : Bytes (start c).args.table.now = λ i. omega (arith, c.shared-slice-known.given i) in
+    let bytes : Bytes (start c).args.table.now = λ i. omega (arith, c.shared_slice_known-1.given i) in
     sized (start c).args.table.now bytes (start c).requires
 
-shape_of_requires : tie.Need-shape-of-requires
-shape_of_requires c κs = (start c).requires
+shape_of-shape-requires : tie.Need-shape_of-shape-requires
+shape_of-shape-requires c κs = (start c).requires
 
-cast_m : tie.Need-overflow-cast-m
-cast_m c = omega (arith, c.before.shape_of.ensures.arcs_are, (size c.before.before).arcs)
+overflow_cast-m : tie.Need-overflow_cast-m
+overflow_cast-m c = omega (arith, c.before.shape_of-shape.ensures.arcs_are, (size c.before.before).arcs)
 
-cast_m_2 : tie.Need-overflow-cast-m-2
-cast_m_2 c = search rules
+overflow_cast-m-2 : tie.Need-overflow_cast-m-2
+overflow_cast-m-2 c = search rules
 
-count_from_start_requires : tie.Need-count-from-start-requires
-count_from_start_requires c κs =
-    let known = c.before.shape_of.ensures in
+count_from_start-pass-requires : tie.Need-count_from_start-pass-requires
+count_from_start-pass-requires c κs =
+    let known = c.before.shape_of-shape.ensures in
     (known.opened, known.arcs_are, known.finals_are, known.start_is)
 
-counted_requires : tie.Need-counted-requires
-counted_requires c κs = tt
+counted-requires : tie.Need-counted-requires
+counted-requires c κs = tt
 
-returns : tie.Need-returns
-returns c =
-    let pass = c.before.before.count-from-start.ensures in
-    let sorted = c.before.if1.true in
+returns-then-pass : tie.Need-returns-then-pass
+returns-then-pass c =
+    let pass = c.before.before.count_from_start-pass.ensures in
+    let sorted = c.before.if-pass.true in
     rw c.counted.ensures (count_known (pass.finite sorted) (pass.complete sorted))
 
-empty_paths_requires : tie.Need-empty-paths-requires
-empty_paths_requires c κs = let known = (shape c).shape_of.ensures in (known.opened.accepted, known.finals_are)
+empty_paths-empty-requires : tie.Need-empty_paths-empty-requires
+empty_paths-empty-requires c κs = let known = (shape c).shape_of-shape.ensures in (known.opened.accepted, known.finals_are)
 
-counts_of_requires : tie.Need-counts-of-requires
-counts_of_requires c κs =
-    let known = (shape c.before).shape_of.ensures in
-    (known.opened, known.states_are, known.arcs_are, known.start_is, c.empty-paths.ensures)
+counts_of-totals-requires : tie.Need-counts_of-totals-requires
+counts_of-totals-requires c κs =
+    let known = (shape c.before).shape_of-shape.ensures in
+    (known.opened, known.states_are, known.arcs_are, known.start_is, c.empty_paths-empty.ensures)
 
-returns_2 : tie.Need-returns-2
-returns_2 c = count_endless c.before.Counts-of.ensures.endless_is c.if2.true
+returns-then-totals : tie.Need-returns-then-totals
+returns-then-totals c = count_endless c.before.counts_of-totals.ensures.endless_is c.if-totals.true
 
-element_copy_out_all : tie.Need-element-copy-out-all
-element_copy_out_all c = (shape (at_other c.before)).shape_of.ensures.start_below
+bounds-totals-start : tie.Need-bounds-totals-start
+bounds-totals-start c = (shape (at_other c.before)).shape_of-shape.ensures.start_below
 
-counted_requires_2 : tie.Need-counted-requires-2
-counted_requires_2 c κs = tt
+counted-requires-2 : tie.Need-counted-requires-2
+counted-requires-2 c κs = tt
 
-returns_3 : tie.Need-returns-3
+returns : tie.Need-returns
 unfolding at_state
-returns_3 c =
+returns c =
     let finite = c.before.before in
-    let totals = finite.before.Counts-of in
+    let totals = finite.before.counts_of-totals in
     let made = shape (at_other finite.before) in
-    rw c.counted2.ensures (count_found {cs = totals.result.counts} {start = made.shape_of.result.start} (size made.before)
-    totals.ensures.endless_is finite.if2.false totals.ensures.settled made.shape_of.ensures.start_is)
+    rw c.counted-2.ensures (count_found {cs = totals.result.counts} {start = made.shape_of-shape.result.start} (size made.before)
+    totals.ensures.endless_is finite.if-totals.false totals.ensures.settled made.shape_of-shape.ensures.start_is)
 
 pub count_accepted_spec : {M : Type 1} → statement M
 count_accepted_spec =
     tie.close
     (tie.spec
-    shape_of_requires
-    cast_m
-    cast_m_2
-    count_from_start_requires
-    counted_requires
-    returns
-    empty_paths_requires
-    counts_of_requires
-    returns_2
-    element_copy_out_all
-    counted_requires_2
-    returns_3)
+    shape_of-shape-requires
+    overflow_cast-m
+    overflow_cast-m-2
+    count_from_start-pass-requires
+    counted-requires
+    returns-then-pass
+    empty_paths-empty-requires
+    counts_of-totals-requires
+    returns-then-totals
+    bounds-totals-start
+    counted-requires-2
+    returns)

@@ -13,12 +13,12 @@ use Rattle.paths.proofs.entry.counts_by_state.Tie as tie
 
 -- The entry, with what is known of the bytes.
 abbrev Entry : Type 0
-Entry = tie.After-shared-slice-known
+Entry = tie.After-shared_slice_known-1
 
 size : (c : Entry) → Sized (decode c.before.args.table.now)
 size c =
     let bs = c.before.args.table.now in
-    let bytes : Bytes bs = λ i. omega (arith, c.shared-slice-known.given i) in
+    let bytes : Bytes bs = λ i. omega (arith, c.shared_slice_known-1.given i) in
     sized bs bytes c.before.requires.0.opened.accepted
 
 few : (c : Entry) → c.before.args.states ≤ 1024
@@ -28,42 +28,51 @@ arcs : (c : Entry) → get_or c.before.args.index.now c.before.args.states 0 ≡
 arcs c = index_last (decode c.before.args.table.now) c.before.args.index.now c.before.args.states (size c) c.before.requires.0.indexed
     c.before.requires.0.states_are
 
-mul_arcs : tie.Need-overflow-mul-arcs
-mul_arcs c = omega (arith, few c)
+offset_bounds-index-states : tie.Need-offset_bounds-index-states
+offset_bounds-index-states c = omega (arith, few c)
 
-element_copy_out_arcs : tie.Need-element-copy-out-arcs
-element_copy_out_arcs c = omega (arith, few c)
+bounds-index-states : tie.Need-bounds-index-states
+bounds-index-states c = omega (arith, few c.before)
 
-cast_arcs : tie.Need-overflow-cast-arcs
-cast_arcs c = omega (arith, arcs c.before, (size c.before).arcs)
+overflow_cast-arcs : tie.Need-overflow_cast-arcs
+overflow_cast-arcs c = omega (arith, arcs c.before.before, (size c.before.before).arcs)
 
-empty_by_codes_requires : tie.Need-empty-by-codes-requires
-empty_by_codes_requires c κs = (c.before.before.requires.2, few c.before)
+empty_by_codes-empty-requires : tie.Need-empty_by_codes-empty-requires
+empty_by_codes-empty-requires c κs = (c.before.before.requires.2, few c.before.before)
 
-empty : (c : tie.After-empty-by-codes) →
+empty : (c : tie.After-empty_by_codes-empty) →
     let t = decode c.before.before.before.args.table.now in
-    EmptyPaths t t.states c.empty-by-codes.result
+    EmptyPaths t t.states c.empty_by_codes-empty.result
 empty c =
     let start = c.before.before.before in
     let t = decode start.args.table.now in
-    empty_stop t t.states start.args.states c.empty-by-codes.result (omega (arith, start.requires.0.states_are)) c.empty-by-codes.ensures
+    empty_stop t t.states start.args.states c.empty_by_codes-empty.result (omega (arith, start.requires.0.states_are)) c.empty_by_codes-empty.ensures
 
-counts_sorted_requires : tie.Need-counts-sorted-requires
-counts_sorted_requires c κs = (c.before.before.before.requires.0.opened, arcs c.before.before, empty c)
+counts_sorted-pass-requires : tie.Need-counts_sorted-pass-requires
+counts_sorted-pass-requires c κs = (c.before.before.before.requires.0.opened, arcs c.before.before.before, empty c)
 
-returns : tie.Need-returns
-returns c = c.before.before.counts-sorted.ensures.complete c.before.if1.true
+returns-then-pass : tie.Need-returns-then-pass
+returns-then-pass c = c.before.before.counts_sorted-pass.ensures.complete c.before.if-pass.true
 
-counts_of_requires : tie.Need-counts-of-requires
-counts_of_requires c κs =
+counts_of-requires : tie.Need-counts_of-requires
+counts_of-requires c κs =
     let made = c.before.before in
     let entry = made.before.before in
     let pre = entry.before.requires in
-    (pre.0.opened, pre.0.states_are, arcs entry, pre.1, empty made)
+    (pre.0.opened, pre.0.states_are, arcs entry.before, pre.1, empty made)
 
-returns_2 : tie.Need-returns-2
-returns_2 c = c.Counts-of.ensures
+returns : tie.Need-returns
+returns c = c.counts_of.ensures
 
 pub counts_by_state_spec : {M : Type 1} → statement M
 counts_by_state_spec =
-    tie.close (tie.spec mul_arcs element_copy_out_arcs cast_arcs empty_by_codes_requires counts_sorted_requires returns counts_of_requires returns_2)
+    tie.close
+    (tie.spec
+    offset_bounds-index-states
+    bounds-index-states
+    overflow_cast-arcs
+    empty_by_codes-empty-requires
+    counts_sorted-pass-requires
+    returns-then-pass
+    counts_of-requires
+    returns)

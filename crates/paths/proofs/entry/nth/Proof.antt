@@ -7,72 +7,72 @@ use Rattle.paths.proofs.entry.nth.Statement.{statement}
 use Rattle.paths.proofs.entry.nth.Tie as tie
 
 -- Places to look back to.
-abbrev at_refusal : tie.Else3 → tie.After-refusal
+abbrev at_refusal : tie.Else-labels-lt-MAX_PATH → tie.After-refusal-number
 at_refusal c = c.before.before.before
 
-abbrev entry : tie.After-refusal → tie.Start
+abbrev entry : tie.After-refusal-number → tie.Start
 entry c = c.before.before.before.before
 
-refusal_requires : tie.Need-refusal-requires
-refusal_requires c κs = tt
+refusal-number-requires : tie.Need-refusal-number-requires
+refusal-number-requires c κs = tt
 
-refused_requires : tie.Need-refused-requires
-refused_requires c κs = tt
+refused-requires : tie.Need-refused-requires
+refused-requires c κs = tt
+
+returns-then-number-ne0 : tie.Need-returns-then-number-ne0
+returns-then-number-ne0 c =
+    let a = (entry c.before.before).args in
+    nth_bad a.table.now a.k c.before.before.refusal-number.ensures c.before.if-number-ne0.true c.refused.ensures
+
+refused-requires-then-arcs-lt-MAX_PATH : tie.Need-refused-requires-then-arcs-lt-MAX_PATH
+refused-requires-then-arcs-lt-MAX_PATH c κs = tt
+
+returns-then-arcs-lt-MAX_PATH : tie.Need-returns-then-arcs-lt-MAX_PATH
+returns-then-arcs-lt-MAX_PATH c =
+    let a = (entry c.before.before.before).args in
+    nth_short_arcs a.table.now a.k c.before.before.before.refusal-number.ensures c.before.before.if-number-ne0.false c.before.if-arcs-lt-MAX_PATH.true
+    c.refused-then-arcs-lt-MAX_PATH.ensures
+
+refused-requires-then-labels-lt-MAX_PATH : tie.Need-refused-requires-then-labels-lt-MAX_PATH
+refused-requires-then-labels-lt-MAX_PATH c κs = tt
+
+returns-then-labels-lt-MAX_PATH : tie.Need-returns-then-labels-lt-MAX_PATH
+returns-then-labels-lt-MAX_PATH c =
+    let a = (entry c.before.before.before.before).args in
+    nth_short_labels a.table.now a.k c.before.before.before.before.refusal-number.ensures c.before.before.before.if-number-ne0.false
+    c.before.before.if-arcs-lt-MAX_PATH.false c.before.if-labels-lt-MAX_PATH.true c.refused-then-labels-lt-MAX_PATH.ensures
+
+nth_accepted-requires : tie.Need-nth_accepted-requires
+nth_accepted-requires c κs =
+    let passed = c.before.before in
+    (sym (at_refusal passed).refusal-number.ensures ∙ passed.before.before.if-number-ne0.false, passed.before.if-arcs-lt-MAX_PATH.false, passed.if-labels-lt-MAX_PATH.false)
+
+shape_of-arcs : tie.Need-shape_of-arcs
+shape_of-arcs c = search rules
+
+shape_of-labels : tie.Need-shape_of-labels
+shape_of-labels c = search rules
 
 returns : tie.Need-returns
 returns c =
-    let a = (entry c.before.before).args in
-    nth_bad a.table.now a.k c.before.before.refusal.ensures c.before.if1.true c.refused.ensures
-
-refused_requires_2 : tie.Need-refused-requires-2
-refused_requires_2 c κs = tt
-
-returns_2 : tie.Need-returns-2
-returns_2 c =
-    let a = (entry c.before.before.before).args in
-    nth_short_arcs a.table.now a.k c.before.before.before.refusal.ensures c.before.before.if1.false c.before.if2.true
-    c.refused2.ensures
-
-refused_requires_3 : tie.Need-refused-requires-3
-refused_requires_3 c κs = tt
-
-returns_3 : tie.Need-returns-3
-returns_3 c =
-    let a = (entry c.before.before.before.before).args in
-    nth_short_labels a.table.now a.k c.before.before.before.before.refusal.ensures c.before.before.before.if1.false
-    c.before.before.if2.false c.before.if3.true c.refused3.ensures
-
-nth_accepted_requires : tie.Need-nth-accepted-requires
-nth_accepted_requires c κs =
-    let passed = c.before.before in
-    (sym (at_refusal passed).refusal.ensures ∙ passed.before.before.if1.false, passed.before.if2.false, passed.if3.false)
-
-same_length : tie.Need-same-length
-same_length c = search rules
-
-same_length_2 : tie.Need-same-length-2
-same_length_2 c = search rules
-
-returns_4 : tie.Need-returns-4
-returns_4 c =
     let answered = c.before.before.before.before in
     let passed = answered.before.before.before in
     let a = (entry (at_refusal passed)).args in
-    nth_passed a.table.now a.k (at_refusal passed).refusal.ensures passed.before.before.if1.false passed.before.if2.false
-    passed.if3.false answered.nth-accepted.ensures
+    nth_passed a.table.now a.k (at_refusal passed).refusal-number.ensures passed.before.before.if-number-ne0.false passed.before.if-arcs-lt-MAX_PATH.false
+    passed.if-labels-lt-MAX_PATH.false answered.nth_accepted.ensures
 
 pub nth_spec : {M : Type 1} → statement M
 nth_spec =
     tie.close
     (tie.spec
-    refusal_requires
-    refused_requires
-    returns
-    refused_requires_2
-    returns_2
-    refused_requires_3
-    returns_3
-    nth_accepted_requires
-    same_length
-    same_length_2
-    returns_4)
+    refusal-number-requires
+    refused-requires
+    returns-then-number-ne0
+    refused-requires-then-arcs-lt-MAX_PATH
+    returns-then-arcs-lt-MAX_PATH
+    refused-requires-then-labels-lt-MAX_PATH
+    returns-then-labels-lt-MAX_PATH
+    nth_accepted-requires
+    shape_of-arcs
+    shape_of-labels
+    returns)

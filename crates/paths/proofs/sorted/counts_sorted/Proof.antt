@@ -12,116 +12,116 @@ use Rattle.paths.proofs.TopSorted.{Passed, passed_first, passed_next, passed_mos
 use Rattle.paths.proofs.sorted.counts_sorted.Statement.{statement}
 use Rattle.paths.proofs.sorted.counts_sorted.Tie as tie
 
-abbrev invariant_loop : tie.invariant_loop
-invariant_loop table first arcs counts₀ i₀ counts i = Passed (decode table) i counts
+abbrev invariant-loop-i : tie.invariant-loop-i
+invariant-loop-i table first arcs counts₀ i₀ counts i = Passed (decode table) i counts
 
-abbrev decreases_loop : tie.decreases_loop
-decreases_loop table first arcs counts₀ i₀ counts i = i
+abbrev decreases-loop-i : tie.decreases-loop-i
+decreases-loop-i table first arcs counts₀ i₀ counts i = i
 
 -- The loop, the entry, and the ends of the arc of a turn.
 abbrev Here : Type 0
-Here = tie.At-loop invariant_loop decreases_loop
+Here = tie.At-loop-i invariant-loop-i decreases-loop-i
 
-abbrev start : Here → tie.Start invariant_loop decreases_loop
+abbrev start : Here → tie.Start invariant-loop-i decreases-loop-i
 start c = c.before.before
 
 size : (c : Here) → Sized (decode (start c).args.table.now)
 size c =
     let bs = (start c).args.table.now in
-    let bytes : Bytes bs = λ i. omega (arith, c.before.shared-slice-known.given i) in
+    let bytes : Bytes bs = λ i. omega (arith, c.before.shared_slice_known-1.given i) in
     sized bs bytes (start c).requires.0.accepted
 
-abbrev here : tie.After-target invariant_loop decreases_loop → Here
+abbrev here : tie.After-target-to invariant-loop-i decreases-loop-i → Here
 here c = c.before.before.before
 
-source_below : (c : tie.After-target invariant_loop decreases_loop) → c.before.source.result < 1024
-source_below c = omega (arith, c.before.source.ensures.1, (size (here c)).states)
+source_below : (c : tie.After-target-to invariant-loop-i decreases-loop-i) → c.before.source-s.result < 1024
+source_below c = omega (arith, c.before.source-s.ensures.1, (size (here c)).states)
 
 -- The ends from behind the test of the count.
-abbrev ends : tie.After-struct-known invariant_loop decreases_loop → tie.After-target invariant_loop decreases_loop
+abbrev ends : tie.After-struct_known-1 invariant-loop-i decreases-loop-i → tie.After-target-to invariant-loop-i decreases-loop-i
 ends c = c.before.before.before
 
-abbrev added : tie.After-add invariant_loop decreases_loop → tie.After-struct-known invariant_loop decreases_loop
+abbrev added : tie.After-add invariant-loop-i decreases-loop-i → tie.After-struct_known-1 invariant-loop-i decreases-loop-i
 added c = c.before.before.before
 
-loop_holds : tie.Need-loop-init invariant_loop decreases_loop
-loop_holds c =
+loop-i-init : tie.Need-loop-i-init invariant-loop-i decreases-loop-i
+loop-i-init c =
     let a = c.before.args in
     passed_first (decode a.table.now) a.arcs a.empty c.before.requires.1 c.before.requires.2
 
-sub_i : tie.Need-overflow-sub-i invariant_loop decreases_loop
-sub_i c = omega (arith, c.loop-test.true)
+overflow_sub-i : tie.Need-overflow_sub-i invariant-loop-i decreases-loop-i
+overflow_sub-i c = omega (arith, c.loop-i-test.true)
 
-source_requires : tie.Need-source-requires invariant_loop decreases_loop
-source_requires c κs = ((start c.before).pre.0, omega (arith, c.loop-test.true, c.before.loop.invariant.within))
+source-s-requires : tie.Need-source-s-requires invariant-loop-i decreases-loop-i
+source-s-requires c κs = ((start c.before).requires.0, omega (arith, c.loop-i-test.true, c.before.loop-i.invariant.within))
 
-target_requires : tie.Need-target-requires invariant_loop decreases_loop
-target_requires c κs =
+target-to-requires : tie.Need-target-to-requires invariant-loop-i decreases-loop-i
+target-to-requires c κs =
     let turn = c.before in
-    ((start turn.before).pre.0, omega (arith, turn.loop-test.true, turn.before.loop.invariant.within))
+    ((start turn.before).requires.0, omega (arith, turn.loop-i-test.true, turn.before.loop-i.invariant.within))
 
-returns : tie.Need-returns invariant_loop decreases_loop
-returns c = record { complete = λ q. clash q refl }
+returns-then-to-s : tie.Need-returns-then-to-s invariant-loop-i decreases-loop-i
+returns-then-to-s c = record { complete = λ q. clash q refl }
 
-array_copy_out_here : tie.Need-array-copy-out-here invariant_loop decreases_loop
-array_copy_out_here c = source_below c.before
+bounds-counts-s : tie.Need-bounds-counts-s invariant-loop-i decreases-loop-i
+bounds-counts-s c = source_below c.before
 
-loop_less : tie.Need-loop-smaller invariant_loop decreases_loop
-loop_less c = omega (arith, (ends c.before).before.before.loop-test.taken)
+loop-i-smaller-then-here-eq-MOST : tie.Need-loop-i-smaller-then-here-eq-MOST invariant-loop-i decreases-loop-i
+loop-i-smaller-then-here-eq-MOST c = omega (arith, (ends c.before).before.before.loop-i-test.true)
 
-loop_again : tie.Need-loop-preserved invariant_loop decreases_loop
+loop-i-preserved-then-here-eq-MOST : tie.Need-loop-i-preserved-then-here-eq-MOST invariant-loop-i decreases-loop-i
 unfolding at_state
-loop_again c =
+loop-i-preserved-then-here-eq-MOST c =
     let at = ends c.before in
-    let loop = (here at).loop in
-    passed_most (decode (start (here at)).args.table.now) loop.i (loop.i - 1) loop.counts at.before.source.result at.target.result
-    (omega (arith, at.before.before.loop-test.taken)) loop.inv at.before.source.ensures.0 at.target.ensures.0
-    c.before.before.before.if1.false c.if2.true
+    let loop = (here at).loop-i in
+    passed_most (decode (start (here at)).args.table.now) loop.i (loop.i - 1) loop.counts at.before.source-s.result at.target-to.result
+    (omega (arith, at.before.before.loop-i-test.true)) loop.invariant at.before.source-s.ensures.0 at.target-to.ensures.0
+    c.before.before.before.if-to-s.false c.if-here-eq-MOST.true
 
-array_copy_out_add : tie.Need-array-copy-out-add invariant_loop decreases_loop
-array_copy_out_add c = let at = ends c.before in omega (arith, at.target.ensures.1, (size (here at)).states)
+bounds-counts-to : tie.Need-bounds-counts-to invariant-loop-i decreases-loop-i
+bounds-counts-to c = let at = ends c.before in omega (arith, at.target-to.ensures.1, (size (here at)).states)
 
-add_requires : tie.Need-add-requires invariant_loop decreases_loop
-add_requires c κs = tt
+add-requires : tie.Need-add-requires invariant-loop-i decreases-loop-i
+add-requires c κs = tt
 
-array_set_from_counts : tie.Need-array-set-from-counts invariant_loop decreases_loop
-array_set_from_counts c = source_below (ends (added c))
+bounds-counts-s-in-loop-i : tie.Need-bounds-counts-s-in-loop-i invariant-loop-i decreases-loop-i
+bounds-counts-s-in-loop-i c = source_below (ends (added c))
 
-loop_less_2 : tie.Need-loop-smaller-2 invariant_loop decreases_loop
-loop_less_2 c = omega (arith, (ends (added c)).before.before.loop-test.taken)
+loop-i-smaller : tie.Need-loop-i-smaller invariant-loop-i decreases-loop-i
+loop-i-smaller c = omega (arith, (ends (added c)).before.before.loop-i-test.true)
 
-loop_again_2 : tie.Need-loop-preserved-2 invariant_loop decreases_loop
+loop-i-preserved : tie.Need-loop-i-preserved invariant-loop-i decreases-loop-i
 unfolding at_state
-loop_again_2 c =
+loop-i-preserved c =
     let at = ends (added c) in
-    let loop = (here at).loop in
-    passed_next (decode (start (here at)).args.table.now) (size (here at)) loop.i (loop.i - 1) loop.counts at.before.source.result
-    at.target.result c.add.result (omega (arith, at.before.before.loop-test.taken)) loop.inv at.before.source.ensures.0
-    at.target.ensures.0 (added c).before.before.if1.false c.add.ensures
+    let loop = (here at).loop-i in
+    passed_next (decode (start (here at)).args.table.now) (size (here at)) loop.i (loop.i - 1) loop.counts at.before.source-s.result
+    at.target-to.result c.add.result (omega (arith, at.before.before.loop-i-test.true)) loop.invariant at.before.source-s.ensures.0
+    at.target-to.ensures.0 (added c).before.before.if-to-s.false c.add.ensures
 
-returns_2 : tie.Need-returns-2 invariant_loop decreases_loop
-returns_2 c =
+returns : tie.Need-returns invariant-loop-i decreases-loop-i
+returns c =
     let end = c.before in
-    let none : end.loop.i ≡ 0 = omega (arith, c.loop-test.false) in
-    record { complete = λ _. passed_all (decode (start end).args.table.now) (size end) end.loop.counts (rw none at end.loop.invariant) }
+    let none : end.loop-i.i ≡ 0 = omega (arith, c.loop-i-test.false) in
+    record { complete = λ _. passed_all (decode (start end).args.table.now) (size end) end.loop-i.counts (rw none at end.loop-i.invariant) }
 
 pub counts_sorted_spec : {M : Type 1} → statement M
 counts_sorted_spec =
     tie.close
     (tie.spec
-    invariant_loop
-    decreases_loop
-    loop_holds
-    sub_i
-    source_requires
-    target_requires
-    returns
-    array_copy_out_here
-    loop_less
-    loop_again
-    array_copy_out_add
-    add_requires
-    array_set_from_counts
-    loop_less_2
-    loop_again_2
-    returns_2)
+    invariant-loop-i
+    decreases-loop-i
+    loop-i-init
+    overflow_sub-i
+    source-s-requires
+    target-to-requires
+    returns-then-to-s
+    bounds-counts-s
+    loop-i-smaller-then-here-eq-MOST
+    loop-i-preserved-then-here-eq-MOST
+    bounds-counts-to
+    add-requires
+    bounds-counts-s-in-loop-i
+    loop-i-smaller
+    loop-i-preserved
+    returns)

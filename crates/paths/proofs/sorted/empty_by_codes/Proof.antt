@@ -7,52 +7,64 @@ use Rattle.paths.proofs.TopSorted.{empty_first, empty_next, empty_stop}
 use Rattle.paths.proofs.sorted.empty_by_codes.Statement.{statement}
 use Rattle.paths.proofs.sorted.empty_by_codes.Tie as tie
 
-abbrev invariant_loop : tie.invariant_loop
-invariant_loop table states codes counts₀ s₀ counts s = EmptyPaths (decode table) s counts
+abbrev invariant-loop-s : tie.invariant-loop-s
+invariant-loop-s table states codes counts₀ s₀ counts s = EmptyPaths (decode table) s counts
 
-abbrev decreases_loop : tie.decreases_loop
-decreases_loop table states codes counts₀ s₀ counts s = states - s
+abbrev decreases-loop-s : tie.decreases-loop-s
+decreases-loop-s table states codes counts₀ s₀ counts s = states - s
 
 -- A turn of the loop, and the entry.
-abbrev turn : tie.After-own invariant_loop decreases_loop → tie.In-loop invariant_loop decreases_loop
-turn c = c.before.before
+abbrev turn : tie.After-own invariant-loop-s decreases-loop-s → tie.In-loop-s invariant-loop-s decreases-loop-s
+turn c = c.before.before.before
 
-abbrev start : tie.In-loop invariant_loop decreases_loop → tie.Start invariant_loop decreases_loop
+abbrev start : tie.In-loop-s invariant-loop-s decreases-loop-s → tie.Start invariant-loop-s decreases-loop-s
 start c = c.before.before.before
 
-loop_holds : tie.Need-loop-init invariant_loop decreases_loop
-loop_holds c = empty_first (decode c.before.args.table.now)
+loop-s-init : tie.Need-loop-s-init invariant-loop-s decreases-loop-s
+loop-s-init c = empty_first (decode c.before.args.table.now)
 
-mul_own : tie.Need-overflow-mul-own invariant_loop decreases_loop
-mul_own c = omega (arith, c.loop-test.true, (start c).requires.1)
+offset_bounds-codes-s : tie.Need-offset_bounds-codes-s invariant-loop-s decreases-loop-s
+offset_bounds-codes-s c = omega (arith, c.loop-s-test.true, (start c).requires.1)
 
-element_copy_out_own : tie.Need-element-copy-out-own invariant_loop decreases_loop
-element_copy_out_own c = omega (arith, c.loop-test.true, (start c).requires.1)
+bounds-codes-s : tie.Need-bounds-codes-s invariant-loop-s decreases-loop-s
+bounds-codes-s c = omega (arith, c.loop-s-test.true, (start c.before).requires.1)
 
-own_requires : tie.Need-own-requires invariant_loop decreases_loop
-own_requires c κs = tt
+own-requires : tie.Need-own-requires invariant-loop-s decreases-loop-s
+own-requires c κs = tt
 
-array_set_from_counts : tie.Need-array-set-from-counts invariant_loop decreases_loop
-array_set_from_counts c = let t = turn c in omega (arith, t.loop-test.taken, (start t).pre.1)
+bounds-counts-s : tie.Need-bounds-counts-s invariant-loop-s decreases-loop-s
+bounds-counts-s c = let t = turn c in omega (arith, t.loop-s-test.true, (start t).requires.1)
 
-add_s : tie.Need-overflow-add-s invariant_loop decreases_loop
-add_s c = let t = turn c in omega (arith, t.loop-test.taken, (start t).pre.1)
+overflow_add-s : tie.Need-overflow_add-s invariant-loop-s decreases-loop-s
+overflow_add-s c = let t = turn c in omega (arith, t.loop-s-test.true, (start t).requires.1)
 
-loop_less : tie.Need-loop-smaller invariant_loop decreases_loop
-loop_less c = omega (arith, (turn c).loop-test.true)
+loop-s-smaller : tie.Need-loop-s-smaller invariant-loop-s decreases-loop-s
+loop-s-smaller c = omega (arith, (turn c).loop-s-test.true)
 
-loop_again : tie.Need-loop-preserved invariant_loop decreases_loop
-loop_again c =
+loop-s-preserved : tie.Need-loop-s-preserved invariant-loop-s decreases-loop-s
+loop-s-preserved c =
     let t = turn c in
     let a = (start t).args in
-    empty_next (decode a.table.now) a.codes.now t.before.loop.s t.before.loop.counts c.own.result (start t).pre.0
-    (omega (arith, t.loop-test.taken, (start t).pre.1)) c.own.ensures t.before.loop.inv
+    empty_next (decode a.table.now) a.codes.now t.before.loop-s.s t.before.loop-s.counts c.own.result (start t).requires.0
+    (omega (arith, t.loop-s-test.true, (start t).requires.1)) c.own.ensures t.before.loop-s.invariant
 
-returns : tie.Need-returns invariant_loop decreases_loop
+returns : tie.Need-returns invariant-loop-s decreases-loop-s
 returns c =
     let a = c.before.before.before.args in
-    empty_stop (decode a.table.now) a.states c.before.loop.s c.before.loop.counts c.loop-test.false c.before.loop.invariant
+    empty_stop (decode a.table.now) a.states c.before.loop-s.s c.before.loop-s.counts c.loop-s-test.false c.before.loop-s.invariant
 
 pub empty_by_codes_spec : {M : Type 1} → statement M
 empty_by_codes_spec =
-    tie.close (tie.spec invariant_loop decreases_loop loop_holds mul_own element_copy_out_own own_requires array_set_from_counts add_s loop_less loop_again returns)
+    tie.close
+    (tie.spec
+    invariant-loop-s
+    decreases-loop-s
+    loop-s-init
+    offset_bounds-codes-s
+    bounds-codes-s
+    own-requires
+    bounds-counts-s
+    overflow_add-s
+    loop-s-smaller
+    loop-s-preserved
+    returns)

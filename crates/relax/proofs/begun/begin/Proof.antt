@@ -4,35 +4,40 @@ use Rattle.relax.proofs.begun.begin.Statement.{statement}
 use Rattle.relax.proofs.begun.begin.Tie as tie
 
 -- Places to look back to.
-abbrev start : tie.After-shape-of → tie.Start
+abbrev start : tie.After-shape_of-shape → tie.Start
 start c = c.before.before
 
-abbrev shape : tie.After-no-costs → tie.After-shape-of
+abbrev shape : tie.After-no_costs → tie.After-shape_of-shape
 shape c = c.before.before
 
-shape_of_requires : tie.Need-shape-of-requires
-shape_of_requires c κs = c.before.requires.0
+shape_of-shape-requires : tie.Need-shape_of-shape-requires
+shape_of-shape-requires c κs = c.before.requires.0
 
-no_costs_requires : tie.Need-no-costs-requires
-no_costs_requires c κs =
+no_costs-requires : tie.Need-no_costs-requires
+no_costs-requires c κs =
     let made = c.before in
-    rw made.shape_of.ensures.states_are (start made).requires.1
+    rw made.shape_of-shape.ensures.states_are (start made).requires.1
 
-own_costs_requires : tie.Need-own-costs-requires
-own_costs_requires c κs =
+own_costs-requires : tie.Need-own_costs-requires
+own_costs-requires c κs =
     let none = c.before.before in
     let made = shape none in
-    ((start made).pre.0, made.shape_of.ensures.finals_are, rw made.shape_of.ensures.states_are at none.no-costs.ensures)
+    ((start made).requires.0, made.shape_of-shape.ensures.finals_are, rw made.shape_of-shape.ensures.states_are at none.no_costs.ensures)
 
-same_length : tie.Need-same-length
-same_length c = search rules
+shape_of-costs : tie.Need-shape_of-costs
+shape_of-costs c = search rules
 
 returns : tie.Need-returns
 returns c =
     let own = c.before in
-    record { shaped = (shape own.before.before.before).shape_of.ensures; own = own.own-costs.ensures }
+    record { shaped = (shape own.before.before.before).shape_of-shape.ensures; own = own.own_costs.ensures }
 
 pub begin_spec : {M : Type 1} → statement M
 begin_spec =
     tie.close
-    (tie.spec shape_of_requires no_costs_requires own_costs_requires same_length returns)
+    (tie.spec
+    shape_of-shape-requires
+    no_costs-requires
+    own_costs-requires
+    shape_of-costs
+    returns)

@@ -8,62 +8,62 @@ use Rattle.relax.proofs.EmptyPaths.{no_costs_first, no_costs_next}
 use Rattle.relax.proofs.begun.no_costs.Statement.{statement}
 use Rattle.relax.proofs.begun.no_costs.Tie as tie
 
-abbrev invariant_loop : tie.invariant_loop
-invariant_loop states costs₀ s₀ costs s = NoCosts states s costs × (s ≤ states) × (length costs ≡ length costs₀)
+abbrev invariant-loop-s : tie.invariant-loop-s
+invariant-loop-s states costs₀ s₀ costs s = NoCosts states s costs × (s ≤ states) × (length costs ≡ length costs₀)
 
-abbrev decreases_loop : tie.decreases_loop
-decreases_loop states costs₀ s₀ costs s = states - s
+abbrev decreases-loop-s : tie.decreases-loop-s
+decreases-loop-s states costs₀ s₀ costs s = states - s
 
 -- A turn of the loop.
 abbrev Turn : Type 0
-Turn = tie.In-loop invariant_loop decreases_loop
+Turn = tie.In-loop-s invariant-loop-s decreases-loop-s
 
-below : (c : Turn) → c.before.loop.s < length c.before.loop.costs
-below c = omega (arith, c.loop-test.true, c.before.loop.invariant.0.long)
+below : (c : Turn) → c.before.loop-s.s < length c.before.loop-s.costs
+below c = omega (arith, c.loop-s-test.true, c.before.loop-s.invariant.0.long)
 
-loop_holds : tie.Need-loop-init invariant_loop decreases_loop
-loop_holds c = (no_costs_first c.args.states c.args.costs.now c.requires, omega arith, refl)
+loop-s-init : tie.Need-loop-s-init invariant-loop-s decreases-loop-s
+loop-s-init c = (no_costs_first c.args.states c.args.costs.now c.requires, omega arith, refl)
 
-mul_costs : tie.Need-overflow-mul-costs invariant_loop decreases_loop
-mul_costs c = omega (arith, below c, c.before.loop.invariant.2, c.before.before.well-formed)
+offset_bounds-costs-s : tie.Need-offset_bounds-costs-s invariant-loop-s decreases-loop-s
+offset_bounds-costs-s c = omega (arith, below c, c.before.loop-s.invariant.2, c.before.before.well_formed)
 
-slice_set_of_costs : tie.Need-slice-set-of-costs invariant_loop decreases_loop
-slice_set_of_costs c = below c
+slice_set_of-costs : tie.Need-slice_set_of-costs invariant-loop-s decreases-loop-s
+slice_set_of-costs c = below c
 
-add_s : tie.Need-overflow-add-s invariant_loop decreases_loop
-add_s c = omega (arith, below c, c.before.loop.invariant.2, c.before.before.well-formed)
+overflow_add-s : tie.Need-overflow_add-s invariant-loop-s decreases-loop-s
+overflow_add-s c = omega (arith, below c, c.before.loop-s.invariant.2, c.before.before.well_formed)
 
-loop_less : tie.Need-loop-smaller invariant_loop decreases_loop
-loop_less c = omega (arith, c.loop-test.true)
+loop-s-smaller : tie.Need-loop-s-smaller invariant-loop-s decreases-loop-s
+loop-s-smaller c = omega (arith, c.loop-s-test.true)
 
-loop_again : tie.Need-loop-preserved invariant_loop decreases_loop
-loop_again c =
-    let now' = c.before.loop in (
-      no_costs_next c.before.before.args.states now'.s now'.costs now'.invariant.0 c.loop-test.true,
-      omega (arith, c.loop-test.true),
+loop-s-preserved : tie.Need-loop-s-preserved invariant-loop-s decreases-loop-s
+loop-s-preserved c =
+    let now' = c.before.loop-s in (
+      no_costs_next c.before.before.args.states now'.s now'.costs now'.invariant.0 c.loop-s-test.true,
+      omega (arith, c.loop-s-test.true),
       length-set now'.costs now'.s _ ∙ now'.invariant.2,
     )
 
-same_length : tie.Need-same-length invariant_loop decreases_loop
-same_length c = c.before.loop.invariant.2
+shape_of-costs : tie.Need-shape_of-costs invariant-loop-s decreases-loop-s
+shape_of-costs c = c.before.loop-s.invariant.2
 
-returns : tie.Need-returns invariant_loop decreases_loop
+returns : tie.Need-returns invariant-loop-s decreases-loop-s
 returns c =
-    let now' = c.before.loop in
-    let all : now'.s ≡ c.before.before.args.states = omega (arith, c.loop-test.false, now'.invariant.1) in
+    let now' = c.before.loop-s in
+    let all : now'.s ≡ c.before.before.args.states = omega (arith, c.loop-s-test.false, now'.invariant.1) in
     rw all at now'.invariant.0
 
 pub no_costs_spec : {M : Type 1} → statement M
 no_costs_spec =
     tie.close
     (tie.spec
-    invariant_loop
-    decreases_loop
-    loop_holds
-    mul_costs
-    slice_set_of_costs
-    add_s
-    loop_less
-    loop_again
-    same_length
+    invariant-loop-s
+    decreases-loop-s
+    loop-s-init
+    offset_bounds-costs-s
+    slice_set_of-costs
+    overflow_add-s
+    loop-s-smaller
+    loop-s-preserved
+    shape_of-costs
     returns)

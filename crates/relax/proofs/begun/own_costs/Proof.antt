@@ -13,94 +13,94 @@ use Rattle.relax.proofs.EmptyPaths.{Owned, owned_first, owned_state, owned_next,
 use Rattle.relax.proofs.begun.own_costs.Statement.{statement}
 use Rattle.relax.proofs.begun.own_costs.Tie as tie
 
-abbrev invariant_loop : tie.invariant_loop
-invariant_loop table finals costs₀ i₀ place₀ costs i place = Owned table i place costs × (length costs ≡ length costs₀)
+abbrev invariant-loop-i : tie.invariant-loop-i
+invariant-loop-i table finals costs₀ i₀ place₀ costs i place = Owned table i place costs × (length costs ≡ length costs₀)
 
-abbrev decreases_loop : tie.decreases_loop
-decreases_loop table finals costs₀ i₀ place₀ costs i place = finals - i
+abbrev decreases-loop-i : tie.decreases-loop-i
+decreases-loop-i table finals costs₀ i₀ place₀ costs i place = finals - i
 
 -- In a turn: the bytes are bytes, and there is a final of this number.
 abbrev Turn : Type 0
-Turn = tie.In-loop invariant_loop decreases_loop
+Turn = tie.In-loop-i invariant-loop-i decreases-loop-i
 
-abbrev start : Turn → tie.Start invariant_loop decreases_loop
+abbrev start : Turn → tie.Start invariant-loop-i decreases-loop-i
 start c = c.before.before.before
 
 is_bytes : (c : Turn) → Bytes (start c).args.table.now
-is_bytes c = λ i. omega (arith, c.before.before.shared-slice-known.given i)
+is_bytes c = λ i. omega (arith, c.before.before.shared_slice_known-1.given i)
 
-is_final : (c : Turn) → c.before.loop.i < head_finals (start c).args.table.now
-is_final c = omega (arith, c.loop-test.true, (start c).requires.1)
+is_final : (c : Turn) → c.before.loop-i.i < head_finals (start c).args.table.now
+is_final c = omega (arith, c.loop-i-test.true, (start c).requires.1)
 
-inside : (c : Turn) → c.before.loop.place + 10 ≤ length (start c).args.table.now
-inside c = coded_inside (start c).args.table.now (is_bytes c) (start c).requires.0 (is_final c) c.before.loop.invariant.0.coded
+inside : (c : Turn) → c.before.loop-i.place + 10 ≤ length (start c).args.table.now
+inside c = coded_inside (start c).args.table.now (is_bytes c) (start c).requires.0 (is_final c) c.before.loop-i.invariant.0.coded
 
-loop_holds : tie.Need-loop-init invariant_loop decreases_loop
-loop_holds c = (owned_first c.before.args.table.now c.before.args.costs.now c.before.requires.2, refl)
+loop-i-init : tie.Need-loop-i-init invariant-loop-i decreases-loop-i
+loop-i-init c = (owned_first c.before.args.table.now c.before.args.costs.now c.before.requires.2, refl)
 
-load_final_requires : tie.Need-load-final-requires invariant_loop decreases_loop
-load_final_requires c κs = inside c
+load_final-f-requires : tie.Need-load_final-f-requires invariant-loop-i decreases-loop-i
+load_final-f-requires c κs = inside c
 
-cast_state : tie.Need-overflow-cast-state invariant_loop decreases_loop
-cast_state c = search rules
+overflow_cast-state : tie.Need-overflow_cast-state invariant-loop-i decreases-loop-i
+overflow_cast-state c = search rules
 
-mul_weight : tie.Need-overflow-mul-weight invariant_loop decreases_loop
-mul_weight c = search rules
+offset_bounds-costs-state : tie.Need-offset_bounds-costs-state invariant-loop-i decreases-loop-i
+offset_bounds-costs-state c = search rules
 
-slice_set_from_weight : tie.Need-slice-set-from-weight invariant_loop decreases_loop
-slice_set_from_weight c =
+bounds-costs-state : tie.Need-bounds-costs-state invariant-loop-i decreases-loop-i
+bounds-costs-state c =
     let turn = c.before.before.before in
-    let f = c.before.before.load-final in
-    let k = turn.before.loop.invariant.0 in
+    let f = c.before.before.load_final-f in
+    let k = turn.before.loop-i.invariant.0 in
     omega (
       arith,
       owned_state (start turn).args.table.now (is_bytes turn) (start turn).requires.0 f.result (is_final turn) f.ensures k,
       k.long,
     )
 
-add_place : tie.Need-overflow-add-place invariant_loop decreases_loop
-add_place c = let turn = c.before.before.before in omega (arith, inside turn, (start turn).well-formed)
+overflow_add-place : tie.Need-overflow_add-place invariant-loop-i decreases-loop-i
+overflow_add-place c = let turn = c.before.before.before in omega (arith, inside turn, (start turn).well_formed)
 
-add_i : tie.Need-overflow-add-i invariant_loop decreases_loop
-add_i c = search rules
+overflow_add-i : tie.Need-overflow_add-i invariant-loop-i decreases-loop-i
+overflow_add-i c = search rules
 
-loop_less : tie.Need-loop-smaller invariant_loop decreases_loop
-loop_less c = search rules
+loop-i-smaller : tie.Need-loop-i-smaller invariant-loop-i decreases-loop-i
+loop-i-smaller c = search rules
 
-loop_again : tie.Need-loop-preserved invariant_loop decreases_loop
-loop_again c =
+loop-i-preserved : tie.Need-loop-i-preserved invariant-loop-i decreases-loop-i
+loop-i-preserved c =
     let turn = c.before.before.before in
-    let f = c.before.before.load-final in
-    let weight = to_z-of_z {w = w32} {z = f.result.weight} (record { sfits = c.struct_told.given.1.0.1 }) in
-    let now' = turn.before.loop in (
+    let f = c.before.before.load_final-f in
+    let weight = to_z-of_z {w = w32} {z = f.result.weight} (record { sfits = c.struct_told-1.given.1.0.1 }) in
+    let now' = turn.before.loop-i in (
       rw weight
           (owned_next (start turn).args.table.now (is_bytes turn) (start turn).requires.0 f.result (is_final turn) f.ensures now'.invariant.0),
       length-set now'.costs f.result.state _ ∙ now'.invariant.1,
     )
 
-same_length : tie.Need-same-length invariant_loop decreases_loop
-same_length c = c.before.loop.invariant.1
+shape_of-costs : tie.Need-shape_of-costs invariant-loop-i decreases-loop-i
+shape_of-costs c = c.before.loop-i.invariant.1
 
-returns : tie.Need-returns invariant_loop decreases_loop
+returns : tie.Need-returns invariant-loop-i decreases-loop-i
 returns c =
     let start' = c.before.before.before in
-    let bytes : Bytes start'.args.table.now = λ i. omega (arith, c.before.before.shared-slice-known.given i) in
-    owned_stop start'.args.table.now bytes start'.requires.0 (omega (arith, c.loop-test.false, start'.requires.1)) c.before.loop.invariant.0
+    let bytes : Bytes start'.args.table.now = λ i. omega (arith, c.before.before.shared_slice_known-1.given i) in
+    owned_stop start'.args.table.now bytes start'.requires.0 (omega (arith, c.loop-i-test.false, start'.requires.1)) c.before.loop-i.invariant.0
 
 pub own_costs_spec : {M : Type 1} → statement M
 own_costs_spec =
     tie.close
     (tie.spec
-    invariant_loop
-    decreases_loop
-    loop_holds
-    load_final_requires
-    cast_state
-    mul_weight
-    slice_set_from_weight
-    add_place
-    add_i
-    loop_less
-    loop_again
-    same_length
+    invariant-loop-i
+    decreases-loop-i
+    loop-i-init
+    load_final-f-requires
+    overflow_cast-state
+    offset_bounds-costs-state
+    bounds-costs-state
+    overflow_add-place
+    overflow_add-i
+    loop-i-smaller
+    loop-i-preserved
+    shape_of-costs
     returns)

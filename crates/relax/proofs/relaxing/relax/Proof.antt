@@ -23,7 +23,7 @@ use Rattle.relax.proofs.relaxing.relax.Tie as tie
 
 -- The arc that was read, and the sums made of it.
 abbrev Read : Type 0
-Read = tie.After-arc-of
+Read = tie.After-arc_of-a
 
 abbrev start : Read → tie.Start
 start c = c.before.before.before
@@ -31,52 +31,52 @@ start c = c.before.before.before
 size : (c : Read) → Sized (decode (start c).args.table.now)
 size c =
     let bs = (start c).args.table.now in
-    let bytes : Bytes bs = λ i. omega (arith, c.before.before.shared-slice-known.given i) in
+    let bytes : Bytes bs = λ i. omega (arith, c.before.before.shared_slice_known-1.given i) in
     sized bs bytes (start c).requires.0.accepted
 
 -- Its two states, for which there are cells.
-states : (c : Read) → let n = (decode (start c).args.table.now).states in (c.arc_of.result.source < n) × (c.arc_of.result.target < n)
+states : (c : Read) → let n = (decode (start c).args.table.now).states in (c.arc_of-a.result.source < n) × (c.arc_of-a.result.target < n)
 states c =
     let a = (start c).args in
     let pre = (start c).requires in
     relaxed_states (decode a.table.now) (size c) a.costs.now a.lens.now pre.4 pre.3 a.i pre.1
-    c.arc_of.result c.arc_of.ensures
+    c.arc_of-a.result c.arc_of-a.ensures
 
-below : (c : Read) → (c.arc_of.result.source < max_states) × (c.arc_of.result.target < max_states)
+below : (c : Read) → (c.arc_of-a.result.source < max_states) × (c.arc_of-a.result.target < max_states)
 below c =
     let most = (size c).states in
     (omega (arith, (states c).0, most), omega (arith, (states c).1, most))
 
-costs_at : (c : Read) → let n = length (start c).args.costs.now in (c.arc_of.result.source < n) × (c.arc_of.result.target < n)
+costs_at : (c : Read) → let n = length (start c).args.costs.now in (c.arc_of-a.result.source < n) × (c.arc_of-a.result.target < n)
 costs_at c =
     let long = (start c).requires.4.costs in
     (omega (arith, (states c).0, long), omega (arith, (states c).1, long))
 
-lens_at : (c : Read) → let n = length (start c).args.lens.now in (c.arc_of.result.source < n) × (c.arc_of.result.target < n)
+lens_at : (c : Read) → let n = length (start c).args.lens.now in (c.arc_of-a.result.source < n) × (c.arc_of-a.result.target < n)
 lens_at c =
     let long = (start c).requires.4.lens in
     (omega (arith, (states c).0, long), omega (arith, (states c).1, long))
 
-few : (c : Read) → (by_state (start c).args.lens.now c.arc_of.result.target).arcs ≤ max_states
-few c = (start c).requires.4.few c.arc_of.result.target
+few : (c : Read) → (by_state (start c).args.lens.now c.arc_of-a.result.target).arcs ≤ max_states
+few c = (start c).requires.4.few c.arc_of-a.result.target
 
-most : (c : Read) → get_or (start c).args.lens.now c.arc_of.result.target 0 ≤ 67109888
-most c = cell_most (start c).requires.4 c.arc_of.result.target
+most : (c : Read) → get_or (start c).args.lens.now c.arc_of-a.result.target 0 ≤ 67109888
+most c = cell_most (start c).requires.4 c.arc_of-a.result.target
 
 abbrev Summed : Type 0
-Summed = tie.After-sum
+Summed = tie.After-sum-cost
 
 abbrev read : Summed → Read
 read c = c.before.before.before.before.before
 
 abbrev Measured : Type 0
-Measured = tie.After-arc-size
+Measured = tie.After-arc_size
 
 abbrev summed_of : Measured → Summed
 summed_of c = c.before.before.before.before
 
 abbrev Compared : Type 0
-Compared = tie.After-comes-first
+Compared = tie.After-comes_first
 
 abbrev measured : Compared → Measured
 measured c = c.before.before.before
@@ -92,173 +92,173 @@ from c = start (got c)
 
 -- The cost and the size by way of the arc.
 abbrev cost : Compared → Weight
-cost c = to_z w32 (of_z w32 (summed c).sum.result)
+cost c = to_z w32 (of_z w32 (summed c).sum-cost.result)
 
 abbrev len : Compared → ℕ
-len c = get_or (from c).args.lens.now (got c).arc_of.result.target 0 + (measured c).arc-size.result
+len c = get_or (from c).args.lens.now (got c).arc_of-a.result.target 0 + (measured c).arc_size.result
 
-len_is : (c : Compared) → unpacked (len c) ≡ longer (got c).arc_of.result.output (by_state (from c).args.lens.now (got c).arc_of.result.target)
+len_is : (c : Compared) → unpacked (len c) ≡ longer (got c).arc_of-a.result.output (by_state (from c).args.lens.now (got c).arc_of-a.result.target)
 len_is c =
-    unpack_longer (get_or (from c).args.lens.now (got c).arc_of.result.target 0) (got c).arc_of.result.output (measured c).arc-size.result
-    (omega (arith, few (got c))) (measured c).arc-size.ensures.0
+    unpack_longer (get_or (from c).args.lens.now (got c).arc_of-a.result.target 0) (got c).arc_of-a.result.output (measured c).arc_size.result
+    (omega (arith, few (got c))) (measured c).arc_size.ensures.0
 
 -- What is left in each case.
 both : (c : Compared)
     → Relaxes (decode (from c).args.table.now) (from c).args.i (from c).args.costs.now (from c).args.lens.now
-    (got c).arc_of.result.source (cost c) (len c) c.comes-first.result
+    (got c).arc_of-a.result.source (cost c) (len c) c.comes_first.result
 both c =
     let a = (from c).args in
     let pre = (from c).requires in
     let t = decode a.table.now in
-    let arc' = (got c).arc_of.result in
-    let is = (got c).arc_of.ensures in
-    let made = (summed c).sum in
+    let arc' = (got c).arc_of-a.result in
+    let is = (got c).arc_of-a.ensures in
+    let made = (summed c).sum-cost in
     relaxes t (size (got c)) a.costs.now a.lens.now pre.4 pre.3 a.i pre.1 arc' is (cost c) (len c)
-    (to_z-of_z (record { sfits = made.ok }) ∙ onward_back t (size (got c)) pre.4 a.i pre.1 arc' is made.ensures)
+    (to_z-of_z {w = w32} (record { sfits = made.type_inv }) ∙ onward_back t (size (got c)) pre.4 a.i pre.1 arc' is made.ensures)
     (len_is c)
-    (c.comes-first.ensures
+    (c.comes_first.ensures
     ∙ ap (λ (x : Weight). nearer (cost c) (unpacked (len c)) x (by_state a.lens.now arc'.source)) (cell_back pre.4 arc'.source))
 
-arc_of_requires : tie.Need-arc-of-requires
-arc_of_requires c κs = (c.before.before.requires.0, c.before.before.requires.1)
+arc_of-a-requires : tie.Need-arc_of-a-requires
+arc_of-a-requires c κs = (c.before.before.requires.0, c.before.before.requires.1)
 
-cast_s : tie.Need-overflow-cast-s
-cast_s c = search rules
+overflow_cast-s : tie.Need-overflow_cast-s
+overflow_cast-s c = search rules
 
-cast_to : tie.Need-overflow-cast-to
-cast_to c = search rules
+overflow_cast-to : tie.Need-overflow_cast-to
+overflow_cast-to c = search rules
 
-mul_sum : tie.Need-overflow-mul-sum
-mul_sum c = omega (arith, (below c.before.before).1)
+offset_bounds-costs-to : tie.Need-offset_bounds-costs-to
+offset_bounds-costs-to c = omega (arith, (below c.before.before).1)
 
-slice_copy_out_sum : tie.Need-slice-copy-out-sum
-slice_copy_out_sum c = (costs_at c.before.before).1
+slice_copy_out-sum : tie.Need-slice_copy_out-sum
+slice_copy_out-sum c = (costs_at c.before.before).1
 
-sum_requires : tie.Need-sum-requires
-sum_requires c κs =
+sum-cost-requires : tie.Need-sum-cost-requires
+sum-cost-requires c κs =
     let at = c.before.before.before.before in
     let cells = (start at).requires.4 in
     let t = decode (start at).args.table.now in
     let i = (start at).args.i in
-    let arc' = at.arc_of.result in
-    let is = at.arc_of.ensures in (
+    let arc' = at.arc_of-a.result in
+    let is = at.arc_of-a.ensures in (
       rw (weight_back t (size at) i (start at).requires.1 arc' is) (read_good t (size at) i (start at).requires.1 arc' is),
       rw (cell_back cells arc'.target) (cells.low arc'.target),
     )
 
-mul_if1 : tie.Need-overflow-mul-if1
-mul_if1 c = omega (arith, (below (read c)).0)
+offset_bounds-costs-s : tie.Need-offset_bounds-costs-s
+offset_bounds-costs-s c = omega (arith, (below (read c)).0)
 
-slice_copy_out_if1 : tie.Need-slice-copy-out-if1
-slice_copy_out_if1 c = (costs_at (read c)).0
+slice_copy_out-t-14 : tie.Need-slice_copy_out-t-14
+slice_copy_out-t-14 c = (costs_at (read c)).0
 
-returns : tie.Need-returns
-returns c =
-    let made = c.before.before.sum in
+returns-then-costs-s : tie.Need-returns-then-costs-s
+returns-then-costs-s c =
+    let made = c.before.before.sum-cost in
     let at = read c.before.before in
     let a = (start at).args in
-    let pre = (start at).pre in
+    let pre = (start at).requires in
     let t = decode a.table.now in
-    let arc' = at.arc_of.result in
-    let is = at.arc_of.ensures in
+    let arc' = at.arc_of-a.result in
+    let is = at.arc_of-a.ensures in
     let f : SFits w32 (cost_at a.costs.now arc'.source) = cell_fits pre.4 arc'.source in
-    let g : SFits w32 made.result = record { sfits = made.type-inv } in
-    let less : Below (cost_at a.costs.now arc'.source) made.result = omega (arith, bits, c.if1.true) in
+    let g : SFits w32 made.result = record { sfits = made.type_inv } in
+    let less : Below (cost_at a.costs.now arc'.source) made.result = omega (arith, bits, c.if-costs-s.true) in
     relaxed_dearer t (size at) a.costs.now a.lens.now pre.4 pre.3 a.i pre.1 arc' is made.result
     (onward_back t (size at) pre.4 a.i pre.1 arc' is made.ensures) less
 
-mul_len : tie.Need-overflow-mul-len
-mul_len c = omega (arith, (below (read c.before.before)).1)
+offset_bounds-lens-to : tie.Need-offset_bounds-lens-to
+offset_bounds-lens-to c = omega (arith, (below (read c.before.before)).1)
 
-slice_read_len : tie.Need-slice-read-len
-slice_read_len c = (lens_at (read c.before.before.before)).1
+bounds-lens-to : tie.Need-bounds-lens-to
+bounds-lens-to c = (lens_at (read c.before.before.before)).1
 
-arc_size_requires : tie.Need-arc-size-requires
-arc_size_requires c κs = tt
+arc_size-requires : tie.Need-arc_size-requires
+arc_size-requires c κs = tt
 
-add_len : tie.Need-overflow-add-len
-add_len c = omega (arith, most (read (summed_of c)), c.arc-size.ensures.1)
+overflow_add-len : tie.Need-overflow_add-len
+overflow_add-len c = omega (arith, most (read (summed_of c)), c.arc_size.ensures.1)
 
-mul_comes_first : tie.Need-overflow-mul-comes-first
-mul_comes_first c = omega (arith, (below (read (summed_of c))).0)
+offset_bounds-costs-s-2 : tie.Need-offset_bounds-costs-s-2
+offset_bounds-costs-s-2 c = omega (arith, (below (read (summed_of c))).0)
 
-slice_copy_out_comes_first : tie.Need-slice-copy-out-comes-first
-slice_copy_out_comes_first c = (costs_at (read (summed_of c))).0
+slice_copy_out-comes_first : tie.Need-slice_copy_out-comes_first
+slice_copy_out-comes_first c = (costs_at (read (summed_of c))).0
 
-mul_comes_first_2 : tie.Need-overflow-mul-comes-first-2
-mul_comes_first_2 c = omega (arith, (below (read (summed_of c.before))).0)
+offset_bounds-lens-s : tie.Need-offset_bounds-lens-s
+offset_bounds-lens-s c = omega (arith, (below (read (summed_of c.before))).0)
 
-slice_read_comes_first : tie.Need-slice-read-comes-first
-slice_read_comes_first c = (lens_at (read (summed_of c.before.before))).0
+bounds-lens-s : tie.Need-bounds-lens-s
+bounds-lens-s c = (lens_at (read (summed_of c.before.before))).0
 
-comes_first_requires : tie.Need-comes-first-requires
-comes_first_requires c κs = tt
+comes_first-requires : tie.Need-comes_first-requires
+comes_first-requires c κs = tt
 
-returns_2 : tie.Need-returns-2
-returns_2 c = (both c.before).same (not-true c.before.comes-first.result c.if2.true)
+returns-then-not-comes_first : tie.Need-returns-then-not-comes_first
+returns-then-not-comes_first c = (both c.before).same c.if-not-comes_first.true
 
-arcs_of_requires : tie.Need-arcs-of-requires
-arcs_of_requires c κs = tt
+arcs_of-requires : tie.Need-arcs_of-requires
+arcs_of-requires c κs = tt
 
-returns_3 : tie.Need-returns-3
-returns_3 c =
+returns-then-states-arcs_of : tie.Need-returns-then-states-arcs_of
+returns-then-states-arcs_of c =
     let at = c.before.before.before in
-    (both at).long (not-false at.comes-first.result c.before.before.if2.false)
-    (omega (arith, (from at).requires.2, c.before.arcs_of.ensures, c.if3.true))
+    (both at).long c.before.before.if-not-comes_first.false
+    (omega (arith, (from at).requires.2, c.before.arcs_of.ensures, c.if-states-arcs_of.true))
 
-mul_cost : tie.Need-overflow-mul-cost
-mul_cost c = omega (arith, (below (got c.before.before.before)).0)
+offset_bounds-costs-s-3 : tie.Need-offset_bounds-costs-s-3
+offset_bounds-costs-s-3 c = omega (arith, (below (got c.before.before.before)).0)
 
-slice_set_from_cost : tie.Need-slice-set-from-cost
-slice_set_from_cost c = (costs_at (got c.before.before.before)).0
+bounds-costs-s : tie.Need-bounds-costs-s
+bounds-costs-s c = (costs_at (got c.before.before.before)).0
 
-mul_lens : tie.Need-overflow-mul-lens
-mul_lens c = omega (arith, (below (got c.before.before.before)).0)
+offset_bounds-lens-s-2 : tie.Need-offset_bounds-lens-s-2
+offset_bounds-lens-s-2 c = omega (arith, (below (got c.before.before.before)).0)
 
-slice_write_lens : tie.Need-slice-write-lens
-slice_write_lens c = (lens_at (got c.before.before.before)).0
+bounds-lens-s-2 : tie.Need-bounds-lens-s-2
+bounds-lens-s-2 c = (lens_at (got c.before.before.before)).0
 
-same_length : tie.Need-same-length
-same_length c = search rules
+shape_of-costs : tie.Need-shape_of-costs
+shape_of-costs c = search rules
 
-same_length_2 : tie.Need-same-length-2
-same_length_2 c = search rules
+shape_of-lens : tie.Need-shape_of-lens
+shape_of-lens c = search rules
 
-returns_4 : tie.Need-returns-4
-returns_4 c =
+returns : tie.Need-returns
+returns c =
     let at = c.before.before.before in
-    (both at).put (not-false at.comes-first.result c.before.before.if2.false)
-    (omega (arith, (from at).requires.2, c.before.arcs_of.ensures, c.if3.false))
+    (both at).put c.before.before.if-not-comes_first.false
+    (omega (arith, (from at).requires.2, c.before.arcs_of.ensures, c.if-states-arcs_of.false))
 
 pub relax_spec : {M : Type 1} → statement M
 relax_spec =
     tie.close
     (tie.spec
-    arc_of_requires
-    cast_s
-    cast_to
-    mul_sum
-    slice_copy_out_sum
-    sum_requires
-    mul_if1
-    slice_copy_out_if1
-    returns
-    mul_len
-    slice_read_len
-    arc_size_requires
-    add_len
-    mul_comes_first
-    slice_copy_out_comes_first
-    mul_comes_first_2
-    slice_read_comes_first
-    comes_first_requires
-    returns_2
-    arcs_of_requires
-    returns_3
-    mul_cost
-    slice_set_from_cost
-    mul_lens
-    slice_write_lens
-    same_length
-    same_length_2
-    returns_4)
+    arc_of-a-requires
+    overflow_cast-s
+    overflow_cast-to
+    offset_bounds-costs-to
+    slice_copy_out-sum
+    sum-cost-requires
+    offset_bounds-costs-s
+    slice_copy_out-t-14
+    returns-then-costs-s
+    offset_bounds-lens-to
+    bounds-lens-to
+    arc_size-requires
+    overflow_add-len
+    offset_bounds-costs-s-2
+    slice_copy_out-comes_first
+    offset_bounds-lens-s
+    bounds-lens-s
+    comes_first-requires
+    returns-then-not-comes_first
+    arcs_of-requires
+    returns-then-states-arcs_of
+    offset_bounds-costs-s-3
+    bounds-costs-s
+    offset_bounds-lens-s-2
+    bounds-lens-s-2
+    shape_of-costs
+    shape_of-lens
+    returns)

@@ -6,13 +6,17 @@ use Rattle.relax.specs.Tentative.{labels_of}
 use Rattle.relax.proofs.sizes.arc_size.Statement.{statement}
 use Rattle.relax.proofs.sizes.arc_size.Tie as tie
 
+returns-then-output-eq0 : tie.Need-returns-then-output-eq0
+unfolding labels_of
+returns-then-output-eq0 c = (rw (eq-eqb c.before.args.output 0 c.if-output-eq0.true) refl, omega arith)
+
 returns : tie.Need-returns
 unfolding labels_of
-returns c = (rw (eq-eqb c.before.args.output 0 c.if1.true) refl, omega arith)
-
-returns_2 : tie.Need-returns-2
-unfolding labels_of
-returns_2 c = (rw (ne_eqb c.before.args.output 0 c.if1.false) refl, omega arith)
+returns c = (rw (ne_eqb c.before.args.output 0 c.if-output-eq0.false) refl, omega arith)
 
 pub arc_size_spec : {M : Type 1} → statement M
-arc_size_spec = tie.close (tie.spec returns returns_2)
+arc_size_spec =
+    tie.close
+    (tie.spec
+    returns-then-output-eq0
+    returns)

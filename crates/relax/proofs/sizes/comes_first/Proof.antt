@@ -10,25 +10,30 @@ use Rattle.relax.proofs.Packed.{pair_order}
 use Rattle.relax.proofs.sizes.comes_first.Statement.{statement}
 use Rattle.relax.proofs.sizes.comes_first.Tie as tie
 
-returns : tie.Need-returns
+returns-then-cost-other : tie.Need-returns-then-cost-other
 unfolding nearer
-returns c = let p : below c.before.args.cost c.before.args.other ≡ true = omega (arith, bits) in rw p refl
+returns-then-cost-other c = let p : below c.before.args.cost c.before.args.other ≡ true = omega (arith, bits) in rw p refl
 
-returns_2 : tie.Need-returns-2
+returns-then-other-cost : tie.Need-returns-then-other-cost
 unfolding nearer
-returns_2 c =
+returns-then-other-cost c =
     let a = c.before.before.args in
     let p : below a.cost a.other ≡ false = omega (arith, bits) in
     let q : at_most a.cost a.other ≡ false = omega (arith, bits) in
     rw (p, q) refl
 
-returns_3 : tie.Need-returns-3
+returns : tie.Need-returns
 unfolding nearer unpacked
-returns_3 c =
+returns c =
     let a = c.before.before.args in
     let p : below a.cost a.other ≡ false = omega (arith, bits) in
     let q : at_most a.cost a.other ≡ true = omega (arith, bits) in
     rw (p, q) (sym (pair_order a.size a.most))
 
 pub comes_first_spec : {M : Type 1} → statement M
-comes_first_spec = tie.close (tie.spec returns returns_2 returns_3)
+comes_first_spec =
+    tie.close
+    (tie.spec
+    returns-then-cost-other
+    returns-then-other-cost
+    returns)
