@@ -214,17 +214,17 @@ kept c xs chained long =
     let s = c.before.loop-next.invariant.0 xs here in
     ⊎_elim
     (λ w.
-    let none = search_none here s w.0.taken in
-    kept_new key long chained.few w.8 w.9 w.10 none.0 w.1.left (w.5.ensures.0 xs long none.1 here) w.13 (rw same at w.11))
+    let none = search_none here s w.if-next-eq0.true in
+    kept_new key long chained.few w.states-is w.heads-is w.links-is none.0 w.if-count-eq-FULL.false (w.insert.ensures.0 xs long none.1 here) w.number-is (rw same at w.walk-is))
     (λ w.
-    let there = search_found here s w.0.left w.2.taken in
-    kept_old key long chained.few w.3 w.4 w.5 (w.8 ∙ there.0) there.1 here (w.6 ∙ same))
-    c.if-next-eq0.branch
+    let there = search_found here s w.if-next-eq0.false w.if-states-next.true in
+    kept_old key long chained.few w.states-is w.heads-is w.links-is (w.number-is ∙ there.0) there.1 here (w.walk-is ∙ same))
+    c.if-next-eq0.branch-raw
 
 kept_length : (c : tie.Joined-next-eq0 invariant-loop-next decreases-loop-next invariant-loop-j decreases-loop-j) → length c.if-next-eq0.states ≡ length (outer c.before).loop-j.states
 kept_length c =
     let same = ap length c.before.loop-next.invariant.1 in
-    ⊎_elim (λ w. ap length w.8 ∙ w.5.ensures.1 ∙ same) (λ w. ap length w.3 ∙ same) c.if-next-eq0.branch
+    ⊎_elim (λ w. ap length w.states-is ∙ w.insert.ensures.1 ∙ same) (λ w. ap length w.states-is ∙ same) c.if-next-eq0.branch-raw
 
 -- The step taken
 
@@ -334,7 +334,7 @@ loop-j-preserved : tie.Need-loop-j-preserved invariant-loop-next decreases-loop-
 loop-j-preserved c =
     let p = put c.before in
     let t = turn p in (
-      gone_on p (get_or (start t).args.next-same-label.now t.loop-j.j 0 - 1) (next_step c),
+      gone_on p (get_or (start t).args.next_same_label.now t.loop-j.j 0 - 1) (next_step c),
       (next_step c).ready,
       p.record_step-walk.auto.table ∙ t.loop-j.invariant.2,
       p.record_step-walk.auto.origins ∙ t.loop-j.invariant.3,
