@@ -89,7 +89,7 @@ no_any_input-no_any_input-requires c κs =
 
 apply_into-requires : tie.Need-apply_into-requires
 apply_into-requires c κs =
-    let told = c.before.before.before.no_any_input in
+    let told = c.before.before.before.no_any_input-no_any_input in
     let else5 = c.before.before.before.before in
     let else2 = else5.before.before.before in
     let x = (entry (read else2)).args in

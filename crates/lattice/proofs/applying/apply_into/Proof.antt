@@ -57,8 +57,8 @@ closed c = c.before.before.before.before
 abbrev closing : tie.After-trim_behind-len → tie.After-close-from
 closing c = closed c.before
 
-abbrev trimmed : tie.After-u16-at-arg → tie.After-trim_behind-len
-trimmed c = c.before.before.before.before.before
+abbrev trimmed : tie.After-slice_known-8-1 → tie.After-trim_behind-len
+trimmed c = c.before.before.before.before
 
 abbrev trimming : tie.After-u16_at-kept → tie.After-trim_behind-len
 trimming c = trimmed c.before
@@ -186,8 +186,8 @@ overflow_cast-string c =
 
 close-from-requires : tie.Need-close-from-requires
 close-from-requires c κs =
-    let codes = c.before.before.before in
-    let else2 = codes.before in
+    let codes = c.before.before in
+    let else2 = codes.before.before in
     ((_, _, (walked else2).walk_behind-w.ensures.done else2.before.if-w-ne0.false), else2.if-m-gt-MAX_ARCS.false, codes.put_codes.ensures.small)
 
 -- The lattice before trimming is made.

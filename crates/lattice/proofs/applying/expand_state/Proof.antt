@@ -252,12 +252,12 @@ was_read c =
     let itself = reads_itself cs (table_of s) x (good (lent (opened turn))) turn.loop-i.i (below at.before) a at.arc_of-a.ensures
     c.if-input-label.read c.if-input-label.output in
     let label = turn.before.label_at-label.result in
-    ⊎_elim (λ w. own w.2 w.3 w.1.left)
+    ⊎_elim (λ w. own w.read-is w.output-is w.if-input-ne0.false)
     (λ w. ⊎_elim
-    (λ w. let fit = fits_by at ∙ eq-eqb a.input label w.0.left in
-    reads_some (fits_other (table_of s) (symbol_of cs x) a (λ e. w.1.taken (e ∙ sym (symbol_is (at_symbol turn)))) fit) fit
-    (w.3 ∙ symbol_is (at_symbol turn)) (w.4 ∙ w.2.ensures ∙ ap (λ (symbol : ℕ). passed symbol a) (sym w.3)))
-    (λ w. itself w.2 w.3 s.requires.0.0.good (w.1.left ∙ symbol_is (at_symbol turn))) w) c.if-input-label.branch
+    (λ w. let fit = fits_by at ∙ eq-eqb a.input label w.if-input-label.false in
+    reads_some (fits_other (table_of s) (symbol_of cs x) a (λ e. w.if-input-symbol.true (e ∙ sym (symbol_is (at_symbol turn)))) fit) fit
+    (w.read-is ∙ symbol_is (at_symbol turn)) (w.output-is ∙ w.passed-output.ensures ∙ ap (λ (symbol : ℕ). passed symbol a) (sym w.read-is)))
+    (λ w. itself w.read-is w.output-is s.requires.0.0.good (w.if-input-symbol.false ∙ symbol_is (at_symbol turn))) w) c.if-input-label.branch-raw
 
 overflow_cast-step : tie.Need-overflow_cast-step invariant-loop-i decreases-loop-i
 overflow_cast-step c = omega (arith, source_lt (start (opened (at_turn c.before))))

@@ -39,8 +39,8 @@ at_record c = c.before.before
 abbrev joined : tie.After-slice_known-5-1 → tie.Joined-arcs-lt-MAX_ARCS
 joined c = (at_record c).before.before.before
 
-abbrev start_of_find : tie.After-find-arg3 → tie.Start
-start_of_find c = c.before.before.before.before.before.before
+abbrev start_of_find : tie.After-slice_known-3-1 → tie.Start
+start_of_find c = c.before.before.before
 
 find-number-requires : tie.Need-find-number-requires
 find-number-requires c κs =
@@ -91,14 +91,14 @@ traced : (c : tie.Joined-arcs-lt-MAX_ARCS)
     ≡ traced_by 1 (start (found c)).args.w.arcs ((start (found c)).args.i ∷ []) (start (found c)).args.origins.now
 traced c =
     let a = (start (found c)).args in
-    ⊎_elim (λ w. traced_one a.w.arcs a.i a.origins.now c.if-arcs-lt-MAX_ARCS.origins w.0.taken w.1)
-    (λ w. traced_none a.w.arcs (a.i ∷ []) a.origins.now c.if-arcs-lt-MAX_ARCS.origins w.0.left w.1) c.if-arcs-lt-MAX_ARCS.branch
+    ⊎_elim (λ w. traced_one a.w.arcs a.i a.origins.now c.if-arcs-lt-MAX_ARCS.origins w.if-arcs-lt-MAX_ARCS.true w.origins-is)
+    (λ w. traced_none a.w.arcs (a.i ∷ []) a.origins.now c.if-arcs-lt-MAX_ARCS.origins w.if-arcs-lt-MAX_ARCS.false w.origins-is) c.if-arcs-lt-MAX_ARCS.branch-raw
 
 shape_of-origins : tie.Need-shape_of-origins
 shape_of-origins c =
     let at = joined c in
     let a = (start (found at)).args in
-    ⊎_elim (λ w. ap length w.1 ∙ length-set a.origins.now a.w.arcs a.i) (λ w. ap length w.1) at.if-arcs-lt-MAX_ARCS.came
+    ⊎_elim (λ w. ap length w.origins-is ∙ length-set a.origins.now a.w.arcs a.i) (λ w. ap length w.origins-is) at.if-arcs-lt-MAX_ARCS.branch-raw
 
 shape_of-states : tie.Need-shape_of-states
 shape_of-states c = search rules
@@ -120,7 +120,7 @@ returns c = λ b k.
     stored.0 stored.1 refl (traced at) (rw weight at put.ensures))
 
 overflow_cast-made : tie.Need-overflow_cast-made
-overflow_cast-made c = search rules
+overflow_cast-made c = omega (arith, number_lt (in_new (at_store c)))
 
 pub take_step_spec : {M : Type 1} → statement M
 take_step_spec =

@@ -28,7 +28,7 @@ same : (c : tie.After-copy_out)
 same c = front_copied (entry c).args.count c.copy_out.new.to _ c.copy_out.ensures
 
 copy_out-requires : tie.Need-copy_out-requires
-copy_out-requires c κs = let pre = c.before.before.before.before.before.requires in (pre.0.inside, pre.1)
+copy_out-requires c κs = let pre = c.requires in (pre.0.inside, pre.1)
 
 slice_bounds-trim_into-count : tie.Need-slice_bounds-trim_into-count
 slice_bounds-trim_into-count c = omega arith
@@ -37,7 +37,7 @@ slice_bounds-trim_into-start : tie.Need-slice_bounds-trim_into-start
 slice_bounds-trim_into-start c = omega arith
 
 slice_bounds-trim_into-end : tie.Need-slice_bounds-trim_into-end
-slice_bounds-trim_into-end c = let k = c.before.before.before in omega (arith, k.copy_out.auto.to, (entry k).requires.1)
+slice_bounds-trim_into-end c = let k = c.before.before in omega (arith, k.copy_out.auto.to, (entry k).requires.1)
 
 trim_into-requires : tie.Need-trim_into-requires
 trim_into-requires c κs =

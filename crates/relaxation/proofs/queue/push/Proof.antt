@@ -4,25 +4,31 @@ use mathlib.Core.Path.{refl}
 use Rattle.relaxation.proofs.queue.push.Statement.{statement}
 use Rattle.relaxation.proofs.queue.push.Tie as tie
 
-behind_requires : tie.Need-behind-requires
-behind_requires c κs = search rules
+behind-at-requires : tie.Need-behind-at-requires
+behind-at-requires c κs = search rules
 
-cast_ring : tie.Need-overflow-cast-ring
-cast_ring c = search rules
+overflow_cast-ring : tie.Need-overflow_cast-ring
+overflow_cast-ring c = search rules
 
-mul_ring : tie.Need-overflow-mul-ring
-mul_ring c = search rules
+offset_bounds-ring-at : tie.Need-offset_bounds-ring-at
+offset_bounds-ring-at c = search rules
 
-element_write_ring : tie.Need-element-write-ring
-element_write_ring c = search rules
+bounds-ring-at : tie.Need-bounds-ring-at
+bounds-ring-at c = search rules
 
-element_write_waits : tie.Need-element-write-waits
-element_write_waits c = search rules
+bounds-waits-s : tie.Need-bounds-waits-s
+bounds-waits-s c = search rules
 
 returns : tie.Need-returns
-returns c = rw c.behind.ensures.0 (refl, refl)
+returns c = rw c.behind-at.ensures.0 (refl, refl)
 
 pub push_spec : {M : Type 1} → statement M
 push_spec =
     tie.close
-    (tie.spec behind_requires cast_ring mul_ring element_write_ring element_write_waits returns)
+    (tie.spec
+    behind-at-requires
+    overflow_cast-ring
+    offset_bounds-ring-at
+    bounds-ring-at
+    bounds-waits-s
+    returns)

@@ -10,16 +10,16 @@ use Rattle.relaxation.proofs.FirstArcs.{before_first, first_before}
 use Rattle.relaxation.proofs.seek.first_back.Statement.{statement}
 use Rattle.relaxation.proofs.seek.first_back.Tie as tie
 
-abbrev invariant_loop : tie.invariant_loop
-invariant_loop table first s near i₀ i = (arcs_below s (decode table).arcs ≤ i) × (i ≤ near)
+abbrev invariant-loop-i : tie.invariant-loop-i
+invariant-loop-i table first s near i₀ i = (arcs_below s (decode table).arcs ≤ i) × (i ≤ near)
 
-abbrev decreases_loop : tie.decreases_loop
-decreases_loop table first s near i₀ i = i
+abbrev decreases-loop-i : tie.decreases-loop-i
+decreases-loop-i table first s near i₀ i = i
 
 abbrev Turn : Type 0
-Turn = tie.In-loop invariant_loop decreases_loop
+Turn = tie.In-loop-i invariant-loop-i decreases-loop-i
 
-abbrev start : Turn → tie.Start invariant_loop decreases_loop
+abbrev start : Turn → tie.Start invariant-loop-i decreases-loop-i
 start c = c.before.before.before.before
 
 abbrev whole : Turn → Transducer
@@ -28,50 +28,61 @@ whole c = decode (start c).args.table.now
 size : (c : Turn) → Sized (whole c)
 size c =
     let bs = (start c).args.table.now in
-    let bytes : Bytes bs = λ i. omega (arith, c.before.before.before.shared-slice-known.given i) in
+    let bytes : Bytes bs = λ i. omega (arith, c.before.before.before.shared_slice_known-1.given i) in
     sized bs bytes (start c).requires.0.accepted
 
-inside : (c : Turn) → c.before.loop.i - 1 < length (whole c).arcs
-inside c = omega (arith, c.loop-test.true, c.before.loop.invariant.1, (start c).requires.1)
+inside : (c : Turn) → c.before.loop-i.i - 1 < length (whole c).arcs
+inside c = omega (arith, c.loop-i-test.true, c.before.loop-i.invariant.1, (start c).requires.1)
 
-strides_back_requires : tie.Need-strides-back-requires invariant_loop decreases_loop
-strides_back_requires c κs = c.before.requires
+strides_back-i-requires : tie.Need-strides_back-i-requires invariant-loop-i decreases-loop-i
+strides_back-i-requires c κs = c.before.requires
 
-loop_holds : tie.Need-loop-init invariant_loop decreases_loop
-loop_holds c = c.strides-back.ensures
+loop-i-init : tie.Need-loop-i-init invariant-loop-i decreases-loop-i
+loop-i-init c = c.strides_back-i.ensures
 
-sub_source : tie.Need-overflow-sub-source invariant_loop decreases_loop
-sub_source c = omega (arith, c.loop-test.true)
+overflow_sub-i : tie.Need-overflow_sub-i invariant-loop-i decreases-loop-i
+overflow_sub-i c = omega (arith, c.loop-i-test.true)
 
-source_requires : tie.Need-source-requires invariant_loop decreases_loop
-source_requires c κs = ((start c).requires.0, inside c)
+source-requires : tie.Need-source-requires invariant-loop-i decreases-loop-i
+source-requires c κs = ((start c).requires.0, inside c)
 
-returns : tie.Need-returns invariant_loop decreases_loop
-returns c =
+returns-then-source-s : tie.Need-returns-then-source-s invariant-loop-i decreases-loop-i
+returns-then-source-s c =
     let t = c.before.before in
-    let now' = t.before.loop in
+    let now' = t.before.loop-i in
     let below = before_first (whole t) (now'.i - 1) (start t).args.s (size t).content (inside t)
-    (omega (arith, c.before.source.ensures.0, c.if1.true)) in
-    omega (arith, below, now'.invariant.0, t.loop-test.true)
+    (omega (arith, c.before.source.ensures.0, c.if-source-s.true)) in
+    omega (arith, below, now'.invariant.0, t.loop-i-test.true)
 
-sub_i : tie.Need-overflow-sub-i invariant_loop decreases_loop
-sub_i c = omega (arith, c.before.before.loop-test.true)
+overflow_sub-i-in-loop-i : tie.Need-overflow_sub-i-in-loop-i invariant-loop-i decreases-loop-i
+overflow_sub-i-in-loop-i c = omega (arith, c.before.before.loop-i-test.true)
 
-loop_less : tie.Need-loop-smaller invariant_loop decreases_loop
-loop_less c = omega (arith, c.before.before.loop-test.true)
+loop-i-smaller : tie.Need-loop-i-smaller invariant-loop-i decreases-loop-i
+loop-i-smaller c = omega (arith, c.before.before.loop-i-test.true)
 
-loop_again : tie.Need-loop-preserved invariant_loop decreases_loop
-loop_again c =
+loop-i-preserved : tie.Need-loop-i-preserved invariant-loop-i decreases-loop-i
+loop-i-preserved c =
     let t = c.before.before in
-    let now' = t.before.loop in (
-      first_before (whole t) (now'.i - 1) (start t).args.s (size t).content (inside t) (omega (arith, c.before.source.ensures.0, c.if1.false)),
+    let now' = t.before.loop-i in (
+      first_before (whole t) (now'.i - 1) (start t).args.s (size t).content (inside t) (omega (arith, c.before.source.ensures.0, c.if-source-s.false)),
       omega (arith, now'.invariant.1),
     )
 
-returns_2 : tie.Need-returns-2 invariant_loop decreases_loop
-returns_2 c = omega (arith, c.loop-test.false, c.before.loop.invariant.0)
+returns : tie.Need-returns invariant-loop-i decreases-loop-i
+returns c = omega (arith, c.loop-i-test.false, c.before.loop-i.invariant.0)
 
 pub first_back_spec : {M : Type 1} → statement M
 first_back_spec =
     tie.close
-    (tie.spec invariant_loop decreases_loop strides_back_requires loop_holds sub_source source_requires returns sub_i loop_less loop_again returns_2)
+    (tie.spec
+    invariant-loop-i
+    decreases-loop-i
+    strides_back-i-requires
+    loop-i-init
+    overflow_sub-i
+    source-requires
+    returns-then-source-s
+    overflow_sub-i-in-loop-i
+    loop-i-smaller
+    loop-i-preserved
+    returns)

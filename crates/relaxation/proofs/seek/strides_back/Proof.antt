@@ -10,16 +10,16 @@ use Rattle.relaxation.proofs.FirstArcs.{first_before}
 use Rattle.relaxation.proofs.seek.strides_back.Statement.{statement}
 use Rattle.relaxation.proofs.seek.strides_back.Tie as tie
 
-abbrev invariant_loop : tie.invariant_loop
-invariant_loop table first s near i₀ i = (arcs_below s (decode table).arcs ≤ i) × (i ≤ near)
+abbrev invariant-loop-i : tie.invariant-loop-i
+invariant-loop-i table first s near i₀ i = (arcs_below s (decode table).arcs ≤ i) × (i ≤ near)
 
-abbrev decreases_loop : tie.decreases_loop
-decreases_loop table first s near i₀ i = i
+abbrev decreases-loop-i : tie.decreases-loop-i
+decreases-loop-i table first s near i₀ i = i
 
 abbrev Turn : Type 0
-Turn = tie.In-loop invariant_loop decreases_loop
+Turn = tie.In-loop-i invariant-loop-i decreases-loop-i
 
-abbrev start : Turn → tie.Start invariant_loop decreases_loop
+abbrev start : Turn → tie.Start invariant-loop-i decreases-loop-i
 start c = c.before.before.before
 
 abbrev whole : Turn → Transducer
@@ -28,36 +28,44 @@ whole c = decode (start c).args.table.now
 size : (c : Turn) → Sized (whole c)
 size c =
     let bs = (start c).args.table.now in
-    let bytes : Bytes bs = λ i. omega (arith, c.before.before.shared-slice-known.given i) in
+    let bytes : Bytes bs = λ i. omega (arith, c.before.before.shared_slice_known-1.given i) in
     sized bs bytes (start c).requires.0.accepted
 
-inside : (c : Turn) → c.before.loop.i - 32 < length (whole c).arcs
-inside c = omega (arith, c.loop-test.true, c.before.loop.invariant.1, (start c).requires.1)
+inside : (c : Turn) → c.before.loop-i.i - 32 < length (whole c).arcs
+inside c = omega (arith, c.loop-i-test.true, c.before.loop-i.invariant.1, (start c).requires.1)
 
-loop_holds : tie.Need-loop-init invariant_loop decreases_loop
-loop_holds c = (c.before.requires.2, omega arith)
+loop-i-init : tie.Need-loop-i-init invariant-loop-i decreases-loop-i
+loop-i-init c = (c.before.requires.2, omega arith)
 
-source_requires : tie.Need-source-requires invariant_loop decreases_loop
-source_requires c κs = ((start c).requires.0, inside c)
+source-requires : tie.Need-source-requires invariant-loop-i decreases-loop-i
+source-requires c κs = ((start c).requires.0, inside c)
 
-returns : tie.Need-returns invariant_loop decreases_loop
-returns c = c.before.before.before.loop.invariant
+returns-then-source-s : tie.Need-returns-then-source-s invariant-loop-i decreases-loop-i
+returns-then-source-s c = c.before.before.before.loop-i.invariant
 
-loop_less : tie.Need-loop-smaller invariant_loop decreases_loop
-loop_less c = omega (arith, c.before.before.loop-test.true)
+loop-i-smaller : tie.Need-loop-i-smaller invariant-loop-i decreases-loop-i
+loop-i-smaller c = omega (arith, c.before.before.loop-i-test.true)
 
-loop_again : tie.Need-loop-preserved invariant_loop decreases_loop
-loop_again c =
+loop-i-preserved : tie.Need-loop-i-preserved invariant-loop-i decreases-loop-i
+loop-i-preserved c =
     let t = c.before.before in
-    let now' = t.before.loop in (
-      first_before (whole t) (now'.i - 32) (start t).args.s (size t).content (inside t) (omega (arith, c.before.source.ensures.0, c.if1.false)),
+    let now' = t.before.loop-i in (
+      first_before (whole t) (now'.i - 32) (start t).args.s (size t).content (inside t) (omega (arith, c.before.source.ensures.0, c.if-source-s.false)),
       omega (arith, now'.invariant.1),
     )
 
-returns_2 : tie.Need-returns-2 invariant_loop decreases_loop
-returns_2 c = c.before.loop.invariant
+returns : tie.Need-returns invariant-loop-i decreases-loop-i
+returns c = c.before.loop-i.invariant
 
 pub strides_back_spec : {M : Type 1} → statement M
 strides_back_spec =
     tie.close
-    (tie.spec invariant_loop decreases_loop loop_holds source_requires returns loop_less loop_again returns_2)
+    (tie.spec
+    invariant-loop-i
+    decreases-loop-i
+    loop-i-init
+    source-requires
+    returns-then-source-s
+    loop-i-smaller
+    loop-i-preserved
+    returns)

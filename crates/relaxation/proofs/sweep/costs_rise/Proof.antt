@@ -11,53 +11,53 @@ use Rattle.capped.proofs.MarksInPlace.{below_next}
 use Rattle.relaxation.proofs.sweep.costs_rise.Statement.{statement}
 use Rattle.relaxation.proofs.sweep.costs_rise.Tie as tie
 
-abbrev invariant_loop : tie.invariant_loop
-invariant_loop states costs s₀ s = (u : ℕ) → u < s → AtMost no_weight (cost_at costs u)
+abbrev invariant-loop-s : tie.invariant-loop-s
+invariant-loop-s states costs s₀ s = (u : ℕ) → u < s → AtMost no_weight (cost_at costs u)
 
-abbrev decreases_loop : tie.decreases_loop
-decreases_loop states costs s₀ s = states - s
+abbrev decreases-loop-s : tie.decreases-loop-s
+decreases-loop-s states costs s₀ s = states - s
 
-loop_holds : tie.Need-loop-init invariant_loop decreases_loop
-loop_holds c = λ u h. absurd (omega arith)
+loop-s-init : tie.Need-loop-s-init invariant-loop-s decreases-loop-s
+loop-s-init c = λ u h. absurd (omega arith)
 
-mul_if1 : tie.Need-overflow-mul-if1 invariant_loop decreases_loop
-mul_if1 c = omega (arith, c.loop-test.true, c.before.before.requires, c.before.before.well-formed)
+offset_bounds-costs-s : tie.Need-offset_bounds-costs-s invariant-loop-s decreases-loop-s
+offset_bounds-costs-s c = omega (arith, c.loop-s-test.true, c.before.before.requires, c.before.before.well_formed)
 
-shared_slice_copy_out_if1 : tie.Need-shared-slice-copy-out-if1 invariant_loop decreases_loop
-shared_slice_copy_out_if1 c = omega (arith, c.loop-test.true, c.before.before.requires)
+bounds-costs-s : tie.Need-bounds-costs-s invariant-loop-s decreases-loop-s
+bounds-costs-s c = omega (arith, c.loop-s-test.true, c.before.before.requires)
 
-returns : tie.Need-returns invariant_loop decreases_loop
-returns c = λ e. never e
+returns-then-costs-s-lt0 : tie.Need-returns-then-costs-s-lt0 invariant-loop-s decreases-loop-s
+returns-then-costs-s-lt0 c = λ e. never e
 
-add_s : tie.Need-overflow-add-s invariant_loop decreases_loop
-add_s c = let turn = c.before.before in omega (arith, turn.loop-test.true, turn.before.before.requires, turn.before.before.well-formed)
+overflow_add-s : tie.Need-overflow_add-s invariant-loop-s decreases-loop-s
+overflow_add-s c = let turn = c.before.before in omega (arith, turn.loop-s-test.true, turn.before.before.requires, turn.before.before.well_formed)
 
-loop_less : tie.Need-loop-smaller invariant_loop decreases_loop
-loop_less c = let turn = c.before.before in omega (arith, turn.loop-test.true)
+loop-s-smaller : tie.Need-loop-s-smaller invariant-loop-s decreases-loop-s
+loop-s-smaller c = let turn = c.before.before in omega (arith, turn.loop-s-test.true)
 
-loop_again : tie.Need-loop-preserved invariant_loop decreases_loop
-loop_again c =
+loop-s-preserved : tie.Need-loop-s-preserved invariant-loop-s decreases-loop-s
+loop-s-preserved c =
     let turn = c.before.before in
-    let now' = turn.before.loop in
+    let now' = turn.before.loop-s in
     let x = cost_at turn.before.before.args.costs.now now'.s in
-    let f : SFits w32 x = record { sfits = c.before.if12.given } in
-    let here : AtMost no_weight x = omega (arith, bits, c.if1.false) in
+    let f : SFits w32 x = record { sfits = c.before.t7-1.given } in
+    let here : AtMost no_weight x = omega (arith, bits, c.if-costs-s-lt0.false) in
     below_next (λ s. AtMost no_weight (cost_at turn.before.before.args.costs.now s)) now'.s now'.invariant here
 
-returns_2 : tie.Need-returns-2 invariant_loop decreases_loop
-returns_2 c = λ e u h. c.before.loop.invariant u (omega (arith, c.loop-test.false))
+returns : tie.Need-returns invariant-loop-s decreases-loop-s
+returns c = λ e u h. c.before.loop-s.invariant u (omega (arith, c.loop-s-test.false))
 
 pub costs_rise_spec : {M : Type 1} → statement M
 costs_rise_spec =
     tie.close
     (tie.spec
-    invariant_loop
-    decreases_loop
-    loop_holds
-    mul_if1
-    shared_slice_copy_out_if1
-    returns
-    add_s
-    loop_less
-    loop_again
-    returns_2)
+    invariant-loop-s
+    decreases-loop-s
+    loop-s-init
+    offset_bounds-costs-s
+    bounds-costs-s
+    returns-then-costs-s-lt0
+    overflow_add-s
+    loop-s-smaller
+    loop-s-preserved
+    returns)

@@ -11,4 +11,7 @@ unfolding is_nearest
 returns c = rw (to_z-of_z c.ranges.bar, to_z-of_z c.ranges.cost, pack_unpack c.args.size) refl
 
 pub is_nearest_spec : {M : Type 1} → statement M
-is_nearest_spec = tie.close (tie.spec returns)
+is_nearest_spec =
+    tie.close
+    (tie.spec
+    returns)

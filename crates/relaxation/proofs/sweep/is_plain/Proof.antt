@@ -7,24 +7,30 @@ use Rattle.wire.proofs.Ints.{bits}
 use Rattle.relaxation.proofs.sweep.is_plain.Statement.{statement}
 use Rattle.relaxation.proofs.sweep.is_plain.Tie as tie
 
+returns-then-not-writing : tie.Need-returns-then-not-writing
+returns-then-not-writing c = λ e. never e
+
+returns-then-least-lt0 : tie.Need-returns-then-least-lt0
+returns-then-least-lt0 c = λ e. never e
+
+costs_rise-requires : tie.Need-costs_rise-requires
+costs_rise-requires c κs = search rules
+
 returns : tie.Need-returns
-returns c = λ e. never e
-
-returns_2 : tie.Need-returns-2
-returns_2 c = λ e. never e
-
-costs_rise_requires : tie.Need-costs-rise-requires
-costs_rise_requires c κs = search rules
-
-returns_3 : tie.Need-returns-3
-returns_3 c =
+returns c =
     let some = c.before in
     let start = some.before.before in
     let fits = start.ranges.least in
     λ e. (
-      not-false start.args.writing some.before.if1.false,
-      record { arcs = omega (arith, bits, some.if2.false); costs = c.costs-rise.ensures e },
+      some.before.if-not-writing.false,
+      record { arcs = omega (arith, bits, some.if-least-lt0.false); costs = c.costs_rise.ensures e },
     )
 
 pub is_plain_spec : {M : Type 1} → statement M
-is_plain_spec = tie.close (tie.spec returns returns_2 costs_rise_requires returns_3)
+is_plain_spec =
+    tie.close
+    (tie.spec
+    returns-then-not-writing
+    returns-then-least-lt0
+    costs_rise-requires
+    returns)

@@ -4,44 +4,44 @@ use mir.Facts.{to_z-of_z}
 use Rattle.relaxation.proofs.sweep.sweep_once.Statement.{statement}
 use Rattle.relaxation.proofs.sweep.sweep_once.Tie as tie
 
-sweep_states_requires : tie.Need-sweep-states-requires
-sweep_states_requires c κs =
+sweep_states-requires : tie.Need-sweep_states-requires
+sweep_states-requires c κs =
     let start = c.before.before.before.before.before in
     let pre = start.requires in
-    (pre.0, pre.1, pre.2, rw (to_z-of_z start.ranges.least) (pre.4 c.before.before.if1.true), pre.5, pre.6)
+    (pre.0, pre.1, pre.2, rw (to_z-of_z start.ranges.least) (pre.4 c.before.before.if-forward.true), pre.5, pre.6)
 
-same_length : tie.Need-same-length
-same_length c = search rules
+shape_of-costs-then-forward : tie.Need-shape_of-costs-then-forward
+shape_of-costs-then-forward c = search rules
 
-same_length_2 : tie.Need-same-length-2
-same_length_2 c = search rules
+shape_of-lens-then-forward : tie.Need-shape_of-lens-then-forward
+shape_of-lens-then-forward c = search rules
 
-returns : tie.Need-returns
-returns c = c.before.before.before.sweep-states.ensures
+returns-then-forward : tie.Need-returns-then-forward
+returns-then-forward c = c.before.before.before.sweep_states.ensures
 
-sweep_requires : tie.Need-sweep-requires
-sweep_requires c κs =
+sweep-requires : tie.Need-sweep-requires
+sweep-requires c κs =
     let pre = c.before.before.before.before.before.requires in
     (pre.0, pre.1, pre.2, pre.3, pre.5, pre.6)
 
-same_length_3 : tie.Need-same-length-3
-same_length_3 c = search rules
+shape_of-costs : tie.Need-shape_of-costs
+shape_of-costs c = search rules
 
-same_length_4 : tie.Need-same-length-4
-same_length_4 c = search rules
+shape_of-lens : tie.Need-shape_of-lens
+shape_of-lens c = search rules
 
-returns_2 : tie.Need-returns-2
-returns_2 c = c.before.before.before.sweep.ensures
+returns : tie.Need-returns
+returns c = c.before.before.before.sweep.ensures
 
 pub sweep_once_spec : {M : Type 1} → statement M
 sweep_once_spec =
     tie.close
     (tie.spec
-    sweep_states_requires
-    same_length
-    same_length_2
-    returns
-    sweep_requires
-    same_length_3
-    same_length_4
-    returns_2)
+    sweep_states-requires
+    shape_of-costs-then-forward
+    shape_of-lens-then-forward
+    returns-then-forward
+    sweep-requires
+    shape_of-costs
+    shape_of-lens
+    returns)

@@ -12,108 +12,108 @@ use Rattle.relaxation.proofs.Draining.{from_on, ordered_first, ordered_next, ord
 use Rattle.relaxation.proofs.worklist.relax_all.Statement.{statement}
 use Rattle.relaxation.proofs.worklist.relax_all.Tie as tie
 
-abbrev invariant_loop : tie.invariant_loop
-invariant_loop table first states arcs marks costs₀ lens₀ ring₀ waits₀ count₀ i₀ costs lens ring waits count i =
+abbrev invariant-loop-i : tie.invariant-loop-i
+invariant-loop-i table first states arcs marks costs₀ lens₀ ring₀ waits₀ count₀ i₀ costs lens ring waits count i =
     Draining (decode table) (mark marks) (from_on i) costs lens ring waits 0 count × (length costs ≡ length costs₀) × (length lens ≡ length lens₀)
 
-abbrev decreases_loop : tie.decreases_loop
-decreases_loop table first states arcs marks costs₀ lens₀ ring₀ waits₀ count₀ i₀ costs lens ring waits count i = arcs - i
+abbrev decreases-loop-i : tie.decreases-loop-i
+decreases-loop-i table first states arcs marks costs₀ lens₀ ring₀ waits₀ count₀ i₀ costs lens ring waits count i = arcs - i
 
 -- A turn of the loop.
 abbrev Turn : Type 0
-Turn = tie.In-loop invariant_loop decreases_loop
+Turn = tie.In-loop-i invariant-loop-i decreases-loop-i
 
-abbrev start : Turn → tie.Start invariant_loop decreases_loop
+abbrev start : Turn → tie.Start invariant-loop-i decreases-loop-i
 start c = c.before.before.before.before
 
-abbrev turn : tie.After-relax-and-join invariant_loop decreases_loop → Turn
+abbrev turn : tie.After-relax_and_join-next invariant-loop-i decreases-loop-i → Turn
 turn c = c.before.before.before.before.before
 
-abbrev joined : tie.After-slice-known2 invariant_loop decreases_loop → tie.After-relax-and-join invariant_loop decreases_loop
+abbrev joined : tie.After-slice_known-in-loop-i-1 invariant-loop-i decreases-loop-i → tie.After-relax_and_join-next invariant-loop-i decreases-loop-i
 joined c = c.before.before.before
 
 -- There are as many cells as before.
-abbrev Kept : tie.After-relax-and-join invariant_loop decreases_loop → Type 0
+abbrev Kept : tie.After-relax_and_join-next invariant-loop-i decreases-loop-i → Type 0
 Kept c =
     let a = (start (turn c)).args in
-    let last = c.relax-and-join.new.1.1.1.1.1 in
-    (length last.0 ≡ length a.costs.now) × (length last.1.0 ≡ length a.lens.now)
+    let last = c.relax_and_join-next.new in
+    (length last.costs ≡ length a.costs.now) × (length last.lens ≡ length a.lens.now)
 
-kept : (c : tie.After-relax-and-join invariant_loop decreases_loop) → Kept c
+kept : (c : tie.After-relax_and_join-next invariant-loop-i decreases-loop-i) → Kept c
 kept c =
-    let inv = (turn c).before.loop.invariant in
-    let same = c.relax-and-join.auto.1.1.1.1.1 in
-    (same.0 ∙ inv.1, same.1.0 ∙ inv.2)
+    let inv = (turn c).before.loop-i.invariant in
+    let same = c.relax_and_join-next.auto in
+    (same.costs ∙ inv.1, same.lens ∙ inv.2)
 
-size : (c : tie.After-shared-slice-known invariant_loop decreases_loop) → Sized (decode c.before.args.table.now)
+size : (c : tie.After-shared_slice_known-1 invariant-loop-i decreases-loop-i) → Sized (decode c.before.args.table.now)
 size c =
     let bs = c.before.args.table.now in
-    let bytes : Bytes bs = λ i. omega (arith, c.shared-slice-known.given i) in
+    let bytes : Bytes bs = λ i. omega (arith, c.shared_slice_known-1.given i) in
     sized bs bytes c.before.requires.0.accepted
 
-loop_holds : tie.Need-loop-init invariant_loop decreases_loop
-loop_holds c =
+loop-i-init : tie.Need-loop-i-init invariant-loop-i decreases-loop-i
+loop-i-init c =
     let from = c.before.before in
     let pre = from.requires in
     (ordered_first pre.4 pre.3 (queue_none (decode from.args.table.now).states (size c.before).states pre.5 pre.6), refl, refl)
 
-relax_and_join_requires : tie.Need-relax-and-join-requires invariant_loop decreases_loop
-relax_and_join_requires c κs =
+relax_and_join-next-requires : tie.Need-relax_and_join-next-requires invariant-loop-i decreases-loop-i
+relax_and_join-next-requires c κs =
     let t = c.before.before.before.before in
-    let k = t.before.loop.invariant.0 in
+    let k = t.before.loop-i.invariant.0 in
     let pre = (start t).requires in
-    (pre.0, omega (arith, t.loop-test.true, pre.2), pre.1, k.nearing, k.cells, k.queue)
+    (pre.0, omega (arith, t.loop-i-test.true, pre.2), pre.1, k.nearing, k.cells, k.queue)
 
-same_length : tie.Need-same-length invariant_loop decreases_loop
-same_length c = (kept (joined c.before)).0
+shape_of-costs-then-next-eq-STUCK : tie.Need-shape_of-costs-then-next-eq-STUCK invariant-loop-i decreases-loop-i
+shape_of-costs-then-next-eq-STUCK c = (kept (joined c.before)).0
 
-same_length_2 : tie.Need-same-length-2 invariant_loop decreases_loop
-same_length_2 c = (kept (joined c.before)).1
+shape_of-lens-then-next-eq-STUCK : tie.Need-shape_of-lens-then-next-eq-STUCK invariant-loop-i decreases-loop-i
+shape_of-lens-then-next-eq-STUCK c = (kept (joined c.before)).1
 
-returns : tie.Need-returns invariant_loop decreases_loop
-returns c = let r = (joined c.before).relax-and-join.ensures in drains_stuck r.cells r.nearing (r.stays c.if1.true)
+returns-then-next-eq-STUCK : tie.Need-returns-then-next-eq-STUCK invariant-loop-i decreases-loop-i
+returns-then-next-eq-STUCK c = let r = (joined c.before).relax_and_join-next.ensures in drains_stuck r.cells r.nearing (r.stays c.if-next-eq-STUCK.true)
 
-add_i : tie.Need-overflow-add-i invariant_loop decreases_loop
-add_i c = let t = turn (joined c.before) in omega (arith, t.loop-test.taken, (start t).pre.2, (size t.before.before.before).arcs)
+overflow_add-i : tie.Need-overflow_add-i invariant-loop-i decreases-loop-i
+overflow_add-i c = let t = turn (joined c.before) in omega (arith, t.loop-i-test.true, (start t).requires.2, (size t.before.before.before).arcs)
 
-loop_less : tie.Need-loop-smaller invariant_loop decreases_loop
-loop_less c = omega (arith, (turn (joined c.before)).loop-test.taken)
+loop-i-smaller : tie.Need-loop-i-smaller invariant-loop-i decreases-loop-i
+loop-i-smaller c = omega (arith, (turn (joined c.before)).loop-i-test.true)
 
-loop_again : tie.Need-loop-preserved invariant_loop decreases_loop
-loop_again c =
+loop-i-preserved : tie.Need-loop-i-preserved invariant-loop-i decreases-loop-i
+loop-i-preserved c =
     let at = joined c.before in
-    let now' = (turn at).before.loop in
-    let r = at.relax-and-join.ensures in (
-      draining_joined now'.inv.0 now'.i r.cells r.nearing (r.joined c.if1.false) (λ x _. ordered_next now'.i x),
+    let now' = (turn at).before.loop-i in
+    let r = at.relax_and_join-next.ensures in (
+      draining_joined now'.invariant.0 now'.i r.cells r.nearing (r.joined c.if-next-eq-STUCK.false) (λ x _. ordered_next now'.i x),
       (kept at).0,
       (kept at).1,
     )
 
-same_length_3 : tie.Need-same-length-3 invariant_loop decreases_loop
-same_length_3 c = c.before.loop.invariant.1
+shape_of-costs : tie.Need-shape_of-costs invariant-loop-i decreases-loop-i
+shape_of-costs c = c.before.loop-i.invariant.1
 
-same_length_4 : tie.Need-same-length-4 invariant_loop decreases_loop
-same_length_4 c = c.before.loop.invariant.2
+shape_of-lens : tie.Need-shape_of-lens invariant-loop-i decreases-loop-i
+shape_of-lens c = c.before.loop-i.invariant.2
 
-returns_2 : tie.Need-returns-2 invariant_loop decreases_loop
-returns_2 c =
+returns : tie.Need-returns invariant-loop-i decreases-loop-i
+returns c =
     let known = c.before.before.before in
-    drains (size known) (ordered_stop c.before.loop.invariant.0 (omega (arith, c.loop-test.false, known.before.requires.2))) (omega arith)
+    drains (size known) (ordered_stop c.before.loop-i.invariant.0 (omega (arith, c.loop-i-test.false, known.before.requires.2))) (omega arith)
 
 pub relax_all_spec : {M : Type 1} → statement M
 relax_all_spec =
     tie.close
     (tie.spec
-    invariant_loop
-    decreases_loop
-    loop_holds
-    relax_and_join_requires
-    same_length
-    same_length_2
-    returns
-    add_i
-    loop_less
-    loop_again
-    same_length_3
-    same_length_4
-    returns_2)
+    invariant-loop-i
+    decreases-loop-i
+    loop-i-init
+    relax_and_join-next-requires
+    shape_of-costs-then-next-eq-STUCK
+    shape_of-lens-then-next-eq-STUCK
+    returns-then-next-eq-STUCK
+    overflow_add-i
+    loop-i-smaller
+    loop-i-preserved
+    shape_of-costs
+    shape_of-lens
+    returns)
