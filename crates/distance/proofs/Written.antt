@@ -26,7 +26,7 @@ use Rattle.distance.specs.Entry.{cost_or_none, Copied, Spanned}
 
 -- A cost as it is read and handed on in 32 bits.
 pub cost_back : (x : Weight) → AtMost least_cost x → AtMost x unreached → to_z w32 (of_z w32 x) ≡ x
-cost_back x low high = to_z-of_z (record { sfits = omega (arith, sums, size x, low, high) })
+cost_back x low high = to_z-of_z {w = w32} (record { sfits = omega (arith, sums, size x, low, high) })
 
 pub copied_first : (costs cells : List Weight) → Copied 0 costs cells cells
 copied_first costs cells = record { long = refl; put = λ s h. absurd (not-suc-le-zero h) }

@@ -12,20 +12,25 @@ use Rattle.distance.specs.Ended.{cost_told}
 use Rattle.distance.proofs.cells.told.Statement.{statement}
 use Rattle.distance.proofs.cells.told.Tie as tie
 
-cast_result : tie.Need-overflow-cast-result
-cast_result c = rw (to_z-of_z c.before.ranges.cost) (wider c.before.args.cost c.before.ranges.cost)
+overflow_cast-result : tie.Need-overflow_cast-result
+overflow_cast-result c = rw (to_z-of_z c.before.ranges.cost) (wider c.before.args.cost c.before.ranges.cost)
 
-returns : tie.Need-returns
+returns-then-cost-lt-UNREACHED : tie.Need-returns-then-cost-lt-UNREACHED
 unfolding cost_told
-returns c =
+returns-then-cost-lt-UNREACHED c =
     let x = c.before.args.cost in
     let f = c.before.ranges.cost in
     let p : below x unreached ≡ true = omega (arith, bits) in
     ap (λ (z : Weight). to_z w64 (of_z w64 z)) (to_z-of_z f) ∙ (to_z-of_z (wider x f) ∙ rw p refl)
 
-returns_2 : tie.Need-returns-2
+returns : tie.Need-returns
 unfolding cost_told
-returns_2 c = let p : below c.before.args.cost unreached ≡ false = omega (arith, bits) in rw p refl
+returns c = let p : below c.before.args.cost unreached ≡ false = omega (arith, bits) in rw p refl
 
 pub told_spec : {M : Type 1} → statement M
-told_spec = tie.close (tie.spec cast_result returns returns_2)
+told_spec =
+    tie.close
+    (tie.spec
+    overflow_cast-result
+    returns-then-cost-lt-UNREACHED
+    returns)

@@ -16,67 +16,67 @@ use Rattle.distance.proofs.entry.costs_accepted.Tie as tie
 accepted : (c : tie.Start) → refusal c.args.table.now ≡ 0
 accepted c = sym c.requires.0.refusal_is ∙ c.requires.1
 
-size : (c : tie.After-shared-slice-known) → Sized (decode c.before.args.table.now)
+size : (c : tie.After-shared_slice_known-1) → Sized (decode c.before.args.table.now)
 size c =
     let bs = c.before.args.table.now in
-    let bytes : Bytes bs = λ i. omega (arith, c.shared-slice-known.given i) in
+    let bytes : Bytes bs = λ i. omega (arith, c.shared_slice_known-1.given i) in
     sized bs bytes (accepted c.before)
 
-is_small_requires : tie.Need-is-small-requires
-is_small_requires c κs = accepted c.before
+is_small-requires : tie.Need-is_small-requires
+is_small-requires c κs = accepted c.before
 
-slice_aggregate_costs_by : tie.Need-slice-aggregate-costs-by
-slice_aggregate_costs_by c = search rules
+slice_bounds-costs_by-end : tie.Need-slice_bounds-costs_by-end
+slice_bounds-costs_by-end c = search rules
 
-slice_aggregate_costs_by_2 : tie.Need-slice-aggregate-costs-by-2
-slice_aggregate_costs_by_2 c = search rules
+slice_bounds-costs_by-end-then-is_small : tie.Need-slice_bounds-costs_by-end-then-is_small
+slice_bounds-costs_by-end-then-is_small c = search rules
 
-costs_by_requires : tie.Need-costs-by-requires
-costs_by_requires c κs =
+costs_by-requires : tie.Need-costs_by-requires
+costs_by-requires c κs =
     let few = c.before.before.before in
     let from = few.before.before.before in
     let n = (decode from.args.table.now).states in
-    let most = few.before.is-small.ensures few.if1.true in
+    let most = few.before.is_small.ensures few.if-is_small.true in
     (from.requires.0, from.requires.1, cleared no_weight n small most, cleared {A = ℕ} 0 n small most, from.requires.2)
 
-same_length : tie.Need-same-length
-same_length c = search rules
+shape_of-cells-then-is_small : tie.Need-shape_of-cells-then-is_small
+shape_of-cells-then-is_small c = search rules
 
-returns : tie.Need-returns
-returns c = c.before.before.before.costs-by.ensures
+returns-then-is_small : tie.Need-returns-then-is_small
+returns-then-is_small c = c.before.before.before.costs_by.ensures
 
-slice_aggregate_costs_by_3 : tie.Need-slice-aggregate-costs-by-3
-slice_aggregate_costs_by_3 c = search rules
+slice_bounds-costs_by-end-2 : tie.Need-slice_bounds-costs_by-end-2
+slice_bounds-costs_by-end-2 c = search rules
 
-slice_aggregate_costs_by_4 : tie.Need-slice-aggregate-costs-by-4
-slice_aggregate_costs_by_4 c = search rules
+slice_bounds-costs_by-end-3 : tie.Need-slice_bounds-costs_by-end-3
+slice_bounds-costs_by-end-3 c = search rules
 
-costs_by_requires_2 : tie.Need-costs-by-requires-2
-costs_by_requires_2 c κs =
+costs_by-requires-2 : tie.Need-costs_by-requires-2
+costs_by-requires-2 c κs =
     let known = c.before.before.before.before.before in
     let from = known.before in
     let n = (decode from.args.table.now).states in
     let most = (size known).states in
     (from.requires.0, from.requires.1, cleared no_weight n max_states most, cleared {A = ℕ} 0 n max_states most, from.requires.2)
 
-same_length_2 : tie.Need-same-length-2
-same_length_2 c = search rules
+shape_of-cells : tie.Need-shape_of-cells
+shape_of-cells c = search rules
 
-returns_2 : tie.Need-returns-2
-returns_2 c = c.before.before.before.costs-by2.ensures
+returns : tie.Need-returns
+returns c = c.before.before.before.costs_by-2.ensures
 
 pub costs_accepted_spec : {M : Type 1} → statement M
 costs_accepted_spec =
     tie.close
     (tie.spec
-    is_small_requires
-    slice_aggregate_costs_by
-    slice_aggregate_costs_by_2
-    costs_by_requires
-    same_length
-    returns
-    slice_aggregate_costs_by_3
-    slice_aggregate_costs_by_4
-    costs_by_requires_2
-    same_length_2
-    returns_2)
+    is_small-requires
+    slice_bounds-costs_by-end
+    slice_bounds-costs_by-end-then-is_small
+    costs_by-requires
+    shape_of-cells-then-is_small
+    returns-then-is_small
+    slice_bounds-costs_by-end-2
+    slice_bounds-costs_by-end-3
+    costs_by-requires-2
+    shape_of-cells
+    returns)
