@@ -8,83 +8,83 @@ use Rattle.listing.proofs.Loading.{load_next, load_done}
 use Rattle.listing.proofs.code.load_labels.Statement.{statement}
 use Rattle.listing.proofs.code.load_labels.Tie as tie
 
-abbrev invariant_loop : tie.invariant_loop
-invariant_loop bytes string₀ i₀ string i =
+abbrev invariant-loop-i : tie.invariant-loop-i
+invariant-loop-i bytes string₀ i₀ string i =
     (i ≤ most_loaded)
     × (2 * i ≤ length bytes)
     × (length string ≡ most_loaded)
     × (take i string ≡ take i (labels_in bytes))
 
-abbrev decreases_loop : tie.decreases_loop
-decreases_loop bytes string₀ i₀ string i = most_loaded - i
+abbrev decreases-loop-i : tie.decreases-loop-i
+decreases-loop-i bytes string₀ i₀ string i = most_loaded - i
 
 -- Places to look back to.
-abbrev start : tie.After-u16-at invariant_loop decreases_loop → tie.Start invariant_loop decreases_loop
+abbrev start : tie.After-u16_at invariant-loop-i decreases-loop-i → tie.Start invariant-loop-i decreases-loop-i
 start c = c.before.before.before.before.before
 
-loop_holds : tie.Need-loop-init invariant_loop decreases_loop
-loop_holds c = (omega arith, omega arith, c.before.requires, refl)
+loop-i-init : tie.Need-loop-i-init invariant-loop-i decreases-loop-i
+loop-i-init c = (omega arith, omega arith, c.before.requires, refl)
 
-mul_if1 : tie.Need-overflow-mul-if1 invariant_loop decreases_loop
-mul_if1 c = omega arith
+overflow_mul-i : tie.Need-overflow_mul-i invariant-loop-i decreases-loop-i
+overflow_mul-i c = omega arith
 
-add_if1 : tie.Need-overflow-add-if1 invariant_loop decreases_loop
-add_if1 c = omega arith
+overflow_add-i : tie.Need-overflow_add-i invariant-loop-i decreases-loop-i
+overflow_add-i c = omega arith
 
-returns : tie.Need-returns invariant_loop decreases_loop
-returns c =
-    let l = c.before.before.loop in
+returns-then-bytes-i : tie.Need-returns-then-bytes-i invariant-loop-i decreases-loop-i
+returns-then-bytes-i c =
+    let l = c.before.before.loop-i in
     load_done c.before.before.before.before.args.bytes.now l.string l.i l.invariant.2 (omega arith) l.invariant.3
 
-mul_u16_at : tie.Need-overflow-mul-u16-at invariant_loop decreases_loop
-mul_u16_at c = omega arith
+overflow_mul-i-in-loop-i : tie.Need-overflow_mul-i-in-loop-i invariant-loop-i decreases-loop-i
+overflow_mul-i-in-loop-i c = omega arith
 
-u16_at_requires : tie.Need-u16-at-requires invariant_loop decreases_loop
-u16_at_requires c κs = omega arith
+u16_at-requires : tie.Need-u16_at-requires invariant-loop-i decreases-loop-i
+u16_at-requires c κs = omega arith
 
-mul_string : tie.Need-overflow-mul-string invariant_loop decreases_loop
-mul_string c = omega arith
+offset_bounds-string-i : tie.Need-offset_bounds-string-i invariant-loop-i decreases-loop-i
+offset_bounds-string-i c = omega arith
 
-element_write_string : tie.Need-element-write-string invariant_loop decreases_loop
-element_write_string c = omega arith
+bounds-string-i : tie.Need-bounds-string-i invariant-loop-i decreases-loop-i
+bounds-string-i c = omega arith
 
-add_i : tie.Need-overflow-add-i invariant_loop decreases_loop
-add_i c = omega arith
+overflow_add-i-in-loop-i : tie.Need-overflow_add-i-in-loop-i invariant-loop-i decreases-loop-i
+overflow_add-i-in-loop-i c = omega arith
 
-loop_less : tie.Need-loop-smaller invariant_loop decreases_loop
-loop_less c = omega arith
+loop-i-smaller : tie.Need-loop-i-smaller invariant-loop-i decreases-loop-i
+loop-i-smaller c = omega arith
 
-loop_again : tie.Need-loop-preserved invariant_loop decreases_loop
-loop_again c =
-    let l = c.before.before.before.loop in
-    let x = (start c).args in (
+loop-i-preserved : tie.Need-loop-i-preserved invariant-loop-i decreases-loop-i
+loop-i-preserved c =
+    let l = c.before.before.before.loop-i in
+    let x = (start c.before).args in (
       omega arith,
       omega arith,
-      length-set l.string l.i c.u16-at.result ∙ l.invariant.2,
-      load_next x.bytes.now l.string l.i c.u16-at.result l.invariant.2 c.before.before.loop-test.true c.before.if1.false
-          c.u16-at.ensures l.invariant.3,
+      length-set l.string l.i c.u16_at.result ∙ l.invariant.2,
+      load_next x.bytes.now l.string l.i c.u16_at.result l.invariant.2 c.before.before.loop-i-test.true c.before.if-bytes-i.false
+          c.u16_at.ensures l.invariant.3,
     )
 
-returns_2 : tie.Need-returns-2 invariant_loop decreases_loop
-returns_2 c =
-    let l = c.before.loop in
+returns : tie.Need-returns invariant-loop-i decreases-loop-i
+returns c =
+    let l = c.before.loop-i in
     load_done c.before.before.before.args.bytes.now l.string l.i l.invariant.2 (omega arith) l.invariant.3
 
 pub load_labels_spec : {M : Type 1} → statement M
 load_labels_spec =
     tie.close
     (tie.spec
-    invariant_loop
-    decreases_loop
-    loop_holds
-    mul_if1
-    add_if1
-    returns
-    mul_u16_at
-    u16_at_requires
-    mul_string
-    element_write_string
-    add_i
-    loop_less
-    loop_again
-    returns_2)
+    invariant-loop-i
+    decreases-loop-i
+    loop-i-init
+    overflow_mul-i
+    overflow_add-i
+    returns-then-bytes-i
+    overflow_mul-i-in-loop-i
+    u16_at-requires
+    offset_bounds-string-i
+    bounds-string-i
+    overflow_add-i-in-loop-i
+    loop-i-smaller
+    loop-i-preserved
+    returns)

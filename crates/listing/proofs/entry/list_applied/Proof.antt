@@ -13,148 +13,148 @@ use Rattle.listing.proofs.entry.list_applied.Statement.{statement}
 use Rattle.listing.proofs.entry.list_applied.Tie as tie
 
 -- Places to look back to.
-abbrev loaded : tie.After-apply → tie.After-load-labels
+abbrev loaded : tie.After-apply-applied → tie.After-load_labels-count
 loaded c = c.before.before.before.before.before
 
-abbrev start : tie.After-apply → tie.Start
+abbrev start : tie.After-apply-applied → tie.Start
 start c = (loaded c).before.before.before.before.before.before
 
-abbrev lent : tie.After-load-labels → tie.After-shared-slice-known
+abbrev lent : tie.After-load_labels-count → tie.After-shared_slice_known-1
 lent c = c.before.before.before.before.before
 
-abbrev at_odd : tie.After-refuse-into-arg → tie.Start
+abbrev at_odd : tie.After-refuse_into-arg-1 → tie.Start
 at_odd c = c.before.before.before.before.before
 
-abbrev at_refused : tie.After-refuse-into-arg2 → tie.After-apply
+abbrev at_refused : tie.After-refuse_into-arg-then-number-ne0-1 → tie.After-apply-applied
 at_refused c = c.before.before.before.before.before
 
-abbrev at_listed : tie.After-slice-known4 → tie.After-struct-known
+abbrev at_listed : tie.After-slice_known-2-1 → tie.After-struct_known-1
 at_listed c = c.before.before.before.before.before
 
-abbrev refused_by : tie.Then2 → tie.After-apply
+abbrev refused_by : tie.Then-number-ne0 → tie.After-apply-applied
 refused_by c = c.before.before.before.before
 
-abbrev called : tie.After-struct-known → tie.After-apply
+abbrev called : tie.After-struct_known-1 → tie.After-apply-applied
 called c = c.before.before.before.before.before
 
-abbrev string : tie.After-apply → List ℕ
-string c = take (loaded c).load-labels.result (loaded c).load-labels.new.1.0
+abbrev string : tie.After-apply-applied → List ℕ
+string c = take (loaded c).load_labels-count.result (loaded c).load_labels-count.new.string
 
-applying : (c : tie.After-apply)
-    → Applying (start c).args.table.now (start c).args.bytes.now (string c) c.apply.result (replicate max_bytes 0) c.apply.new.1.1.0
-    (replicate max_arcs 0) c.apply.new.1.1.1.0 (replicate max_states 0) c.apply.new.1.1.1.1.0
+applying : (c : tie.After-apply-applied)
+    → Applying (start c).args.table.now (start c).args.bytes.now (string c) c.apply-applied.result (replicate max_bytes 0) c.apply-applied.new.lattice
+    (replicate max_arcs 0) c.apply-applied.new.origins (replicate max_states 0) c.apply-applied.new.pairs
 applying c =
     record {
-      bytes = λ i. omega (arith, (lent (loaded c)).shared-slice-known.given i);
+      bytes = λ i. omega (arith, (lent (loaded c)).shared_slice_known-1.given i);
       accepted = (start c).requires.0;
-      even = (loaded c).before.before.if1.false;
-      string = (loaded c).load-labels.ensures.labels;
+      even = (loaded c).before.before.if-bytes-ne0.false;
+      string = (loaded c).load_labels-count.ensures.labels;
       call =
           record {
             lattice_room = omega (arith, length-replicate {A = ℕ} max_bytes 0);
             origins_room = omega (arith, length-replicate {A = ℕ} max_arcs 0);
             pairs_room = omega (arith, length-replicate {A = ℕ} max_states 0);
-            says = c.apply.ensures;
+            says = c.apply-applied.ensures;
           };
     }
 
-refuse_into_requires : tie.Need-refuse-into-requires
-refuse_into_requires c κs = (at_odd c).requires.1
+refuse_into-requires : tie.Need-refuse_into-requires
+refuse_into-requires c κs = (at_odd c).requires.1
 
-same_length : tie.Need-same-length
-same_length c = c.before.before.refuse-into.auto.1.0
+shape_of-out-then-bytes-ne0 : tie.Need-shape_of-out-then-bytes-ne0
+shape_of-out-then-bytes-ne0 c = c.before.before.refuse_into.auto.out
+
+returns-then-bytes-ne0 : tie.Need-returns-then-bytes-ne0
+returns-then-bytes-ne0 c =
+    let odd = c.before.before.before.before in
+    let x = odd.before.before.before.before.args in
+    odd_refused (decode x.table.now) x.bytes.now odd.if-bytes-ne0.true c.before.before.refuse_into.ensures
+
+load_labels-count-requires : tie.Need-load_labels-count-requires
+load_labels-count-requires c κs = length-replicate {A = ℕ} most_loaded 0
+
+prefix : (c : tie.After-load_labels-count) → c.load_labels-count.result ≤ length c.load_labels-count.new.string
+prefix c = omega (arith, c.load_labels-count.ensures.long, c.load_labels-count.ensures.many)
+
+slice_bounds-string-end : tie.Need-slice_bounds-string-end
+slice_bounds-string-end c = prefix c
+
+slice_bounds-apply-end : tie.Need-slice_bounds-apply-end
+slice_bounds-apply-end c = sym (length-take-le c.before.load_labels-count.result c.before.load_labels-count.new.string (prefix c.before))
+
+slice_bounds-apply-end-2 : tie.Need-slice_bounds-apply-end-2
+slice_bounds-apply-end-2 c = search rules
+
+slice_bounds-apply-end-3 : tie.Need-slice_bounds-apply-end-3
+slice_bounds-apply-end-3 c = search rules
+
+slice_bounds-apply-end-4 : tie.Need-slice_bounds-apply-end-4
+slice_bounds-apply-end-4 c = search rules
+
+apply-applied-requires : tie.Need-apply-applied-requires
+apply-applied-requires c κs = tt
+
+refuse_into-requires-then-number-ne0 : tie.Need-refuse_into-requires-then-number-ne0
+refuse_into-requires-then-number-ne0 c κs = (start (at_refused c)).requires.1
+
+shape_of-out-then-number-ne0 : tie.Need-shape_of-out-then-number-ne0
+shape_of-out-then-number-ne0 c = c.before.before.refuse_into-then-number-ne0.auto.out
+
+returns-then-number-ne0 : tie.Need-returns-then-number-ne0
+returns-then-number-ne0 c =
+    let asked = refused_by c.before.before.before.before in
+    apply_refused (applying asked) c.before.before.before.before.if-number-ne0.true c.before.before.refuse_into-then-number-ne0.ensures
+
+overflow_cast-len : tie.Need-overflow_cast-len
+overflow_cast-len c = search rules
+
+inside : (c : tie.After-struct_known-1) → (called c).apply-applied.result.len ≤ length (called c).apply-applied.new.lattice
+inside c =
+    let asked = called c in
+    lattice_fits (applying asked) c.before.if-number-ne0.false
+
+slice_bounds-lattice-end : tie.Need-slice_bounds-lattice-end
+slice_bounds-lattice-end c = inside c
+
+slice_bounds-list_into-end : tie.Need-slice_bounds-list_into-end
+slice_bounds-list_into-end c = sym (length-take-le (called c.before).apply-applied.result.len (called c.before).apply-applied.new.lattice (inside c.before))
+
+list_into-requires : tie.Need-list_into-requires
+list_into-requires c κs =
+    let asked = called c.before.before in (
+      lattice_accepted (applying asked) c.before.before.before.if-number-ne0.false,
+      (start asked).requires.1,
+    )
+
+shape_of-out : tie.Need-shape_of-out
+shape_of-out c = c.before.before.list_into.auto.out
 
 returns : tie.Need-returns
 returns c =
-    let odd = c.before.before.before.before in
-    let x = odd.before.before.before.before.args in
-    odd_refused (decode x.table.now) x.bytes.now odd.if1.true c.before.before.refuse-into.ensures
-
-load_labels_requires : tie.Need-load-labels-requires
-load_labels_requires c κs = length-replicate {A = ℕ} most_loaded 0
-
-prefix : (c : tie.After-load-labels) → c.load-labels.result ≤ length c.load-labels.new.1.0
-prefix c = omega (arith, c.load-labels.ensures.long, c.load-labels.ensures.many)
-
-array_share_prefix_string : tie.Need-array-share-prefix-string
-array_share_prefix_string c = prefix c
-
-slice_aggregate_apply : tie.Need-slice-aggregate-apply
-slice_aggregate_apply c = sym (length-take-le c.before.load-labels.result c.before.load-labels.new.1.0 (prefix c.before))
-
-slice_aggregate_apply_2 : tie.Need-slice-aggregate-apply-2
-slice_aggregate_apply_2 c = search rules
-
-slice_aggregate_apply_3 : tie.Need-slice-aggregate-apply-3
-slice_aggregate_apply_3 c = search rules
-
-slice_aggregate_apply_4 : tie.Need-slice-aggregate-apply-4
-slice_aggregate_apply_4 c = search rules
-
-apply_requires : tie.Need-apply-requires
-apply_requires c κs = tt
-
-refuse_into_requires_2 : tie.Need-refuse-into-requires-2
-refuse_into_requires_2 c κs = (start (at_refused c)).requires.1
-
-same_length_2 : tie.Need-same-length-2
-same_length_2 c = c.before.before.refuse-into2.auto.1.0
-
-returns_2 : tie.Need-returns-2
-returns_2 c =
-    let asked = refused_by c.before.before.before.before in
-    apply_refused (applying asked) c.before.before.before.before.if2.true c.before.before.refuse-into2.ensures
-
-cast_len : tie.Need-overflow-cast-len
-cast_len c = search rules
-
-inside : (c : tie.After-struct-known) → (called c).apply.result.len ≤ length (called c).apply.new.1.1.0
-inside c =
-    let asked = called c in
-    lattice_fits (applying asked) c.before.if2.false
-
-array_share_prefix_lattice : tie.Need-array-share-prefix-lattice
-array_share_prefix_lattice c = inside c
-
-slice_aggregate_list_into : tie.Need-slice-aggregate-list-into
-slice_aggregate_list_into c = sym (length-take-le (called c.before).apply.result.len (called c.before).apply.new.1.1.0 (inside c.before))
-
-list_into_requires : tie.Need-list-into-requires
-list_into_requires c κs =
-    let asked = called c.before.before in (
-      lattice_accepted (applying asked) c.before.before.before.if2.false,
-      (start asked).pre.1,
-    )
-
-same_length_3 : tie.Need-same-length-3
-same_length_3 c = c.before.before.list-into.auto.1.0
-
-returns_3 : tie.Need-returns-3
-returns_3 c =
     let known = at_listed c in
     let asked = called known in
-    lattice_listed (applying asked) known.before.if2.left c.before.before.list-into.ensures
+    lattice_listed (applying asked) known.before.if-number-ne0.false c.before.before.list_into.ensures
 
 pub list_applied_spec : {M : Type 1} → statement M
 list_applied_spec =
     tie.close
     (tie.spec
-    refuse_into_requires
-    same_length
-    returns
-    load_labels_requires
-    array_share_prefix_string
-    slice_aggregate_apply
-    slice_aggregate_apply_2
-    slice_aggregate_apply_3
-    slice_aggregate_apply_4
-    apply_requires
-    refuse_into_requires_2
-    same_length_2
-    returns_2
-    cast_len
-    array_share_prefix_lattice
-    slice_aggregate_list_into
-    list_into_requires
-    same_length_3
-    returns_3)
+    refuse_into-requires
+    shape_of-out-then-bytes-ne0
+    returns-then-bytes-ne0
+    load_labels-count-requires
+    slice_bounds-string-end
+    slice_bounds-apply-end
+    slice_bounds-apply-end-2
+    slice_bounds-apply-end-3
+    slice_bounds-apply-end-4
+    apply-applied-requires
+    refuse_into-requires-then-number-ne0
+    shape_of-out-then-number-ne0
+    returns-then-number-ne0
+    overflow_cast-len
+    slice_bounds-lattice-end
+    slice_bounds-list_into-end
+    list_into-requires
+    shape_of-out
+    returns)

@@ -18,134 +18,130 @@ use Rattle.listing.proofs.lines.put_counted.Statement.{statement}
 use Rattle.listing.proofs.lines.put_counted.Tie as tie
 
 -- Places to look back to.
-abbrev start : tie.After-slice-known → tie.Start
+abbrev start : tie.After-slice_known-1 → tie.Start
 start c = c.before.before
 
-abbrev many : tie.Then1 → tie.After-slice-known
+abbrev many : tie.Then-count-ge-MAX_COUNT → tie.After-slice_known-1
 many c = c.before.before.before
 
-abbrev few : tie.Else1 → tie.After-slice-known
+abbrev few : tie.Else-count-ge-MAX_COUNT → tie.After-slice_known-1
 few c = c.before.before.before
 
-abbrev many_put : tie.After-slice-known2 → tie.Then1
-many_put c = c.before.before.before.before.before
+abbrev many_put : tie.After-slice_known-then-count-ge-MAX_COUNT-1 → tie.Then-count-ge-MAX_COUNT
+many_put c = c.before.before.before.before.before.before
 
-abbrev at_number : tie.After-put-decimal → tie.Else1
+abbrev at_number : tie.After-put_decimal-number → tie.Else-count-ge-MAX_COUNT
 at_number c = c.before.before
 
-abbrev newline_of : tie.After-slice-known5 → tie.After-put-byte
+abbrev newline_of : tie.After-slice_known-4-1 → tie.After-put_byte-lines
 newline_of c = c.before.before.before.before.before.before
 
-abbrev at_newline : tie.After-put-byte → tie.After-put-decimal
+abbrev at_newline : tie.After-put_byte-lines → tie.After-put_decimal-number
 at_newline c = c.before.before.before.before
 
-size : (c : tie.After-slice-known) → Sized (decode (start c).args.table.now)
+size : (c : tie.After-slice_known-1) → Sized (decode (start c).args.table.now)
 size c =
     let x = start c in
-    sized x.args.table.now (λ i. omega (arith, c.before.shared-slice-known.given i)) x.pre.0.prepared.shaped.opened.accepted
+    sized x.args.table.now (λ i. omega (arith, c.before.shared_slice_known-1.given i)) x.requires.0.prepared.shaped.opened.accepted
 
 -- The count at the start is that of all paths.
-count : (c : tie.After-slice-known) → at_state (start c).args.t5 (start c).args.shape.start ≡ path_count (decode (start c).args.table.now)
+count : (c : tie.After-slice_known-1) → at_state (start c).args.counts (start c).args.shape.start ≡ path_count (decode (start c).args.table.now)
 count c =
     let x = start c in
-    let w = x.pre.0 in
-    start_count (decode x.args.table.now) (size c) x.args.t5 x.args.shape.start {is = false} w.counts_are w.prepared.shaped.start_is
+    let w = x.requires.0 in
+    start_count (decode x.args.table.now) (size c) x.args.counts x.args.shape.start {is = false} w.counts_are w.prepared.shaped.start_is
     (sym w.finite) refl
 
-is_many : (c : tie.Then1) → counted_text (decode (start (many c)).args.table.now) ≡ many_word
+is_many : (c : tie.Then-count-ge-MAX_COUNT) → counted_text (decode (start (many c)).args.table.now) ≡ many_word
 unfolding at_state
 is_many c =
     let x = start (many c) in
-    counted_many (decode x.args.table.now) (at_state x.args.t5 x.args.shape.start) (count (many c)) c.if1.true
+    counted_many (decode x.args.table.now) (at_state x.args.counts x.args.shape.start) (count (many c)) c.if-count-ge-MAX_COUNT.true
 
-abbrev number : (c : tie.Else1) → ℕ
-number c = at_state (start (few c)).args.t5 (start (few c)).args.shape.start
+abbrev number : (c : tie.Else-count-ge-MAX_COUNT) → ℕ
+number c = at_state (start (few c)).args.counts (start (few c)).args.shape.start
 
-is_few : (c : tie.Else1)
+is_few : (c : tie.Else-count-ge-MAX_COUNT)
     → counted_text (decode (start (few c)).args.table.now)
     ≡ decimal (number c) ++ (newline ∷ lines (decode (start (few c)).args.table.now) (number c))
 unfolding at_state
-is_few c = counted_few (decode (start (few c)).args.table.now) (number c) (count (few c)) c.if1.false
+is_few c = counted_few (decode (start (few c)).args.table.now) (number c) (count (few c)) c.if-count-ge-MAX_COUNT.false
 
 -- What the parts take, and that it is there.
-room : (c : tie.Else1)
+room : (c : tie.Else-count-ge-MAX_COUNT)
     → (start (few c)).args.at + (length (decimal (number c)) + (1 + length (lines (decode (start (few c)).args.table.now) (number c))))
     ≤ length (start (few c)).args.out.now
 room c =
     let t = decode (start (few c)).args.table.now in
     omega (arith, ap length (is_few c) ∙ length-append (decimal (number c)) (newline ∷ lines t (number c)), (start (few c)).requires.1)
 
-array_copy_out_all : tie.Need-array-copy-out-all
-array_copy_out_all c = (start c).requires.0.prepared.shaped.start_below
+bounds-counts-start : tie.Need-bounds-counts-start
+bounds-counts-start c = (start c).requires.0.prepared.shaped.start_below
 
-cast_count : tie.Need-overflow-cast-count
-cast_count c = search rules
+overflow_cast-count : tie.Need-overflow_cast-count
+overflow_cast-count c = search rules
 
-slice_aggregate_put_bytes : tie.Need-slice-aggregate-put-bytes
-slice_aggregate_put_bytes c = search rules
-
-put_bytes_requires : tie.Need-put-bytes-requires
+put_bytes-requires : tie.Need-put_bytes-requires
 unfolding many_word
-put_bytes_requires c κs =
+put_bytes-requires c κs =
     let at = c.before.before in
-    omega (arith, ap length (is_many at), (start (many at)).requires.1)
+    omega (arith, ap length (is_many at.before), (start (many at.before)).requires.1)
 
-same_length : tie.Need-same-length
-same_length c = c.before.before.put_bytes.auto.0
+shape_of-out-then-count-ge-MAX_COUNT : tie.Need-shape_of-out-then-count-ge-MAX_COUNT
+shape_of-out-then-count-ge-MAX_COUNT c = c.before.before.put_bytes.auto.out
 
-returns : tie.Need-returns
+returns-then-count-ge-MAX_COUNT : tie.Need-returns-then-count-ge-MAX_COUNT
 unfolding many_word
-returns c = rw (is_many (many_put c)) c.before.before.put_bytes.ensures
+returns-then-count-ge-MAX_COUNT c = rw (is_many (many_put c)) c.before.before.put_bytes.ensures
 
-cast_put_decimal : tie.Need-overflow-cast-put-decimal
-cast_put_decimal c = search rules
+overflow_cast-count-2 : tie.Need-overflow_cast-count-2
+overflow_cast-count-2 c = search rules
 
-put_decimal_requires : tie.Need-put-decimal-requires
+put_decimal-number-requires : tie.Need-put_decimal-number-requires
 unfolding at_state
-put_decimal_requires c κs = omega (arith, room c.before)
+put_decimal-number-requires c κs = omega (arith, room c.before)
 
-put_byte_requires : tie.Need-put-byte-requires
+put_byte-lines-requires : tie.Need-put_byte-lines-requires
 unfolding at_state
-put_byte_requires c κs =
+put_byte-lines-requires c κs =
     let put = c.before.before.before in
-    omega (arith, put.put-decimal.ensures.ends, put.put-decimal.auto.0, room (at_number put))
+    omega (arith, put.put_decimal-number.ensures.ends, put.put_decimal-number.auto.out, room (at_number put))
 
-put_paths_requires : tie.Need-put-paths-requires
+put_paths-requires : tie.Need-put_paths-requires
 unfolding at_state
-put_paths_requires c κs =
+put_paths-requires c κs =
     let last = c.before.before.before in
     let put = at_newline last in
     let at = at_number put in (
       (start (few at)).requires.0,
       count (few at),
-      omega (arith, last.put_byte.ensures.ends, last.put_byte.auto.0, put.put-decimal.ensures.ends, put.put-decimal.kept.0, room at),
+      omega (arith, last.put_byte-lines.ensures.ends, last.put_byte-lines.auto.out, put.put_decimal-number.ensures.ends, put.put_decimal-number.auto.out, room at),
     )
 
-same_length_2 : tie.Need-same-length-2
-same_length_2 c =
+shape_of-out : tie.Need-shape_of-out
+shape_of-out c =
     let last = newline_of c in
-    c.before.before.put-paths.auto.1.1.1.1.1.1.0 ∙ (last.put_byte.kept.0 ∙ (at_newline last).put-decimal.kept.0)
+    c.before.before.put_paths.auto.out ∙ (last.put_byte-lines.auto.out ∙ (at_newline last).put_decimal-number.auto.out)
 
-returns_2 : tie.Need-returns-2
+returns : tie.Need-returns
 unfolding at_state
-returns_2 c =
+returns c =
     let last = newline_of c in
     let put = at_newline last in
-    rw (is_few (at_number put)) (wrote_then put.put-decimal.ensures (wrote_then last.put_byte.ensures c.before.before.put-paths.ensures))
+    rw (is_few (at_number put)) (wrote_then put.put_decimal-number.ensures (wrote_then last.put_byte-lines.ensures c.before.before.put_paths.ensures))
 
 pub put_counted_spec : {M : Type 1} → statement M
 put_counted_spec =
     tie.close
     (tie.spec
-    array_copy_out_all
-    cast_count
-    slice_aggregate_put_bytes
-    put_bytes_requires
-    same_length
-    returns
-    cast_put_decimal
-    put_decimal_requires
-    put_byte_requires
-    put_paths_requires
-    same_length_2
-    returns_2)
+    bounds-counts-start
+    overflow_cast-count
+    put_bytes-requires
+    shape_of-out-then-count-ge-MAX_COUNT
+    returns-then-count-ge-MAX_COUNT
+    overflow_cast-count-2
+    put_decimal-number-requires
+    put_byte-lines-requires
+    put_paths-requires
+    shape_of-out
+    returns)

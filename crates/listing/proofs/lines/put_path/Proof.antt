@@ -16,97 +16,97 @@ use Rattle.listing.proofs.lines.put_path.Statement.{statement}
 use Rattle.listing.proofs.lines.put_path.Tie as tie
 
 -- Places to look back to.
-abbrev start : tie.After-nth-arcs → tie.Start
+abbrev start : tie.After-nth_arcs-len → tie.Start
 start c = c.before.before.before.before
 
-abbrev tell_of : tie.After-struct-known → tie.After-tell
+abbrev tell_of : tie.After-struct_known-1 → tie.After-tell-told
 tell_of c = c.before.before.before.before
 
-abbrev behind_walk : tie.After-tell → tie.After-nth-arcs
+abbrev behind_walk : tie.After-tell-told → tie.After-nth_arcs-len
 behind_walk c = c.before.before.before.before
 
-size : (c : tie.After-nth-arcs) → Sized (decode (start c).args.table.now)
+size : (c : tie.After-nth_arcs-len) → Sized (decode (start c).args.table.now)
 size c =
     let x = start c in
-    sized x.args.table.now (λ i. omega (arith, c.before.before.before.shared-slice-known.given i)) x.pre.0.prepared.shaped.opened.accepted
+    sized x.args.table.now (λ i. omega (arith, c.before.before.before.shared_slice_known-1.given i)) x.requires.0.prepared.shaped.opened.accepted
 
-abbrev walked : tie.After-nth-arcs → List ℕ
-walked c = c.nth-arcs.new.1.1.1.1.1.1.1.1.0
+abbrev walked : tie.After-nth_arcs-len → List ℕ
+walked c = c.nth_arcs-len.new.arcs
 
-path : (c : tie.After-nth-arcs) → Found (decode (start c).args.table.now) (start c).args.k c.nth-arcs.result (walked c)
+path : (c : tie.After-nth_arcs-len) → Found (decode (start c).args.table.now) (start c).args.k c.nth_arcs-len.result (walked c)
 path c =
     let x = start c in
-    found (decode x.args.table.now) (size c) x.args.k c.nth-arcs.result (replicate max_path 0) (walked c) x.pre.0.finite x.pre.1
-    (omega (arith, length-replicate {A = ℕ} max_path 0)) c.nth-arcs.ensures.0 c.nth-arcs.ensures.1
+    found (decode x.args.table.now) (size c) x.args.k c.nth_arcs-len.result (replicate max_path 0) (walked c) x.requires.0.finite x.requires.1
+    (omega (arith, length-replicate {A = ℕ} max_path 0)) c.nth_arcs-len.ensures.0 c.nth_arcs-len.ensures.1
 
-told : (c : tie.After-tell)
-    → Got (decode (start (behind_walk c)).args.table.now) (start (behind_walk c)).args.k c.tell.result c.tell.new.1.1.1.1.1.1.0
+told : (c : tie.After-tell-told)
+    → Got (decode (start (behind_walk c)).args.table.now) (start (behind_walk c)).args.k c.tell-told.result c.tell-told.new.labels
 told c =
     let at = behind_walk c in
     let x = start at in
-    got (decode x.args.table.now) (size at) x.pre.0.finite x.pre.1 (omega (arith, length-replicate {A = ℕ} max_path 0)) (path at)
-    c.tell.ensures
+    got (decode x.args.table.now) (size at) x.requires.0.finite x.requires.1 (omega (arith, length-replicate {A = ℕ} max_path 0)) (path at)
+    c.tell-told.ensures
 
 -- The cost told, as it is handed on.
-cost_is : (c : tie.After-struct-told) → to_z w64 (of_z w64 (tell_of c.before).tell.result.cost) ≡ (tell_of c.before).tell.result.cost
-cost_is c = to_z-of_z (record { sfits = c.struct_told.given.1.0.1 })
+cost_is : (c : tie.After-struct_told-1) → to_z w64 (of_z w64 (tell_of c.before).tell-told.result.cost) ≡ (tell_of c.before).tell-told.result.cost
+cost_is c = to_z-of_z {w = w64} (record { sfits = c.struct_told-1.given.1.0.1 })
 
-slice_aggregate_nth_arcs : tie.Need-slice-aggregate-nth-arcs
-slice_aggregate_nth_arcs c = search rules
+slice_bounds-nth_arcs-end : tie.Need-slice_bounds-nth_arcs-end
+slice_bounds-nth_arcs-end c = search rules
 
-nth_arcs_requires : tie.Need-nth-arcs-requires
-nth_arcs_requires c κs =
+nth_arcs-len-requires : tie.Need-nth_arcs-len-requires
+nth_arcs-len-requires c κs =
     let x = c.before.before.before in
     let w = x.requires.0 in
     let p = w.prepared in
     (prepared_ready p, p.finals, w.counts_are, p.shaped.start_is, w.finite, x.requires.1, omega (arith, length-replicate {A = ℕ} max_path 0))
 
-slice_aggregate_tell : tie.Need-slice-aggregate-tell
-slice_aggregate_tell c = search rules
+slice_bounds-tell-end : tie.Need-slice_bounds-tell-end
+slice_bounds-tell-end c = search rules
 
-slice_aggregate_tell_2 : tie.Need-slice-aggregate-tell-2
-slice_aggregate_tell_2 c = search rules
+slice_bounds-tell-end-2 : tie.Need-slice_bounds-tell-end-2
+slice_bounds-tell-end-2 c = search rules
 
-tell_requires : tie.Need-tell-requires
-tell_requires c κs =
+tell-told-requires : tie.Need-tell-told-requires
+tell-told-requires c κs =
     let at = c.before.before.before in
     let w = (start at).requires.0.prepared in
     let p = path at in
     (w.shaped.opened, w.shaped.start_is, w.finals, p.inside, p.few, p.accepted, omega (arith, length-replicate {A = ℕ} max_path 0))
 
-slice_aggregate_put_line : tie.Need-slice-aggregate-put-line
-slice_aggregate_put_line c = search rules
+slice_bounds-put_line-end : tie.Need-slice_bounds-put_line-end
+slice_bounds-put_line-end c = search rules
 
-cast_put_line : tie.Need-overflow-cast-put-line
-cast_put_line c = search rules
+overflow_cast-told : tie.Need-overflow_cast-told
+overflow_cast-told c = search rules
 
-put_line_requires : tie.Need-put-line-requires
-put_line_requires c κs =
+put_line-requires : tie.Need-put_line-requires
+put_line-requires c κs =
     let at = tell_of c.before in
     let known = told at in
     (known.inside, rw (cost_is c, known.is_line) (start (behind_walk at)).requires.2)
 
-same_length : tie.Need-same-length
-same_length c = search rules
+shape_of-out : tie.Need-shape_of-out
+shape_of-out c = search rules
 
 returns : tie.Need-returns
 returns c =
     let handed = c.before.before.before in
     let tell = tell_of handed.before in
-    let labels = take tell.tell.result.labels tell.tell.last.1.1.1.1.1.1.0 in
-    rw (← (told tell).is_line) (same_line (start (behind_walk tell)).args.k labels (cost_is handed) c.before.before.put-line.ensures)
+    let labels = take tell.tell-told.result.labels tell.tell-told.new.labels in
+    rw (← (told tell).is_line) (same_line (start (behind_walk tell)).args.k labels (cost_is handed) c.before.before.put_line.ensures)
 
 pub put_path_spec : {M : Type 1} → statement M
 put_path_spec =
     tie.close
     (tie.spec
-    slice_aggregate_nth_arcs
-    nth_arcs_requires
-    slice_aggregate_tell
-    slice_aggregate_tell_2
-    tell_requires
-    slice_aggregate_put_line
-    cast_put_line
-    put_line_requires
-    same_length
+    slice_bounds-nth_arcs-end
+    nth_arcs-len-requires
+    slice_bounds-tell-end
+    slice_bounds-tell-end-2
+    tell-told-requires
+    slice_bounds-put_line-end
+    overflow_cast-told
+    put_line-requires
+    shape_of-out
     returns)

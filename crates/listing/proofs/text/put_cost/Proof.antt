@@ -14,63 +14,63 @@ use Rattle.listing.proofs.Wrote.{wrote_then}
 use Rattle.listing.proofs.text.put_cost.Statement.{statement}
 use Rattle.listing.proofs.text.put_cost.Tie as tie
 
-abbrev start : tie.After-magnitude → tie.Start
+abbrev start : tie.After-magnitude-size → tie.Start
 start c = c.before.before
 
-size_is : (c : tie.After-magnitude) → magnitude (start c).args.cost ≡ c.magnitude.result
-size_is c = sym (c.magnitude.ensures ∙ ap magnitude (to_z-of_z (start c).ranges.cost))
+size_is : (c : tie.After-magnitude-size) → magnitude (start c).args.cost ≡ c.magnitude-size.result
+size_is c = sym (c.magnitude-size.ensures ∙ ap magnitude (to_z-of_z (start c).ranges.cost))
 
-above : (c : tie.Then1) → cost_text (start c.before).args.cost ≡ decimal c.before.magnitude.result
+above : (c : tie.Then-cost-ge0) → cost_text (start c.before).args.cost ≡ decimal c.before.magnitude-size.result
 above c =
     let s = start c.before in
-    let test = subst (λ (z : Weight). at_most no_weight z ≡ true) (to_z-of_z s.fits.cost) c.if1.true in
+    let test = subst (λ (z : Weight). at_most no_weight z ≡ true) (to_z-of_z s.ranges.cost) c.if-cost-ge0.true in
     cost_above s.args.cost test ∙ ap decimal (size_is c.before)
 
-below : (c : tie.Else1) → cost_text (start c.before).args.cost ≡ minus ∷ decimal c.before.magnitude.result
+below : (c : tie.Else-cost-ge0) → cost_text (start c.before).args.cost ≡ minus ∷ decimal c.before.magnitude-size.result
 below c =
     let s = start c.before in
-    let test = subst (λ (z : Weight). at_most no_weight z ≡ false) (to_z-of_z s.fits.cost) c.if1.false in
+    let test = subst (λ (z : Weight). at_most no_weight z ≡ false) (to_z-of_z s.ranges.cost) c.if-cost-ge0.false in
     cost_below s.args.cost test ∙ ap (λ (n : ℕ). minus ∷ decimal n) (size_is c.before)
 
-magnitude_requires : tie.Need-magnitude-requires
-magnitude_requires c κs = search rules
+magnitude-size-requires : tie.Need-magnitude-size-requires
+magnitude-size-requires c κs = search rules
 
-put_decimal_requires : tie.Need-put-decimal-requires
-put_decimal_requires c κs = omega (arith, ap length (above c.before), (start c.before.before).requires)
+put_decimal-requires : tie.Need-put_decimal-requires
+put_decimal-requires c κs = omega (arith, ap length (above c.before), (start c.before.before).requires)
 
-same_length : tie.Need-same-length
-same_length c = search rules
+shape_of-out-then-cost-ge0 : tie.Need-shape_of-out-then-cost-ge0
+shape_of-out-then-cost-ge0 c = search rules
 
-returns : tie.Need-returns
-returns c = rw (above c.before.before.before.before) c.before.before.put-decimal.ensures
+returns-then-cost-ge0 : tie.Need-returns-then-cost-ge0
+returns-then-cost-ge0 c = rw (above c.before.before.before.before) c.before.before.put_decimal.ensures
 
-put_byte_requires : tie.Need-put-byte-requires
-put_byte_requires c κs = omega (arith, ap length (below c.before), (start c.before.before).requires)
+put_byte-digits-requires : tie.Need-put_byte-digits-requires
+put_byte-digits-requires c κs = omega (arith, ap length (below c.before), (start c.before.before).requires)
 
-put_decimal_requires_2 : tie.Need-put-decimal-requires-2
-put_decimal_requires_2 c κs =
+put_decimal-requires-2 : tie.Need-put_decimal-requires-2
+put_decimal-requires-2 c κs =
     let signed = c.before.before.before in
     let test = signed.before.before in
-    omega (arith, ap length (below test), (start test.before).requires, signed.put_byte.ensures.ends, signed.put_byte.auto.0)
+    omega (arith, ap length (below test), (start test.before).requires, signed.put_byte-digits.ensures.ends, signed.put_byte-digits.auto.out)
 
-same_length_2 : tie.Need-same-length-2
-same_length_2 c = search rules
+shape_of-out : tie.Need-shape_of-out
+shape_of-out c = search rules
 
-returns_2 : tie.Need-returns-2
-returns_2 c =
+returns : tie.Need-returns
+returns c =
     let last = c.before.before in
     let signed = last.before.before.before.before in
-    rw (below signed.before.before) (wrote_then signed.put_byte.ensures last.put-decimal2.ensures)
+    rw (below signed.before.before) (wrote_then signed.put_byte-digits.ensures last.put_decimal-2.ensures)
 
 pub put_cost_spec : {M : Type 1} → statement M
 put_cost_spec =
     tie.close
     (tie.spec
-    magnitude_requires
-    put_decimal_requires
-    same_length
-    returns
-    put_byte_requires
-    put_decimal_requires_2
-    same_length_2
-    returns_2)
+    magnitude-size-requires
+    put_decimal-requires
+    shape_of-out-then-cost-ge0
+    returns-then-cost-ge0
+    put_byte-digits-requires
+    put_decimal-requires-2
+    shape_of-out
+    returns)

@@ -11,19 +11,19 @@ use Rattle.listing.proofs.text.put_line.Statement.{statement}
 use Rattle.listing.proofs.text.put_line.Tie as tie
 
 -- Places to look back to.
-abbrev start : tie.After-put-decimal → tie.Start
+abbrev start : tie.After-put_decimal-number → tie.Start
 start c = c.before.before.before.before
 
-abbrev behind_gap : tie.After-put-byte → tie.After-put-decimal
+abbrev behind_gap : tie.After-put_byte-gap → tie.After-put_decimal-number
 behind_gap c = c.before.before.before.before
 
-abbrev behind_cost : tie.After-put-cost → tie.After-put-byte
+abbrev behind_cost : tie.After-put_cost-paid → tie.After-put_byte-gap
 behind_cost c = c.before.before.before.before
 
-abbrev behind_labels : tie.After-put-labels → tie.After-put-cost
+abbrev behind_labels : tie.After-put_labels-told → tie.After-put_cost-paid
 behind_labels c = c.before.before.before.before
 
-abbrev behind_all : tie.After-slice-known6 → tie.After-put-labels
+abbrev behind_all : tie.After-slice_known-6-1 → tie.After-put_labels-told
 behind_all c = c.before.before.before.before.before.before
 
 -- What the parts take, and that it is there.
@@ -33,47 +33,47 @@ room : (x : tie.Start)
     ≤ length x.args.out.now
 room x = omega (arith, length_line x.args.k x.args.cost (take x.args.count x.args.labels.now), x.requires.1)
 
-put_decimal_requires : tie.Need-put-decimal-requires
-put_decimal_requires c κs = omega (arith, room c.before.before.before)
+put_decimal-number-requires : tie.Need-put_decimal-number-requires
+put_decimal-number-requires c κs = omega (arith, room c.before.before.before)
 
-put_byte_requires : tie.Need-put-byte-requires
-put_byte_requires c κs =
+put_byte-gap-requires : tie.Need-put_byte-gap-requires
+put_byte-gap-requires c κs =
     let first = c.before.before.before in
-    omega (arith, room (start first), first.put-decimal.ensures.ends, first.put-decimal.auto.0)
+    omega (arith, room (start first), first.put_decimal-number.ensures.ends, first.put_decimal-number.auto.out)
 
-put_cost_requires : tie.Need-put-cost-requires
-put_cost_requires c κs =
+put_cost-paid-requires : tie.Need-put_cost-paid-requires
+put_cost-paid-requires c κs =
     let gap = c.before.before.before in
     let first = behind_gap gap in
-    rw (to_z-of_z (start first).fits.cost)
-    (omega (arith, room (start first), first.put-decimal.ensures.ends, first.put-decimal.kept.0, gap.put_byte.ensures.ends, gap.put_byte.auto.0))
+    rw (to_z-of_z (start first).ranges.cost)
+    (omega (arith, room (start first), first.put_decimal-number.ensures.ends, first.put_decimal-number.auto.out, gap.put_byte-gap.ensures.ends, gap.put_byte-gap.auto.out))
 
 -- The cost, as it was handed over.
-paid : (c : tie.After-put-cost) →
-    Wrote (behind_cost c).put_byte.new.0 c.put_cost.new.0 (behind_cost c).put_byte.result c.put_cost.result
+paid : (c : tie.After-put_cost-paid) →
+    Wrote (behind_cost c).put_byte-gap.new.out c.put_cost-paid.new.out (behind_cost c).put_byte-gap.result c.put_cost-paid.result
     (cost_text (start (behind_gap (behind_cost c))).args.cost)
-paid c = same_cost (to_z-of_z (start (behind_gap (behind_cost c))).ranges.cost) c.put_cost.ensures
+paid c = same_cost (to_z-of_z (start (behind_gap (behind_cost c))).ranges.cost) c.put_cost-paid.ensures
 
-put_labels_requires : tie.Need-put-labels-requires
-put_labels_requires c κs =
+put_labels-told-requires : tie.Need-put_labels-told-requires
+put_labels-told-requires c κs =
     let cost = c.before.before.before in
     let gap = behind_cost cost in
     let first = behind_gap gap in (
-      (start first).pre.0,
+      (start first).requires.0,
       omega (
         arith,
         room (start first),
-        first.put-decimal.ensures.ends,
-        first.put-decimal.kept.0,
-        gap.put_byte.ensures.ends,
-        gap.put_byte.kept.0,
+        first.put_decimal-number.ensures.ends,
+        first.put_decimal-number.auto.out,
+        gap.put_byte-gap.ensures.ends,
+        gap.put_byte-gap.auto.out,
         (paid cost).ends,
-        cost.put_cost.auto.0,
+        cost.put_cost-paid.auto.out,
       ),
     )
 
-put_byte_requires_2 : tie.Need-put-byte-requires-2
-put_byte_requires_2 c κs =
+put_byte-requires : tie.Need-put_byte-requires
+put_byte-requires c κs =
     let told = c.before.before.before in
     let cost = behind_labels told in
     let gap = behind_cost cost in
@@ -81,23 +81,23 @@ put_byte_requires_2 c κs =
     omega (
       arith,
       room (start first),
-      first.put-decimal.ensures.ends,
-      first.put-decimal.kept.0,
-      gap.put_byte.ensures.ends,
-      gap.put_byte.kept.0,
+      first.put_decimal-number.ensures.ends,
+      first.put_decimal-number.auto.out,
+      gap.put_byte-gap.ensures.ends,
+      gap.put_byte-gap.auto.out,
       (paid cost).ends,
-      cost.put_cost.kept.0,
-      told.put_labels.ensures.ends,
-      told.put_labels.auto.0,
+      cost.put_cost-paid.auto.out,
+      told.put_labels-told.ensures.ends,
+      told.put_labels-told.auto.out,
     )
 
-same_length : tie.Need-same-length
-same_length c =
+shape_of-out : tie.Need-shape_of-out
+shape_of-out c =
     let told = behind_all c in
     let cost = behind_labels told in
     let gap = behind_cost cost in
-    c.before.before.put-byte2.auto.0
-    ∙ (told.put_labels.kept.0 ∙ (cost.put_cost.kept.0 ∙ (gap.put_byte.kept.0 ∙ (behind_gap gap).put-decimal.kept.0)))
+    c.before.before.put_byte.auto.out
+    ∙ (told.put_labels-told.auto.out ∙ (cost.put_cost-paid.auto.out ∙ (gap.put_byte-gap.auto.out ∙ (behind_gap gap).put_decimal-number.auto.out)))
 
 returns : tie.Need-returns
 unfolding line
@@ -107,17 +107,17 @@ returns c =
     let cost = behind_labels labels in
     let blank = behind_cost cost in
     let first = behind_gap blank in
-    let number_and_cost = wrote_then first.put-decimal.ensures (wrote_then blank.put_byte.ensures (paid cost)) in
-    wrote_then (wrote_then number_and_cost labels.put_labels.ensures) last.put-byte2.ensures
+    let number_and_cost = wrote_then first.put_decimal-number.ensures (wrote_then blank.put_byte-gap.ensures (paid cost)) in
+    wrote_then (wrote_then number_and_cost labels.put_labels-told.ensures) last.put_byte.ensures
 
 pub put_line_spec : {M : Type 1} → statement M
 put_line_spec =
     tie.close
     (tie.spec
-    put_decimal_requires
-    put_byte_requires
-    put_cost_requires
-    put_labels_requires
-    put_byte_requires_2
-    same_length
+    put_decimal-number-requires
+    put_byte-gap-requires
+    put_cost-paid-requires
+    put_labels-told-requires
+    put_byte-requires
+    shape_of-out
     returns)
