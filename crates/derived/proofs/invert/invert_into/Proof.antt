@@ -12,74 +12,74 @@ use Rattle.derived.proofs.invert.invert_into.Statement.{statement}
 use Rattle.derived.proofs.invert.invert_into.Tie as tie
 
 -- Places to look back to.
-abbrev start : tie.After-shape-of → tie.Start
+abbrev start : tie.After-shape_of-shape → tie.Start
 start c = c.before.before.before
 
-abbrev shaped : tie.After-put-inverted → tie.After-shape-of
+abbrev shaped : tie.After-put_inverted → tie.After-shape_of-shape
 shaped c = c.before.before.before.before.before.before
 
-abbrev copied : tie.After-put-inverted → tie.After-copy-front
+abbrev copied : tie.After-put_inverted → tie.After-copy_front
 copied c = c.before.before.before.before
 
 -- What is known of accepted bytes.
-is_bytes : (c : tie.After-shape-of) → Bytes (start c).args.table.now
-is_bytes c = λ i. omega (arith, c.before.before.shared-slice-known.given i)
+is_bytes : (c : tie.After-shape_of-shape) → Bytes (start c).args.table.now
+is_bytes c = λ i. omega (arith, c.before.before.shared_slice_known-1.given i)
 
-size : (c : tie.After-shape-of) → Sized (decode (start c).args.table.now)
+size : (c : tie.After-shape_of-shape) → Sized (decode (start c).args.table.now)
 size c = sized (start c).args.table.now (is_bytes c) (start c).requires.0
 
-few_arcs : (c : tie.After-shape-of) → c.shape_of.result.arcs ≤ 3072
-few_arcs c = omega (arith, c.shape_of.ensures.arcs_are, (size c).arcs)
+few_arcs : (c : tie.After-shape_of-shape) → c.shape_of-shape.result.arcs ≤ 3072
+few_arcs c = omega (arith, c.shape_of-shape.ensures.arcs_are, (size c).arcs)
 
-few_finals : (c : tie.After-shape-of) → c.shape_of.result.finals ≤ 1024
+few_finals : (c : tie.After-shape_of-shape) → c.shape_of-shape.result.finals ≤ 1024
 few_finals c =
     let r = accepted_within (start c).args.table.now (is_bytes c) (start c).requires.0 in
-    omega (arith, c.shape_of.ensures.finals_are, r.finals, r.states)
+    omega (arith, c.shape_of-shape.ensures.finals_are, r.finals, r.states)
 
-place : (c : tie.After-shape-of) → c.shape_of.result.first ≡ arcs_at c.shape_of.result.finals
-place c = let e = c.shape_of.ensures in omega (arith, e.opened.first_is, e.finals_are)
+place : (c : tie.After-shape_of-shape) → c.shape_of-shape.result.first ≡ arcs_at c.shape_of-shape.result.finals
+place c = let e = c.shape_of-shape.ensures in omega (arith, e.opened.first_is, e.finals_are)
 
-shape_of_requires : tie.Need-shape-of-requires
-shape_of_requires c κs = c.before.before.requires.0
+shape_of-shape-requires : tie.Need-shape_of-shape-requires
+shape_of-shape-requires c κs = c.before.before.requires.0
 
-copy_front_requires : tie.Need-copy-front-requires
-copy_front_requires c κs =
+copy_front-requires : tie.Need-copy_front-requires
+copy_front-requires c κs =
     let w = c.before in
     let bs = (start w).args.table.now in (
-      omega (arith, place w, w.shape_of.ensures.finals_are, length_accepted bs (is_bytes w) (start w).requires.0),
+      omega (arith, place w, w.shape_of-shape.ensures.finals_are, length_accepted bs (is_bytes w) (start w).requires.0),
       omega (arith, place w, few_finals w, (start w).requires.2),
     )
 
-put_inverted_requires : tie.Need-put-inverted-requires
-put_inverted_requires c κs =
+put_inverted-requires : tie.Need-put_inverted-requires
+put_inverted-requires c κs =
     let w = c.before.before.before.before.before in
-    let e = w.shape_of.ensures in (
+    let e = w.shape_of-shape.ensures in (
       e.opened,
       e.arcs_are,
-      omega (arith, place w, few_finals w, few_arcs w, c.before.before.before.copy-front.auto, (start w).requires.2),
+      omega (arith, place w, few_finals w, few_arcs w, c.before.before.before.copy_front.auto, (start w).requires.2),
     )
 
-mul_result : tie.Need-overflow-mul-result
-mul_result c = omega (arith, few_arcs (shaped c.before.before.before))
+overflow_mul-result : tie.Need-overflow_mul-result
+overflow_mul-result c = omega (arith, few_arcs (shaped c.before.before.before))
 
-add_result : tie.Need-overflow-add-result
-add_result c =
+overflow_add-result : tie.Need-overflow_add-result
+overflow_add-result c =
     let w = shaped c.before.before.before in
     omega (arith, few_arcs w, place w, few_finals w)
 
-same_length : tie.Need-same-length
-same_length c = search rules
+shape_of-out : tie.Need-shape_of-out
+shape_of-out c = search rules
 
 returns : tie.Need-returns
 returns c =
     let p = c.before.before.before in
     let w = shaped p in
-    let e = w.shape_of.ensures in
+    let e = w.shape_of-shape.ensures in
     let bs = (start w).args.table.now in
-    let finals = e.finals_are ∙ sym (length_finals bs (is_bytes w) (start w).pre.0) in
-    let room = fits (few_arcs w) (place w) (few_finals w) (start w).pre.2 (copied p).copy-front.auto.1.1.0 in
-    inverts bs (is_bytes w) (start w).pre.0 w.shape_of.result.finals w.shape_of.result.arcs w.shape_of.result.first _ _ _ finals e.arcs_are
-    (place w) room (copied p).copy-front.ensures p.put-inverted.ensures refl
+    let finals = e.finals_are ∙ sym (length_finals bs (is_bytes w) (start w).requires.0) in
+    let room = fits (few_arcs w) (place w) (few_finals w) (start w).requires.2 (copied p).copy_front.auto.out in
+    inverts bs (is_bytes w) (start w).requires.0 w.shape_of-shape.result.finals w.shape_of-shape.result.arcs w.shape_of-shape.result.first _ _ _ finals e.arcs_are
+    (place w) room (copied p).copy_front.ensures p.put_inverted.ensures refl
   where
     fits : {count at f room long : ℕ} → count ≤ 3072 → at ≡ arcs_at f → f ≤ 1024 → 59404 ≤ room → long ≡ room → at + 16 * count ≤ long
     fits a b c d e = omega arith
@@ -88,10 +88,10 @@ pub invert_into_spec : {M : Type 1} → statement M
 invert_into_spec =
     tie.close
     (tie.spec
-    shape_of_requires
-    copy_front_requires
-    put_inverted_requires
-    mul_result
-    add_result
-    same_length
+    shape_of-shape-requires
+    copy_front-requires
+    put_inverted-requires
+    overflow_mul-result
+    overflow_add-result
+    shape_of-out
     returns)

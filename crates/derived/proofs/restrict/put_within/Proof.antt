@@ -22,185 +22,185 @@ use Rattle.trim.proofs.Passing.{PassingSoFar, passing_first, passing_skip, passi
 use Rattle.derived.proofs.restrict.put_within.Statement.{statement}
 use Rattle.derived.proofs.restrict.put_within.Tie as tie
 
-abbrev invariant_loop : tie.invariant_loop
-invariant_loop table first arcs coming rest most at out₀ numbers₀ i₀ count₀ out numbers i count =
+abbrev invariant-loop-i : tie.invariant-loop-i
+invariant-loop-i table first arcs coming rest most at out₀ numbers₀ i₀ count₀ out numbers i count =
     PassingSoFar (within_bound coming rest (to_z w64 most)) unchanged (decode table).arcs at i count out₀ out numbers₀ numbers
 
-abbrev decreases_loop : tie.decreases_loop
-decreases_loop table first arcs coming rest most at out₀ numbers₀ i₀ count₀ out numbers i count = arcs - i
+abbrev decreases-loop-i : tie.decreases-loop-i
+decreases-loop-i table first arcs coming rest most at out₀ numbers₀ i₀ count₀ out numbers i count = arcs - i
 
 -- Places to look back to.
-abbrev entry : tie.At-loop invariant_loop decreases_loop → tie.Start invariant_loop decreases_loop
+abbrev entry : tie.At-loop-i invariant-loop-i decreases-loop-i → tie.Start invariant-loop-i decreases-loop-i
 entry c = c.before.before.before.before
 
-abbrev start : tie.In-loop invariant_loop decreases_loop → tie.Start invariant_loop decreases_loop
+abbrev start : tie.In-loop-i invariant-loop-i decreases-loop-i → tie.Start invariant-loop-i decreases-loop-i
 start c = entry c.before
 
-abbrev read : tie.After-sum-at-most invariant_loop decreases_loop → tie.After-arc-of invariant_loop decreases_loop
+abbrev read : tie.After-sum_at_most invariant-loop-i decreases-loop-i → tie.After-arc_of-a invariant-loop-i decreases-loop-i
 read c = c.before.before.before.before.before.before
 
-abbrev turn : tie.Else1 invariant_loop decreases_loop → tie.In-loop invariant_loop decreases_loop
+abbrev turn : tie.Else-not-sum_at_most invariant-loop-i decreases-loop-i → tie.In-loop-i invariant-loop-i decreases-loop-i
 turn c = (read c.before).before
 
 -- In a turn there is an arc of this number, whose states have costs.
-is_bytes : (c : tie.In-loop invariant_loop decreases_loop) → Bytes (start c).args.table.now
-is_bytes c = λ i. omega (arith, c.before.before.before.before.shared-slice-known.given i)
+is_bytes : (c : tie.In-loop-i invariant-loop-i decreases-loop-i) → Bytes (start c).args.table.now
+is_bytes c = λ i. omega (arith, c.before.before.before.before.shared_slice_known-1.given i)
 
-is_arc : (c : tie.In-loop invariant_loop decreases_loop) → c.before.loop.i < length (decode (start c).args.table.now).arcs
-is_arc c = omega (arith, c.loop-test.true, (start c).requires.1)
+is_arc : (c : tie.In-loop-i invariant-loop-i decreases-loop-i) → c.before.loop-i.i < length (decode (start c).args.table.now).arcs
+is_arc c = omega (arith, c.loop-i-test.true, (start c).requires.1)
 
-ends : (c : tie.After-arc-of invariant_loop decreases_loop) → ArcEnds (decode (start c.before).args.table.now).states c.arc_of.result
+ends : (c : tie.After-arc_of-a invariant-loop-i decreases-loop-i) → ArcEnds (decode (start c.before).args.table.now).states c.arc_of-a.result
 ends c =
-    arc_ends (start c.before).args.table.now (is_bytes c.before) (start c.before).pre.0.accepted c.before.before.loop.i c.arc_of.result
-    (is_arc c.before) c.arc_of.ensures
+    arc_ends (start c.before).args.table.now (is_bytes c.before) (start c.before).requires.0.accepted c.before.before.loop-i.i c.arc_of-a.result
+    (is_arc c.before) c.arc_of-a.ensures
 
-few_arcs : (c : tie.In-loop invariant_loop decreases_loop) → length (decode (start c).args.table.now).arcs ≤ 3072
+few_arcs : (c : tie.In-loop-i invariant-loop-i decreases-loop-i) → length (decode (start c).args.table.now).arcs ≤ 3072
 few_arcs c = (sized (start c).args.table.now (is_bytes c) (start c).requires.0.accepted).arcs
 
 -- The arc as the invariant has it.
-arc_is : (c : tie.After-arc-of invariant_loop decreases_loop)
-    → c.arc_of.result ≡ get_or (decode (start c.before).args.table.now).arcs c.before.before.loop.i no_arc
+arc_is : (c : tie.After-arc_of-a invariant-loop-i decreases-loop-i)
+    → c.arc_of-a.result ≡ get_or (decode (start c.before).args.table.now).arcs c.before.before.loop-i.i no_arc
 unfolding arc
-arc_is c = c.arc_of.ensures
+arc_is c = c.arc_of-a.ensures
 
 -- What is tested.
-test_is : (c : tie.After-sum-at-most invariant_loop decreases_loop)
-    → c.sum-at-most.result
+test_is : (c : tie.After-sum_at_most invariant-loop-i decreases-loop-i)
+    → c.sum_at_most.result
     ≡ within_bound (start (read c).before).args.coming.now (start (read c).before).args.rest.now
-    (to_z w64 (of_z w64 (start (read c).before).args.most)) (read c).arc_of.result
+    (to_z w64 (of_z w64 (start (read c).before).args.most)) (read c).arc_of-a.result
 unfolding within_bound
 test_is c =
     let s = start (read c).before in
-    let a = (read c).arc_of.result in
-    let one = to_z-of_z {w = w32} {z = cost_at s.args.coming.now a.source} (record { sfits = c.before.before.before.sum-at-most-arg.given }) in
-    let two = to_z-of_z {w = w32} {z = a.weight} (record { sfits = c.before.struct_told.given.1.1.1.1.0.1 }) in
-    let three = to_z-of_z {w = w32} {z = cost_at s.args.rest.now a.target} (record { sfits = c.before.before.sum-at-most-arg2.given }) in
-    c.sum-at-most.ensures ∙ (rw (one, two, three) refl)
+    let a = (read c).arc_of-a.result in
+    let one = to_z-of_z {w = w32} {z = cost_at s.args.coming.now a.source} (record { sfits = c.before.before.before.sum_at_most-arg-1.given }) in
+    let two = to_z-of_z {w = w32} {z = a.weight} (record { sfits = c.before.struct_told-1.given.1.1.1.1.0.1 }) in
+    let three = to_z-of_z {w = w32} {z = cost_at s.args.rest.now a.target} (record { sfits = c.before.before.sum_at_most-arg-in-loop-i-1.given }) in
+    c.sum_at_most.ensures ∙ (rw (one, two, three) refl)
 
 -- The place of the record and of the number stay inside.
-room : (c : tie.Else1 invariant_loop decreases_loop) →
-    ((start (turn c)).args.at + arc_bytes * (turn c).before.loop.count + arc_bytes ≤ length (start (turn c)).args.out.now)
-    × ((turn c).before.loop.count < length (start (turn c)).args.numbers.now)
+room : (c : tie.Else-not-sum_at_most invariant-loop-i decreases-loop-i) →
+    ((start (turn c)).args.at + arc_bytes * (turn c).before.loop-i.count + arc_bytes ≤ length (start (turn c)).args.out.now)
+    × ((turn c).before.loop-i.count < length (start (turn c)).args.numbers.now)
 room c =
     let at = turn c in (
-      omega (arith, at.loop-test.taken, at.before.loop.inv.few, (start at).pre.4),
-      omega (arith, at.loop-test.taken, at.before.loop.inv.few, (start at).pre.5),
+      omega (arith, at.loop-i-test.true, at.before.loop-i.invariant.few, (start at).requires.4),
+      omega (arith, at.loop-i-test.true, at.before.loop-i.invariant.few, (start at).requires.5),
     )
 
-loop_holds : tie.Need-loop-init invariant_loop decreases_loop
-loop_holds c = passing_first c.before.before.before.args.out.now c.before.before.before.args.numbers.now
+loop-i-init : tie.Need-loop-i-init invariant-loop-i decreases-loop-i
+loop-i-init c = passing_first c.before.before.before.args.out.now c.before.before.before.args.numbers.now
 
-arc_of_requires : tie.Need-arc-of-requires invariant_loop decreases_loop
-arc_of_requires c κs = ((start c).requires.0, is_arc c)
+arc_of-a-requires : tie.Need-arc_of-a-requires invariant-loop-i decreases-loop-i
+arc_of-a-requires c κs = ((start c).requires.0, is_arc c)
 
-cast_s : tie.Need-overflow-cast-s invariant_loop decreases_loop
-cast_s c = search rules
+overflow_cast-s : tie.Need-overflow_cast-s invariant-loop-i decreases-loop-i
+overflow_cast-s c = search rules
 
-cast_t : tie.Need-overflow-cast-t invariant_loop decreases_loop
-cast_t c = search rules
+overflow_cast-t : tie.Need-overflow_cast-t invariant-loop-i decreases-loop-i
+overflow_cast-t c = search rules
 
-add_i : tie.Need-overflow-add-i invariant_loop decreases_loop
-add_i c = search rules
+overflow_add-i : tie.Need-overflow_add-i invariant-loop-i decreases-loop-i
+overflow_add-i c = search rules
 
-mul_sum_at_most : tie.Need-overflow-mul-sum-at-most invariant_loop decreases_loop
-mul_sum_at_most c = search rules
+offset_bounds-coming-s : tie.Need-offset_bounds-coming-s invariant-loop-i decreases-loop-i
+offset_bounds-coming-s c = search rules
 
-shared_slice_copy_out_sum_at_most : tie.Need-shared-slice-copy-out-sum-at-most invariant_loop decreases_loop
-shared_slice_copy_out_sum_at_most c = let r = c.before.before in omega (arith, (ends r).source_below, (start r.before).pre.2)
+bounds-coming-s : tie.Need-bounds-coming-s invariant-loop-i decreases-loop-i
+bounds-coming-s c = let r = c.before.before in omega (arith, (ends r).source_below, (start r.before).requires.2)
 
-mul_sum_at_most_2 : tie.Need-overflow-mul-sum-at-most-2 invariant_loop decreases_loop
-mul_sum_at_most_2 c = search rules
+offset_bounds-rest-t : tie.Need-offset_bounds-rest-t invariant-loop-i decreases-loop-i
+offset_bounds-rest-t c = search rules
 
-shared_slice_copy_out_sum_at_most_2 : tie.Need-shared-slice-copy-out-sum-at-most-2 invariant_loop decreases_loop
-shared_slice_copy_out_sum_at_most_2 c = let r = c.before.before.before in omega (arith, (ends r).target_below, (start r.before).pre.3)
+bounds-rest-t : tie.Need-bounds-rest-t invariant-loop-i decreases-loop-i
+bounds-rest-t c = let r = c.before.before.before in omega (arith, (ends r).target_below, (start r.before).requires.3)
 
-sum_at_most_requires : tie.Need-sum-at-most-requires invariant_loop decreases_loop
-sum_at_most_requires c κs = tt
+sum_at_most-requires : tie.Need-sum_at_most-requires invariant-loop-i decreases-loop-i
+sum_at_most-requires c κs = tt
 
-loop_less : tie.Need-loop-smaller invariant_loop decreases_loop
-loop_less c = omega (arith, (read c.before).before.loop-test.taken)
+loop-i-smaller-then-not-sum_at_most : tie.Need-loop-i-smaller-then-not-sum_at_most invariant-loop-i decreases-loop-i
+loop-i-smaller-then-not-sum_at_most c = omega (arith, (read c.before).before.loop-i-test.true)
 
-loop_again : tie.Need-loop-preserved invariant_loop decreases_loop
-loop_again c =
+loop-i-preserved-then-not-sum_at_most : tie.Need-loop-i-preserved-then-not-sum_at_most invariant-loop-i decreases-loop-i
+loop-i-preserved-then-not-sum_at_most c =
     let r = read c.before in
-    passing_skip r.arc_of.result (is_arc r.before) (arc_is r) r.before.before.loop.inv
-    (sym (test_is c.before) ∙ not-true _ c.if1.true)
+    passing_skip r.arc_of-a.result (is_arc r.before) (arc_is r) r.before.before.loop-i.invariant
+    (sym (test_is c.before) ∙ c.if-not-sum_at_most.true)
 
-mul_put_arc : tie.Need-overflow-mul-put-arc invariant_loop decreases_loop
-mul_put_arc c = let e = c.before in omega (arith, (room e).0, (start (turn e)).good)
+overflow_mul-count : tie.Need-overflow_mul-count invariant-loop-i decreases-loop-i
+overflow_mul-count c = let e = c.before in omega (arith, (room e).0, (start (turn e)).well_formed)
 
-add_put_arc : tie.Need-overflow-add-put-arc invariant_loop decreases_loop
-add_put_arc c = let e = c.before in omega (arith, (room e).0, (start (turn e)).good)
+overflow_add-at : tie.Need-overflow_add-at invariant-loop-i decreases-loop-i
+overflow_add-at c = let e = c.before in omega (arith, (room e).0, (start (turn e)).well_formed)
 
-put_arc_requires : tie.Need-put-arc-requires invariant_loop decreases_loop
-put_arc_requires c κs = let e = c.before in omega (arith, (room e).0, (turn e).before.loop.invariant.long)
+put_arc-requires : tie.Need-put_arc-requires invariant-loop-i decreases-loop-i
+put_arc-requires c κs = let e = c.before in omega (arith, (room e).0, (turn e).before.loop-i.invariant.long)
 
-cast_numbers : tie.Need-overflow-cast-numbers invariant_loop decreases_loop
-cast_numbers c = let at = turn c.before.before.before.before in omega (arith, is_arc at, few_arcs at)
+overflow_cast-numbers : tie.Need-overflow_cast-numbers invariant-loop-i decreases-loop-i
+overflow_cast-numbers c = let at = turn c.before.before.before.before in omega (arith, is_arc at, few_arcs at)
 
-mul_numbers : tie.Need-overflow-mul-numbers invariant_loop decreases_loop
-mul_numbers c = let e = c.before.before.before.before in omega (arith, (room e).1, (start (turn e)).good)
+offset_bounds-numbers-count : tie.Need-offset_bounds-numbers-count invariant-loop-i decreases-loop-i
+offset_bounds-numbers-count c = let e = c.before.before.before.before in omega (arith, (room e).1, (start (turn e)).well_formed)
 
-slice_write_numbers : tie.Need-slice-write-numbers invariant_loop decreases_loop
-slice_write_numbers c = let e = c.before.before.before.before in omega (arith, (room e).1, (turn e).before.loop.invariant.numbers_long)
+bounds-numbers-count : tie.Need-bounds-numbers-count invariant-loop-i decreases-loop-i
+bounds-numbers-count c = let e = c.before.before.before.before in omega (arith, (room e).1, (turn e).before.loop-i.invariant.numbers_long)
 
-add_count : tie.Need-overflow-add-count invariant_loop decreases_loop
-add_count c = let e = c.before.before.before.before in omega (arith, (room e).1, (start (turn e)).good)
+overflow_add-count : tie.Need-overflow_add-count invariant-loop-i decreases-loop-i
+overflow_add-count c = let e = c.before.before.before.before in omega (arith, (room e).1, (start (turn e)).well_formed)
 
-loop_less_2 : tie.Need-loop-smaller-2 invariant_loop decreases_loop
-loop_less_2 c = omega (arith, (turn c.before.before.before.before).loop-test.taken)
+loop-i-smaller : tie.Need-loop-i-smaller invariant-loop-i decreases-loop-i
+loop-i-smaller c = omega (arith, (turn c.before.before.before.before).loop-i-test.true)
 
-loop_again_2 : tie.Need-loop-preserved-2 invariant_loop decreases_loop
-loop_again_2 c =
+loop-i-preserved : tie.Need-loop-i-preserved invariant-loop-i decreases-loop-i
+loop-i-preserved c =
     let put = c.before.before in
     let e = put.before.before in
     let r = read e.before in
-    let a = r.arc_of.result in
-    passing_more a (is_arc r.before) (arc_is r) r.before.before.loop.inv a _ _ (sym (test_is e.before) ∙ not-false _ e.if1.false)
-    refl refl refl put.put-arc.auto.0 put.put-arc.ensures refl
+    let a = r.arc_of-a.result in
+    passing_more a (is_arc r.before) (arc_is r) r.before.before.loop-i.invariant a _ _ (sym (test_is e.before) ∙ e.if-not-sum_at_most.false)
+    refl refl refl put.put_arc.auto.out put.put_arc.ensures refl
 
-same_length : tie.Need-same-length invariant_loop decreases_loop
-same_length c = c.before.loop.invariant.long
+shape_of-out : tie.Need-shape_of-out invariant-loop-i decreases-loop-i
+shape_of-out c = c.before.loop-i.invariant.long
 
-same_length_2 : tie.Need-same-length-2 invariant_loop decreases_loop
-same_length_2 c = c.before.loop.invariant.numbers_long
+shape_of-numbers : tie.Need-shape_of-numbers invariant-loop-i decreases-loop-i
+shape_of-numbers c = c.before.loop-i.invariant.numbers_long
 
-returns : tie.Need-returns invariant_loop decreases_loop
+returns : tie.Need-returns invariant-loop-i decreases-loop-i
 returns c =
     let s = entry c.before in
-    let l = c.before.loop in
+    let l = c.before.loop-i in
     let done : Weight → Type 0 =
     λ x. PassingPut (within_bound s.args.coming.now s.args.rest.now x) unchanged (decode s.args.table.now).arcs s.args.at l.count
     s.args.out.now l.out s.args.numbers.now l.numbers in
-    subst done (to_z-of_z s.fits.most) (passing_stop (omega (arith, c.loop-test.false, s.pre.1)) l.invariant)
+    subst done (to_z-of_z s.ranges.most) (passing_stop (omega (arith, c.loop-i-test.false, s.requires.1)) l.invariant)
 
 pub put_within_spec : {M : Type 1} → statement M
 put_within_spec =
     tie.close
     (tie.spec
-    invariant_loop
-    decreases_loop
-    loop_holds
-    arc_of_requires
-    cast_s
-    cast_t
-    add_i
-    mul_sum_at_most
-    shared_slice_copy_out_sum_at_most
-    mul_sum_at_most_2
-    shared_slice_copy_out_sum_at_most_2
-    sum_at_most_requires
-    loop_less
-    loop_again
-    mul_put_arc
-    add_put_arc
-    put_arc_requires
-    cast_numbers
-    mul_numbers
-    slice_write_numbers
-    add_count
-    loop_less_2
-    loop_again_2
-    same_length
-    same_length_2
+    invariant-loop-i
+    decreases-loop-i
+    loop-i-init
+    arc_of-a-requires
+    overflow_cast-s
+    overflow_cast-t
+    overflow_add-i
+    offset_bounds-coming-s
+    bounds-coming-s
+    offset_bounds-rest-t
+    bounds-rest-t
+    sum_at_most-requires
+    loop-i-smaller-then-not-sum_at_most
+    loop-i-preserved-then-not-sum_at_most
+    overflow_mul-count
+    overflow_add-at
+    put_arc-requires
+    overflow_cast-numbers
+    offset_bounds-numbers-count
+    bounds-numbers-count
+    overflow_add-count
+    loop-i-smaller
+    loop-i-preserved
+    shape_of-out
+    shape_of-numbers
     returns)

@@ -38,17 +38,17 @@ three c =
       c.ranges.rest.sfits,
     ))
 
-cast_result : tie.Need-overflow-cast-result
-cast_result c = rw (to_z-of_z c.ranges.coming) (wider c.args.coming c.ranges.coming)
+overflow_cast-result : tie.Need-overflow_cast-result
+overflow_cast-result c = rw (to_z-of_z c.ranges.coming) (wider c.args.coming c.ranges.coming)
 
-cast_result_2 : tie.Need-overflow-cast-result-2
-cast_result_2 c = rw (to_z-of_z c.ranges.weight) (wider c.args.weight c.ranges.weight)
+overflow_cast-result-2 : tie.Need-overflow_cast-result-2
+overflow_cast-result-2 c = rw (to_z-of_z c.ranges.weight) (wider c.args.weight c.ranges.weight)
 
-cast_result_3 : tie.Need-overflow-cast-result-3
-cast_result_3 c = rw (to_z-of_z c.ranges.rest) (wider c.args.rest c.ranges.rest)
+overflow_cast-result-3 : tie.Need-overflow_cast-result-3
+overflow_cast-result-3 c = rw (to_z-of_z c.ranges.rest) (wider c.args.rest c.ranges.rest)
 
-add_result : tie.Need-overflow-add-result
-add_result c =
+overflow_add-result : tie.Need-overflow_add-result
+overflow_add-result c =
     rw (
       to_z-of_z c.ranges.weight,
       to_z-of_z c.ranges.rest,
@@ -56,8 +56,8 @@ add_result c =
       to_z-of_z (wider c.args.rest c.ranges.rest),
     ) (two c)
 
-add_result_2 : tie.Need-overflow-add-result-2
-add_result_2 c =
+overflow_add-result-2 : tie.Need-overflow_add-result-2
+overflow_add-result-2 c =
     rw (
       to_z-of_z c.ranges.coming,
       to_z-of_z c.ranges.weight,
@@ -83,4 +83,12 @@ returns c =
     ) refl
 
 pub sum_at_most_spec : {M : Type 1} → statement M
-sum_at_most_spec = tie.close (tie.spec cast_result cast_result_2 cast_result_3 add_result add_result_2 returns)
+sum_at_most_spec =
+    tie.close
+    (tie.spec
+    overflow_cast-result
+    overflow_cast-result-2
+    overflow_cast-result-3
+    overflow_add-result
+    overflow_add-result-2
+    returns)

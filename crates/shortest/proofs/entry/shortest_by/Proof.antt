@@ -26,18 +26,18 @@ use Rattle.shortest.proofs.entry.shortest_by.Tie as tie
 
 -- Places to look back to.
 abbrev Entry : Type 0
-Entry = tie.After-shared-slice-known
+Entry = tie.After-shared_slice_known-1
 
-abbrev begun_at : tie.After-begin-arg → Entry
+abbrev begun_at : tie.After-begin-arg-1 → Entry
 begun_at c = c.before.before.before.before
 
-abbrev entry : tie.After-begin → Entry
+abbrev entry : tie.After-begin-shape → Entry
 entry c = begun_at c.before
 
-abbrev shape : tie.After-distances → tie.After-begin
+abbrev shape : tie.After-distances → tie.After-begin-shape
 shape c = c.before.before.before.before
 
-abbrev settled : tie.After-slice-known4 → tie.After-distances
+abbrev settled : tie.After-slice_known-4-1 → tie.After-distances
 settled c = c.before.before.before
 
 abbrev entry_of : tie.After-distances → Entry
@@ -53,58 +53,58 @@ accepted c = sym c.requires.0.refusal_is ∙ c.requires.1
 size : (c : Entry) → Sized (decode c.before.args.table.now)
 size c =
     let bs = c.before.args.table.now in
-    let bytes : Bytes bs = λ i. omega (arith, c.shared-slice-known.given i) in
+    let bytes : Bytes bs = λ i. omega (arith, c.shared_slice_known-1.given i) in
     sized bs bytes (accepted c.before)
 
 -- What is settled, and the path along the first tight arcs.
 abbrev costs : tie.After-distances → List Weight
-costs c = c.distances.new.1.1.1.1.0
+costs c = c.distances.new.costs
 
 abbrev lens : tie.After-distances → Sizes
-lens c = c.distances.new.1.1.1.1.1.0
+lens c = c.distances.new.lens
 
 abbrev firsts : tie.After-distances → ℕ → ℕ
 firsts c = first_tight (decode (start_of c).args.table.now) (cost_at (costs c)) (by_state (lens c))
 
 abbrev begin : tie.After-distances → ℕ
-begin c = (shape c).begin.result.start
+begin c = (shape c).begin-shape.result.start
 
 is_state : (c : tie.After-distances) → begin c < (decode (start_of c).args.table.now).states
-is_state c = omega (arith, (shape c).begin.ensures.shaped.start_is, (size (entry_of c)).within.starts)
+is_state c = omega (arith, (shape c).begin-shape.ensures.shaped.start_is, (size (entry_of c)).within.starts)
 
-settled_at : (c : tie.Else1) → (settled c.before).distances.result ≡ true
-settled_at c = not-false (settled c.before).distances.result c.if1.false
+settled_at : (c : tie.Else-not-distances) → (settled c.before).distances.result ≡ true
+settled_at c = c.if-not-distances.false
 
-abbrev on_of : tie.Else2 → tie.Else1
+abbrev on_of : tie.Else-cost-ge-UNREACHED → tie.Else-not-distances
 on_of c = c.before.before
 
-abbrev distances_of : tie.Else2 → tie.After-distances
+abbrev distances_of : tie.Else-cost-ge-UNREACHED → tie.After-distances
 distances_of c = settled (on_of c).before
 
 cost_fits : (c : tie.After-distances) → SFits w32 (cost_at (costs c) (begin c))
 cost_fits c = cell_fits c.distances.ensures.cells (begin c)
 
-there : (c : tie.Else2) → Below (cost_at (costs (distances_of c)) (begin (distances_of c))) unreached
-there c = let f = cost_fits (distances_of c) in omega (arith, bits, c.if2.false)
+there : (c : tie.Else-cost-ge-UNREACHED) → Below (cost_at (costs (distances_of c)) (begin (distances_of c))) unreached
+there c = let f = cost_fits (distances_of c) in omega (arith, bits, c.if-cost-ge-UNREACHED.false)
 
 -- How many arcs the path has.
 abbrev Measured : Type 0
-Measured = tie.After-arcs-of
+Measured = tie.After-arcs_of-len
 
-abbrev told_cost : Measured → tie.Else2
+abbrev told_cost : Measured → tie.Else-cost-ge-UNREACHED
 told_cost c = c.before.before
 
 abbrev measured_at : Measured → tie.After-distances
 measured_at c = distances_of (told_cost c)
 
 abbrev len : Measured → ℕ
-len c = c.arcs_of.result
+len c = c.arcs_of-len.result
 
 path : (c : Measured) → Found (decode (start_of (measured_at c)).args.table.now) (firsts (measured_at c)) (begin (measured_at c)) (len c)
 path c =
     let at = measured_at c in
     found (decode (start_of at).args.table.now) (size (entry_of at)) (costs at) (lens at) (begin at) (len c) at.distances.ensures
-    (settled_at (on_of (told_cost c))) (shape at).begin.ensures.shaped.start_is (there (told_cost c)) c.arcs_of.ensures
+    (settled_at (on_of (told_cost c))) (shape at).begin-shape.ensures.shaped.start_is (there (told_cost c)) c.arcs_of-len.ensures
 
 costs_of : (c : Measured)
     → path_cost (decode (start_of (measured_at c)).args.table.now)
@@ -113,87 +113,87 @@ costs_of : (c : Measured)
 costs_of c =
     let at = measured_at c in
     found_costs (decode (start_of at).args.table.now) (size (entry_of at)) (costs at) (lens at) (begin at) (len c) at.distances.ensures
-    (settled_at (on_of (told_cost c))) (shape at).begin.ensures.shaped.start_is (there (told_cost c)) c.arcs_of.ensures
+    (settled_at (on_of (told_cost c))) (shape at).begin-shape.ensures.shaped.start_is (there (told_cost c)) c.arcs_of-len.ensures
 
 abbrev walking : tie.After-follow → Measured
-walking c = c.before.before.before.before
+walking c = c.before.before
 
-abbrev walk_of : tie.After-put-labels-arg2 → tie.After-follow
-walk_of c = c.before.before.before.before
+abbrev walk_of : tie.After-put_labels-arg-1 → tie.After-follow
+walk_of c = c.before.before.before
 
 abbrev known_at : tie.After-follow → tie.After-distances
 known_at c = measured_at (walking c)
 
-put : (c : tie.After-follow) → Stored (decode (start_of (known_at c)).args.table.now) (len (walking c)) c.follow.new.1.1.1.1.1.1.1.1.0
+put : (c : tie.After-follow) → Stored (decode (start_of (known_at c)).args.table.now) (len (walking c)) c.follow.new.out
 put c =
     let at = known_at c in
     let a = (start_of at).args in
-    stored (decode a.table.now) (firsts at) (begin at) (len (walking c)) a.arcs.now c.follow.new.1.1.1.1.1.1.1.1.0
-    (path (walking c)) (start_of at).pre.4 c.follow.ensures
+    stored (decode a.table.now) (firsts at) (begin at) (len (walking c)) a.arcs.now c.follow.new.out
+    (path (walking c)) (start_of at).requires.4 c.follow.ensures
 
-begin_requires : tie.Need-begin-requires
-begin_requires c κs = let from = (begun_at c).before in (accepted from, from.pre.2)
+begin-shape-requires : tie.Need-begin-shape-requires
+begin-shape-requires c κs = let from = (begun_at c).before in (accepted from, from.requires.2)
 
-distances_requires : tie.Need-distances-requires
-distances_requires c κs =
+distances-requires : tie.Need-distances-requires
+distances-requires c κs =
     let begun = c.before.before.before in
     let pre = (entry begun).before.requires in
-    (begun.begin.ensures, pre.0, pre.3)
+    (begun.begin-shape.ensures, pre.0, pre.3)
 
-refused_requires : tie.Need-refused-requires
-refused_requires c κs = tt
+refused-requires : tie.Need-refused-requires
+refused-requires c κs = tt
 
-same_length : tie.Need-same-length
-same_length c = search rules
+shape_of-costs-then-not-distances : tie.Need-shape_of-costs-then-not-distances
+shape_of-costs-then-not-distances c = search rules
 
-same_length_2 : tie.Need-same-length-2
-same_length_2 c = search rules
+shape_of-lens-then-not-distances : tie.Need-shape_of-lens-then-not-distances
+shape_of-lens-then-not-distances c = search rules
 
-returns : tie.Need-returns
-returns c =
+returns-then-not-distances : tie.Need-returns-then-not-distances
+returns-then-not-distances c =
     let at = settled c.before.before in
     let from = start_of at in
     shortest_falls from.args.table.now (size (entry_of at)) at.distances.ensures
-    (not-true at.distances.result c.before.if1.true) c.refused.ensures
+    c.before.if-not-distances.true c.refused.ensures
 
-mul_cost : tie.Need-overflow-mul-cost
-mul_cost c = omega (arith, (shape (settled c.before)).begin.ensures.shaped.start_below)
+offset_bounds-costs-start : tie.Need-offset_bounds-costs-start
+offset_bounds-costs-start c = omega (arith, (shape (settled c.before)).begin-shape.ensures.shaped.start_below)
 
-slice_copy_out_cost : tie.Need-slice-copy-out-cost
-slice_copy_out_cost c = let at = settled c.before in omega (arith, is_state at, at.distances.ensures.cells.costs)
+slice_copy_out-cost : tie.Need-slice_copy_out-cost
+slice_copy_out-cost c = let at = settled c.before in omega (arith, is_state at, at.distances.ensures.cells.costs)
 
-refused_requires_2 : tie.Need-refused-requires-2
-refused_requires_2 c κs = tt
+refused-requires-then-cost-ge-UNREACHED : tie.Need-refused-requires-then-cost-ge-UNREACHED
+refused-requires-then-cost-ge-UNREACHED c κs = tt
 
-same_length_3 : tie.Need-same-length-3
-same_length_3 c = search rules
+shape_of-costs-then-cost-ge-UNREACHED : tie.Need-shape_of-costs-then-cost-ge-UNREACHED
+shape_of-costs-then-cost-ge-UNREACHED c = search rules
 
-same_length_4 : tie.Need-same-length-4
-same_length_4 c = search rules
+shape_of-lens-then-cost-ge-UNREACHED : tie.Need-shape_of-lens-then-cost-ge-UNREACHED
+shape_of-lens-then-cost-ge-UNREACHED c = search rules
 
-returns_2 : tie.Need-returns-2
-returns_2 c =
+returns-then-cost-ge-UNREACHED : tie.Need-returns-then-cost-ge-UNREACHED
+returns-then-cost-ge-UNREACHED c =
     let on = c.before.before.before in
     let at = settled on.before in
     let from = start_of at in
     let f = cost_fits at in
-    let none : AtMost unreached (cost_at (costs at) (begin at)) = omega (arith, bits, c.before.if2.true) in
+    let none : AtMost unreached (cost_at (costs at) (begin at)) = omega (arith, bits, c.before.if-cost-ge-UNREACHED.true) in
     shortest_none from.args.table.now (size (entry_of at)) at.distances.ensures
-    (settled_at on) (shape at).begin.ensures.shaped.start_is none c.refused2.ensures
+    (settled_at on) (shape at).begin-shape.ensures.shaped.start_is none c.refused-then-cost-ge-UNREACHED.ensures
 
-mul_arcs_of : tie.Need-overflow-mul-arcs-of
-mul_arcs_of c = omega (arith, (shape (distances_of c)).begin.ensures.shaped.start_below)
+offset_bounds-lens-start : tie.Need-offset_bounds-lens-start
+offset_bounds-lens-start c = omega (arith, (shape (distances_of c)).begin-shape.ensures.shaped.start_below)
 
-slice_read_arcs_of : tie.Need-slice-read-arcs-of
-slice_read_arcs_of c = let at = distances_of c.before in omega (arith, is_state at, at.distances.ensures.cells.lens)
+bounds-lens-start : tie.Need-bounds-lens-start
+bounds-lens-start c = let at = distances_of c.before in omega (arith, is_state at, at.distances.ensures.cells.lens)
 
-arcs_of_requires : tie.Need-arcs-of-requires
-arcs_of_requires c κs = tt
+arcs_of-len-requires : tie.Need-arcs_of-len-requires
+arcs_of-len-requires c κs = tt
 
-follow_requires : tie.Need-follow-requires
-follow_requires c κs =
-    let at = c.before.before.before in
-    let known = (shape (measured_at at)).begin.ensures in (
+follow-requires : tie.Need-follow-requires
+follow-requires c κs =
+    let at = c.before in
+    let known = (shape (measured_at at)).begin-shape.ensures in (
       known.shaped.opened,
       known.shaped.states_are,
       known.shaped.arcs_are,
@@ -203,39 +203,39 @@ follow_requires c κs =
       (measured_at at).distances.ensures.cells,
     )
 
-put_labels_requires : tie.Need-put-labels-requires
-put_labels_requires c κs =
+put_labels-end-requires : tie.Need-put_labels-end-requires
+put_labels-end-requires c κs =
     let walked = walk_of c in
     let at = known_at walked in
-    let known = (shape at).begin.ensures in
-    (known.shaped.opened, known.shaped.start_is, (put walked).inside, (path (walking walked)).few, (put walked).accepted, (start_of at).pre.5)
+    let known = (shape at).begin-shape.ensures in
+    (known.shaped.opened, known.shaped.start_is, (put walked).inside, (path (walking walked)).few, (put walked).accepted, (start_of at).requires.5)
 
-cast_answer : tie.Need-overflow-cast-answer
-cast_answer c =
+overflow_cast-cost : tie.Need-overflow_cast-cost
+overflow_cast-cost c =
     let at = known_at (walk_of c.before.before.before) in
     rw (to_z-of_z (cost_fits at)) (wider (cost_at (costs at) (begin at)) (cost_fits at))
 
-answer_requires : tie.Need-answer-requires
-answer_requires c κs =
+answer-requires : tie.Need-answer-requires
+answer-requires c κs =
     let wrote = c.before.before in
-    ((path (walking (walk_of wrote.before))).few, wrote.put_labels.ensures.few)
+    ((path (walking (walk_of wrote.before))).few, wrote.put_labels-end.ensures.few)
 
-same_length_5 : tie.Need-same-length-5
-same_length_5 c =
+shape_of-costs : tie.Need-shape_of-costs
+shape_of-costs c =
     let at = known_at (walk_of c.before.before.before.before) in
-    at.distances.kept.1.1.1.1.0 ∙ (shape at).begin.kept.1.0
+    at.distances.auto.costs ∙ (shape at).begin-shape.auto.costs
 
-same_length_6 : tie.Need-same-length-6
-same_length_6 c = search rules
+shape_of-lens : tie.Need-shape_of-lens
+shape_of-lens c = search rules
 
-same_length_7 : tie.Need-same-length-7
-same_length_7 c = search rules
+shape_of-arcs : tie.Need-shape_of-arcs
+shape_of-arcs c = search rules
 
-same_length_8 : tie.Need-same-length-8
-same_length_8 c = search rules
+shape_of-labels : tie.Need-shape_of-labels
+shape_of-labels c = search rules
 
-returns_3 : tie.Need-returns-3
-returns_3 c =
+returns : tie.Need-returns
+returns c =
     let wrote = c.before.before.before in
     let walked = walk_of wrote.before in
     let at = known_at walked in
@@ -243,36 +243,36 @@ returns_3 c =
     let t = decode from.args.table.now in
     let cost = cost_at (costs at) (begin at) in
     let costs' = ap (λ (z : Weight). to_z w64 (of_z w64 z)) (to_z-of_z (cost_fits at)) ∙ to_z-of_z (wider cost (cost_fits at)) in
-    shortest_told from.args.table.now from.pre.4 (path (walking walked)) walked.follow.ensures
+    shortest_told from.args.table.now from.requires.4 (path (walking walked)) walked.follow.ensures
     (rw c.answer.ensures
     (tells_by t _ _ (len (walking walked)) (costs' ∙ stored_costs t (put walked) (path (walking walked)) (costs_of (walking walked))) (sym (put walked).long)
-    wrote.put_labels.ensures))
+    wrote.put_labels-end.ensures))
 
 pub shortest_by_spec : {M : Type 1} → statement M
 shortest_by_spec =
     tie.close
     (tie.spec
-    begin_requires
-    distances_requires
-    refused_requires
-    same_length
-    same_length_2
-    returns
-    mul_cost
-    slice_copy_out_cost
-    refused_requires_2
-    same_length_3
-    same_length_4
-    returns_2
-    mul_arcs_of
-    slice_read_arcs_of
-    arcs_of_requires
-    follow_requires
-    put_labels_requires
-    cast_answer
-    answer_requires
-    same_length_5
-    same_length_6
-    same_length_7
-    same_length_8
-    returns_3)
+    begin-shape-requires
+    distances-requires
+    refused-requires
+    shape_of-costs-then-not-distances
+    shape_of-lens-then-not-distances
+    returns-then-not-distances
+    offset_bounds-costs-start
+    slice_copy_out-cost
+    refused-requires-then-cost-ge-UNREACHED
+    shape_of-costs-then-cost-ge-UNREACHED
+    shape_of-lens-then-cost-ge-UNREACHED
+    returns-then-cost-ge-UNREACHED
+    offset_bounds-lens-start
+    bounds-lens-start
+    arcs_of-len-requires
+    follow-requires
+    put_labels-end-requires
+    overflow_cast-cost
+    answer-requires
+    shape_of-costs
+    shape_of-lens
+    shape_of-arcs
+    shape_of-labels
+    returns)

@@ -6,72 +6,72 @@ use Rattle.shortest.proofs.entry.shortest_path.Statement.{statement}
 use Rattle.shortest.proofs.entry.shortest_path.Tie as tie
 
 -- Places to look back to.
-abbrev looked : tie.Else3 → tie.After-validate
+abbrev looked : tie.Else-labels-lt-MAX_PATH → tie.After-validate-seen
 looked c = c.before.before.before
 
-abbrev entry : tie.After-validate → tie.Start
+abbrev entry : tie.After-validate-seen → tie.Start
 entry c = c.before.before.before.before
 
-validate_requires : tie.Need-validate-requires
-validate_requires c κs = tt
+validate-seen-requires : tie.Need-validate-seen-requires
+validate-seen-requires c κs = tt
 
-refused_requires : tie.Need-refused-requires
-refused_requires c κs = tt
+refused-requires : tie.Need-refused-requires
+refused-requires c κs = tt
+
+returns-then-number-ne0 : tie.Need-returns-then-number-ne0
+returns-then-number-ne0 c =
+    let a = (entry c.before.before).args in
+    shortest_bad a.table.now c.before.before.validate-seen.ensures.refusal_is c.before.if-number-ne0.true c.refused.ensures
+
+refused-requires-then-arcs-lt-MAX_PATH : tie.Need-refused-requires-then-arcs-lt-MAX_PATH
+refused-requires-then-arcs-lt-MAX_PATH c κs = tt
+
+returns-then-arcs-lt-MAX_PATH : tie.Need-returns-then-arcs-lt-MAX_PATH
+returns-then-arcs-lt-MAX_PATH c =
+    let a = (entry c.before.before.before).args in
+    shortest_short_arcs a.table.now c.before.before.before.validate-seen.ensures.refusal_is c.before.before.if-number-ne0.false c.before.if-arcs-lt-MAX_PATH.true
+    c.refused-then-arcs-lt-MAX_PATH.ensures
+
+refused-requires-then-labels-lt-MAX_PATH : tie.Need-refused-requires-then-labels-lt-MAX_PATH
+refused-requires-then-labels-lt-MAX_PATH c κs = tt
+
+returns-then-labels-lt-MAX_PATH : tie.Need-returns-then-labels-lt-MAX_PATH
+returns-then-labels-lt-MAX_PATH c =
+    let a = (entry c.before.before.before.before).args in
+    shortest_short_labels a.table.now c.before.before.before.before.validate-seen.ensures.refusal_is c.before.before.before.if-number-ne0.false
+    c.before.before.if-arcs-lt-MAX_PATH.false c.before.if-labels-lt-MAX_PATH.true c.refused-then-labels-lt-MAX_PATH.ensures
+
+shortest_accepted-requires : tie.Need-shortest_accepted-requires
+shortest_accepted-requires c κs =
+    let passed = c.before.before in
+    ((looked passed).validate-seen.ensures, passed.before.before.if-number-ne0.false, passed.before.if-arcs-lt-MAX_PATH.false, passed.if-labels-lt-MAX_PATH.false)
+
+shape_of-arcs : tie.Need-shape_of-arcs
+shape_of-arcs c = search rules
+
+shape_of-labels : tie.Need-shape_of-labels
+shape_of-labels c = search rules
 
 returns : tie.Need-returns
 returns c =
-    let a = (entry c.before.before).args in
-    shortest_bad a.table.now c.before.before.validate.ensures.refusal_is c.before.if1.true c.refused.ensures
-
-refused_requires_2 : tie.Need-refused-requires-2
-refused_requires_2 c κs = tt
-
-returns_2 : tie.Need-returns-2
-returns_2 c =
-    let a = (entry c.before.before.before).args in
-    shortest_short_arcs a.table.now c.before.before.before.validate.ensures.refusal_is c.before.before.if1.false c.before.if2.true
-    c.refused2.ensures
-
-refused_requires_3 : tie.Need-refused-requires-3
-refused_requires_3 c κs = tt
-
-returns_3 : tie.Need-returns-3
-returns_3 c =
-    let a = (entry c.before.before.before.before).args in
-    shortest_short_labels a.table.now c.before.before.before.before.validate.ensures.refusal_is c.before.before.before.if1.false
-    c.before.before.if2.false c.before.if3.true c.refused3.ensures
-
-shortest_accepted_requires : tie.Need-shortest-accepted-requires
-shortest_accepted_requires c κs =
-    let passed = c.before.before in
-    ((looked passed).validate.ensures, passed.before.before.if1.false, passed.before.if2.false, passed.if3.false)
-
-same_length : tie.Need-same-length
-same_length c = search rules
-
-same_length_2 : tie.Need-same-length-2
-same_length_2 c = search rules
-
-returns_4 : tie.Need-returns-4
-returns_4 c =
     let answered = c.before.before.before.before in
     let passed = answered.before.before.before in
     let a = (entry (looked passed)).args in
-    shortest_passed a.table.now (looked passed).validate.ensures.refusal_is passed.before.before.if1.false passed.before.if2.false
-    passed.if3.false answered.shortest-accepted.ensures
+    shortest_passed a.table.now (looked passed).validate-seen.ensures.refusal_is passed.before.before.if-number-ne0.false passed.before.if-arcs-lt-MAX_PATH.false
+    passed.if-labels-lt-MAX_PATH.false answered.shortest_accepted.ensures
 
 pub shortest_path_spec : {M : Type 1} → statement M
 shortest_path_spec =
     tie.close
     (tie.spec
-    validate_requires
-    refused_requires
-    returns
-    refused_requires_2
-    returns_2
-    refused_requires_3
-    returns_3
-    shortest_accepted_requires
-    same_length
-    same_length_2
-    returns_4)
+    validate-seen-requires
+    refused-requires
+    returns-then-number-ne0
+    refused-requires-then-arcs-lt-MAX_PATH
+    returns-then-arcs-lt-MAX_PATH
+    refused-requires-then-labels-lt-MAX_PATH
+    returns-then-labels-lt-MAX_PATH
+    shortest_accepted-requires
+    shape_of-arcs
+    shape_of-labels
+    returns)

@@ -18,43 +18,43 @@ use Rattle.shortest.proofs.Tight.{Seeking, seeking_first, seeking_here, seeking_
 use Rattle.shortest.proofs.walk.first_giving.Statement.{statement}
 use Rattle.shortest.proofs.walk.first_giving.Tie as tie
 
-abbrev invariant_loop : tie.invariant_loop
-invariant_loop table first s from to costs lens i₀ i = Seeking (decode table) (cost_at costs) (by_state lens) s from to i
+abbrev invariant-loop-i : tie.invariant-loop-i
+invariant-loop-i table first s from to costs lens i₀ i = Seeking (decode table) (cost_at costs) (by_state lens) s from to i
 
-abbrev decreases_loop : tie.decreases_loop
-decreases_loop table first s from to costs lens i₀ i = to - i
+abbrev decreases-loop-i : tie.decreases-loop-i
+decreases-loop-i table first s from to costs lens i₀ i = to - i
 
 -- A turn of the loop.
 abbrev Turn : Type 0
-Turn = tie.In-loop invariant_loop decreases_loop
+Turn = tie.In-loop-i invariant-loop-i decreases-loop-i
 
-abbrev start : Turn → tie.Start invariant_loop decreases_loop
+abbrev start : Turn → tie.Start invariant-loop-i decreases-loop-i
 start c = c.before.before.before.before
 
-is_arc : (c : Turn) → c.before.loop.i < length (decode (start c).args.table.now).arcs
-is_arc c = omega (arith, c.loop-test.true, (start c).requires.3)
+is_arc : (c : Turn) → c.before.loop-i.i < length (decode (start c).args.table.now).arcs
+is_arc c = omega (arith, c.loop-i-test.true, (start c).requires.3)
 
 size : (c : Turn) → Sized (decode (start c).args.table.now)
 size c =
     let bs = (start c).args.table.now in
-    let bytes : Bytes bs = λ i. omega (arith, c.before.before.before.shared-slice-known.given i) in
+    let bytes : Bytes bs = λ i. omega (arith, c.before.before.before.shared_slice_known-1.given i) in
     sized bs bytes (start c).requires.0.accepted
 
-loop_holds : tie.Need-loop-init invariant_loop decreases_loop
-loop_holds c =
+loop-i-init : tie.Need-loop-i-init invariant-loop-i decreases-loop-i
+loop-i-init c =
     let start' = c.before.before in
     let a = start'.args in
     seeking_first (decode a.table.now) (cost_at a.costs.now) (by_state a.lens.now) a.s
     a.from a.to start'.requires.2
 
-by_arc_requires : tie.Need-by-arc-requires invariant_loop decreases_loop
-by_arc_requires c κs = ((start c).requires.0, is_arc c, (start c).requires.4)
+by_arc-by-requires : tie.Need-by_arc-by-requires invariant-loop-i decreases-loop-i
+by_arc-by-requires c κs = ((start c).requires.0, is_arc c, (start c).requires.4)
 
 -- What the arc of this turn gives, and how it compares.
 abbrev Compared : Type 0
-Compared = tie.After-comes-first invariant_loop decreases_loop
+Compared = tie.After-comes_first invariant-loop-i decreases-loop-i
 
-abbrev given : Compared → tie.After-by-arc invariant_loop decreases_loop
+abbrev given : Compared → tie.After-by_arc-by invariant-loop-i decreases-loop-i
 given c = c.before.before.before.before
 
 abbrev turn : Compared → Turn
@@ -62,85 +62,85 @@ turn c = (given c).before
 
 test : (c : Compared) →
     let a = (start (turn c)).args in
-    let by = (given c).by_arc.result in
-    c.comes-first.result ≡ nearer (cost_at a.costs.now a.s) (by_state a.lens.now a.s) by.cost
+    let by = (given c).by_arc-by.result in
+    c.comes_first.result ≡ nearer (cost_at a.costs.now a.s) (by_state a.lens.now a.s) by.cost
     (unpacked by.size)
 test c =
     let a = (start (turn c)).args in
-    let by = (given c).by_arc.result in
+    let by = (given c).by_arc-by.result in
     let l = by_state a.lens.now a.s in
     let m : Size = unpacked by.size in
-    let cost = to_z-of_z {w = w32} {z = by.cost} (record { sfits = c.before.struct_told.given.0.1 }) in
-    c.comes-first.ensures
-    ∙ (ap (λ (x : Weight). nearer x l (to_z w32 (of_z w32 by.cost)) m) (cell_back (start (turn c)).pre.4 a.s)
+    let cost = to_z-of_z {w = w32} {z = by.cost} (record { sfits = c.before.struct_told-1.given.0.1 }) in
+    c.comes_first.ensures
+    ∙ (ap (λ (x : Weight). nearer x l (to_z w32 (of_z w32 by.cost)) m) (cell_back (start (turn c)).requires.4 a.s)
     ∙ ap (λ (x : Weight). nearer (cost_at a.costs.now a.s) l x m) cost)
 
-mul_comes_first : tie.Need-overflow-mul-comes-first invariant_loop decreases_loop
-mul_comes_first c = omega (arith, (start c.before).pre.1, (size c.before).states)
+offset_bounds-costs-s : tie.Need-offset_bounds-costs-s invariant-loop-i decreases-loop-i
+offset_bounds-costs-s c = omega (arith, (start c.before).requires.1, (size c.before).states)
 
-shared_slice_copy_out_comes_first : tie.Need-shared-slice-copy-out-comes-first invariant_loop decreases_loop
-shared_slice_copy_out_comes_first c = let pre = (start c.before).pre in omega (arith, pre.1, pre.4.costs)
+bounds-costs-s : tie.Need-bounds-costs-s invariant-loop-i decreases-loop-i
+bounds-costs-s c = let pre = (start c.before).requires in omega (arith, pre.1, pre.4.costs)
 
-mul_comes_first_2 : tie.Need-overflow-mul-comes-first-2 invariant_loop decreases_loop
-mul_comes_first_2 c = let t = c.before.before in omega (arith, (start t).requires.1, (size t).states)
+offset_bounds-lens-s : tie.Need-offset_bounds-lens-s invariant-loop-i decreases-loop-i
+offset_bounds-lens-s c = let t = c.before.before in omega (arith, (start t).requires.1, (size t).states)
 
-shared_slice_read_comes_first : tie.Need-shared-slice-read-comes-first invariant_loop decreases_loop
-shared_slice_read_comes_first c = let pre = (start c.before.before.before).pre in omega (arith, pre.1, pre.4.lens)
+bounds-lens-s : tie.Need-bounds-lens-s invariant-loop-i decreases-loop-i
+bounds-lens-s c = let pre = (start c.before.before.before).requires in omega (arith, pre.1, pre.4.lens)
 
-comes_first_requires : tie.Need-comes-first-requires invariant_loop decreases_loop
-comes_first_requires c κs = tt
+comes_first-requires : tie.Need-comes_first-requires invariant-loop-i decreases-loop-i
+comes_first-requires c κs = tt
 
-returns : tie.Need-returns invariant_loop decreases_loop
-returns c =
+returns-then-not-comes_first : tie.Need-returns-then-not-comes_first invariant-loop-i decreases-loop-i
+returns-then-not-comes_first c =
     let at = turn c.before in
-    let by = (given c.before).by_arc in
+    let by = (given c.before).by_arc-by in
     let a = (start at).args in
-    let now' = at.before.loop in
+    let now' = at.before.loop-i in
     seeking_here (decode a.table.now) (cost_at a.costs.now) (by_state a.lens.now) a.s
     a.from a.to now'.i
-    by.result.cost (unpacked by.result.size) now'.inv at.loop-test.taken by.ensures.0 by.ensures.1
-    (ap not (sym (test c.before)) ∙ c.if1.true)
+    by.result.cost (unpacked by.result.size) now'.invariant at.loop-i-test.true by.ensures.0 by.ensures.1
+    (ap not (sym (test c.before) ∙ c.if-not-comes_first.true))
 
-add_i : tie.Need-overflow-add-i invariant_loop decreases_loop
-add_i c = let at = turn c.before in omega (arith, is_arc at, (size at).arcs)
+overflow_add-i : tie.Need-overflow_add-i invariant-loop-i decreases-loop-i
+overflow_add-i c = let at = turn c.before in omega (arith, is_arc at, (size at).arcs)
 
-loop_less : tie.Need-loop-smaller invariant_loop decreases_loop
-loop_less c = omega (arith, (turn c.before).loop-test.taken)
+loop-i-smaller : tie.Need-loop-i-smaller invariant-loop-i decreases-loop-i
+loop-i-smaller c = omega (arith, (turn c.before).loop-i-test.true)
 
-loop_again : tie.Need-loop-preserved invariant_loop decreases_loop
-loop_again c =
+loop-i-preserved : tie.Need-loop-i-preserved invariant-loop-i decreases-loop-i
+loop-i-preserved c =
     let at = turn c.before in
-    let by = (given c.before).by_arc in
+    let by = (given c.before).by_arc-by in
     let a = (start at).args in
-    let now' = at.before.loop in
+    let now' = at.before.loop-i in
     seeking_next (decode a.table.now) (cost_at a.costs.now) (by_state a.lens.now) a.s
     a.from a.to now'.i
-    by.result.cost (unpacked by.result.size) now'.inv at.loop-test.taken by.ensures.0 by.ensures.1
-    (ap not (sym (test c.before)) ∙ c.if1.false)
+    by.result.cost (unpacked by.result.size) now'.invariant at.loop-i-test.true by.ensures.0 by.ensures.1
+    (ap not (sym (test c.before) ∙ c.if-not-comes_first.false))
 
-returns_2 : tie.Need-returns-2 invariant_loop decreases_loop
-returns_2 c =
+returns : tie.Need-returns invariant-loop-i decreases-loop-i
+returns c =
     let a = c.before.before.before.before.args in
-    let now' = c.before.loop in
+    let now' = c.before.loop-i in
     seeking_stop (decode a.table.now) (cost_at a.costs.now) (by_state a.lens.now) a.s
     a.from a.to now'.i now'.invariant
-    c.loop-test.false
+    c.loop-i-test.false
 
 pub first_giving_spec : {M : Type 1} → statement M
 first_giving_spec =
     tie.close
     (tie.spec
-    invariant_loop
-    decreases_loop
-    loop_holds
-    by_arc_requires
-    mul_comes_first
-    shared_slice_copy_out_comes_first
-    mul_comes_first_2
-    shared_slice_read_comes_first
-    comes_first_requires
-    returns
-    add_i
-    loop_less
-    loop_again
-    returns_2)
+    invariant-loop-i
+    decreases-loop-i
+    loop-i-init
+    by_arc-by-requires
+    offset_bounds-costs-s
+    bounds-costs-s
+    offset_bounds-lens-s
+    bounds-lens-s
+    comes_first-requires
+    returns-then-not-comes_first
+    overflow_add-i
+    loop-i-smaller
+    loop-i-preserved
+    returns)
