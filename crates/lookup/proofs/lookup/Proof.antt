@@ -7,23 +7,23 @@ use Rattle.transducer.specs.Format.{max_arcs, max_bytes, max_path, max_states}
 use Rattle.lookup.proofs.lookup.Statement.{statement}
 use Rattle.lookup.proofs.lookup.Tie as tie
 
-slice_aggregate_lookup_in : tie.Need-slice-aggregate-lookup-in
-slice_aggregate_lookup_in c = search rules
+slice_bounds-lookup_in-end : tie.Need-slice_bounds-lookup_in-end
+slice_bounds-lookup_in-end c = search rules
 
-slice_aggregate_lookup_in_2 : tie.Need-slice-aggregate-lookup-in-2
-slice_aggregate_lookup_in_2 c = search rules
+slice_bounds-lookup_in-end-2 : tie.Need-slice_bounds-lookup_in-end-2
+slice_bounds-lookup_in-end-2 c = search rules
 
-slice_aggregate_lookup_in_3 : tie.Need-slice-aggregate-lookup-in-3
-slice_aggregate_lookup_in_3 c = search rules
+slice_bounds-lookup_in-end-3 : tie.Need-slice_bounds-lookup_in-end-3
+slice_bounds-lookup_in-end-3 c = search rules
 
-slice_aggregate_lookup_in_4 : tie.Need-slice-aggregate-lookup-in-4
-slice_aggregate_lookup_in_4 c = search rules
+slice_bounds-lookup_in-end-4 : tie.Need-slice_bounds-lookup_in-end-4
+slice_bounds-lookup_in-end-4 c = search rules
 
-slice_aggregate_lookup_in_5 : tie.Need-slice-aggregate-lookup-in-5
-slice_aggregate_lookup_in_5 c = search rules
+slice_bounds-lookup_in-end-5 : tie.Need-slice_bounds-lookup_in-end-5
+slice_bounds-lookup_in-end-5 c = search rules
 
-lookup_in_requires : tie.Need-lookup-in-requires
-lookup_in_requires c κs =
+lookup_in-requires : tie.Need-lookup_in-requires
+lookup_in-requires c κs =
     record {
       lattice_asks =
           record {
@@ -43,10 +43,10 @@ pub lookup_spec : {M : Type 1} → statement M
 lookup_spec =
     tie.close
     (tie.spec
-    slice_aggregate_lookup_in
-    slice_aggregate_lookup_in_2
-    slice_aggregate_lookup_in_3
-    slice_aggregate_lookup_in_4
-    slice_aggregate_lookup_in_5
-    lookup_in_requires
+    slice_bounds-lookup_in-end
+    slice_bounds-lookup_in-end-2
+    slice_bounds-lookup_in-end-3
+    slice_bounds-lookup_in-end-4
+    slice_bounds-lookup_in-end-5
+    lookup_in-requires
     returns)

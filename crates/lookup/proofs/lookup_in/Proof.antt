@@ -18,159 +18,159 @@ use Rattle.lookup.proofs.lookup_in.Statement.{statement}
 use Rattle.lookup.proofs.lookup_in.Tie as tie
 
 -- Places to look back to.
-abbrev start : tie.After-count-string → tie.Start
+abbrev start : tie.After-count_string-read → tie.Start
 start c = c.before.before.before.before.before.before.before.before.before.before.before
 
-abbrev read : tie.Else1 → tie.After-count-string
+abbrev read : tie.Else-read-ne0 → tie.After-count_string-read
 read c = c.before.before.before.before.before.before.before.before
 
-abbrev unread : tie.Then1 → tie.After-count-string
+abbrev unread : tie.Then-read-ne0 → tie.After-count_string-read
 unread c = c.before.before.before.before.before.before.before.before
 
-abbrev counted : tie.Else2 → tie.Else1
+abbrev counted : tie.Else-read-eq0 → tie.Else-read-ne0
 counted c = c.before.before
 
-abbrev counting : tie.After-shortest-accepted → tie.Else2
-counting c = c.before.before.before.before.before.before
+abbrev counting : tie.After-shortest_accepted-told → tie.Else-read-eq0
+counting c = c.before.before.before.before.before
 
-is_bytes : (c : tie.After-count-string) → Bytes (start c).args.table.now
-is_bytes c = λ i. omega (arith, c.before.before.before.before.before.before.before.before.before.shared-slice-known2.given i)
+is_bytes : (c : tie.After-count_string-read) → Bytes (start c).args.table.now
+is_bytes c = λ i. omega (arith, c.before.before.before.before.before.before.before.before.before.shared_slice_known-2-1.given i)
 
-accepted : (c : tie.After-count-string) → refusal (start c).args.table.now ≡ 0
+accepted : (c : tie.After-count_string-read) → refusal (start c).args.table.now ≡ 0
 accepted c = (start c).requires.lattice_asks.table.accepted
 
-inside : (c : tie.Else2) → (read (counted c)).count-string.result.len ≤ length (read (counted c)).count-string.new.1.1.1.0
-inside c = (read (counted c)).count-string.ensures.inside (counted c).if1.false
+inside : (c : tie.Else-read-eq0) → (read (counted c)).count_string-read.result.len ≤ length (read (counted c)).count_string-read.new.lattice
+inside c = (read (counted c)).count_string-read.ensures.inside (counted c).if-read-ne0.false
 
-small : (c : tie.After-shortest-accepted) → magnitude c.shortest-accepted.result.cost ≤ most_cost
+small : (c : tie.After-shortest_accepted-told) → magnitude c.shortest_accepted-told.result.cost ≤ most_cost
 small c =
     let else2 = counting c in
     let r = read (counted else2) in
-    told_small _ _ (is_bytes r) (accepted r) r.count-string.result _ r.count-string.ensures (counted else2).if1.left else2.if2.left
-    c.shortest-accepted.result _ _ _ _ c.shortest-accepted.ensures
+    told_small _ _ (is_bytes r) (accepted r) r.count_string-read.result _ r.count_string-read.ensures (counted else2).if-read-ne0.false else2.if-read-eq0.false
+    c.shortest_accepted-told.result _ _ _ _ c.shortest_accepted-told.ensures
 
-fits_64 : (c : tie.After-shortest-accepted) → SFits w64 c.shortest-accepted.result.cost
-fits_64 c = magnitude_fits c.shortest-accepted.result.cost (omega (arith, small c))
+fits_64 : (c : tie.After-shortest_accepted-told) → SFits w64 c.shortest_accepted-told.result.cost
+fits_64 c = magnitude_fits c.shortest_accepted-told.result.cost (omega (arith, small c))
 
-fits_32 : (c : tie.After-shortest-accepted) → SFits w32 c.shortest-accepted.result.cost
-fits_32 c = small_fits c.shortest-accepted.result.cost (small c)
+fits_32 : (c : tie.After-shortest_accepted-told) → SFits w32 c.shortest_accepted-told.result.cost
+fits_32 c = small_fits c.shortest_accepted-told.result.cost (small c)
 
-count_string_requires : tie.Need-count-string-requires
-count_string_requires c κs = c.before.before.before.before.before.before.before.before.before.before.requires.lattice_asks
+count_string-read-requires : tie.Need-count_string-read-requires
+count_string-read-requires c κs = c.before.before.before.before.before.before.before.before.before.before.requires.lattice_asks
 
-refused_requires : tie.Need-refused-requires
-refused_requires c κs = tt
+refused-requires : tie.Need-refused-requires
+refused-requires c κs = tt
 
-same_length : tie.Need-same-length
-same_length c = search rules
+shape_of-lattice-then-read-ne0 : tie.Need-shape_of-lattice-then-read-ne0
+shape_of-lattice-then-read-ne0 c = search rules
 
-same_length_2 : tie.Need-same-length-2
-same_length_2 c = search rules
+shape_of-origins-then-read-ne0 : tie.Need-shape_of-origins-then-read-ne0
+shape_of-origins-then-read-ne0 c = search rules
 
-same_length_3 : tie.Need-same-length-3
-same_length_3 c = search rules
+shape_of-pairs-then-read-ne0 : tie.Need-shape_of-pairs-then-read-ne0
+shape_of-pairs-then-read-ne0 c = search rules
 
-returns : tie.Need-returns
-returns c =
+returns-then-read-ne0 : tie.Need-returns-then-read-ne0
+returns-then-read-ne0 c =
     let then1 = c.before in
     let r = unread then1 in
-    looked_refused _ _ (is_bytes r) (accepted r) r.count-string.result _ r.count-string.ensures then1.if1.true _ c.refused.ensures
+    looked_refused _ _ (is_bytes r) (accepted r) r.count_string-read.result _ r.count_string-read.ensures then1.if-read-ne0.true _ c.refused.ensures
 
-refused_requires_2 : tie.Need-refused-requires-2
-refused_requires_2 c κs = tt
+refused-requires-then-read-eq0 : tie.Need-refused-requires-then-read-eq0
+refused-requires-then-read-eq0 c κs = tt
 
-same_length_4 : tie.Need-same-length-4
-same_length_4 c = search rules
+shape_of-lattice-then-read-eq0 : tie.Need-shape_of-lattice-then-read-eq0
+shape_of-lattice-then-read-eq0 c = search rules
 
-same_length_5 : tie.Need-same-length-5
-same_length_5 c = search rules
+shape_of-origins-then-read-eq0 : tie.Need-shape_of-origins-then-read-eq0
+shape_of-origins-then-read-eq0 c = search rules
 
-same_length_6 : tie.Need-same-length-6
-same_length_6 c = search rules
+shape_of-pairs-then-read-eq0 : tie.Need-shape_of-pairs-then-read-eq0
+shape_of-pairs-then-read-eq0 c = search rules
 
-returns_2 : tie.Need-returns-2
-returns_2 c =
+returns-then-read-eq0 : tie.Need-returns-then-read-eq0
+returns-then-read-eq0 c =
     let then2 = c.before in
     let else1 = then2.before.before in
     let r = read else1 in
-    looked_none _ _ (is_bytes r) (accepted r) r.count-string.result _ r.count-string.ensures else1.if1.false then2.if2.true _
-    c.refused2.ensures
+    looked_none _ _ (is_bytes r) (accepted r) r.count_string-read.result _ r.count_string-read.ensures else1.if-read-ne0.false then2.if-read-eq0.true _
+    c.refused-then-read-eq0.ensures
 
-cast_len : tie.Need-overflow-cast-len
-cast_len c = search rules
+overflow_cast-len : tie.Need-overflow_cast-len
+overflow_cast-len c = search rules
 
-unvalidated_requires : tie.Need-unvalidated-requires
-unvalidated_requires c κs = tt
+unvalidated-seen-requires : tie.Need-unvalidated-seen-requires
+unvalidated-seen-requires c κs = tt
 
-slice_reshare_prefix_shortest_accepted : tie.Need-slice-reshare-prefix-shortest-accepted
-slice_reshare_prefix_shortest_accepted c = inside c.before.before
+slice_bounds-shortest_accepted-end : tie.Need-slice_bounds-shortest_accepted-end
+slice_bounds-shortest_accepted-end c = inside c.before.before
 
-slice_aggregate_shortest_accepted : tie.Need-slice-aggregate-shortest-accepted
-slice_aggregate_shortest_accepted c = sym (length-take-le _ _ (inside c.before.before.before))
+slice_bounds-shortest_accepted-end-2 : tie.Need-slice_bounds-shortest_accepted-end-2
+slice_bounds-shortest_accepted-end-2 c = sym (length-take-le _ _ (inside c.before.before))
 
-shortest_accepted_requires : tie.Need-shortest-accepted-requires
-shortest_accepted_requires c κs =
-    let seen = c.before.before.before in
-    let else2 = seen.before.before in
-    let r = read (counted else2) in
-    rw seen.unvalidated.ensures (
-      lattice_facts _ _ (is_bytes r) (accepted r) r.count-string.result _ r.count-string.ensures (counted else2).if1.false,
+shortest_accepted-told-requires : tie.Need-shortest_accepted-told-requires
+shortest_accepted-told-requires c κs =
+    let seen = c.before.before in
+    let else2 = seen.before in
+    let r = read (counted else2.before) in
+    rw seen.unvalidated-seen.ensures (
+      lattice_facts _ _ (is_bytes r) (accepted r) r.count_string-read.result _ r.count_string-read.ensures (counted else2.before).if-read-ne0.false,
       refl,
-      (start r).pre.arcs_long,
-      (start r).pre.labels_long,
+      (start r).requires.arcs_long,
+      (start r).requires.labels_long,
     )
 
-cast_cost : tie.Need-overflow-cast-cost
-cast_cost c = let k = c.before.before.before.before.before.before in rw (to_z-of_z (fits_64 k)) (fits_32 k)
+overflow_cast-cost : tie.Need-overflow_cast-cost
+overflow_cast-cost c = let k = c.before.before.before.before.before.before in rw (to_z-of_z (fits_64 k)) (fits_32 k)
 
-same_length_7 : tie.Need-same-length-7
-same_length_7 c = search rules
+shape_of-lattice : tie.Need-shape_of-lattice
+shape_of-lattice c = search rules
 
-same_length_8 : tie.Need-same-length-8
-same_length_8 c = search rules
+shape_of-origins : tie.Need-shape_of-origins
+shape_of-origins c = search rules
 
-same_length_9 : tie.Need-same-length-9
-same_length_9 c = search rules
+shape_of-pairs : tie.Need-shape_of-pairs
+shape_of-pairs c = search rules
 
-same_length_10 : tie.Need-same-length-10
-same_length_10 c = search rules
+shape_of-arcs : tie.Need-shape_of-arcs
+shape_of-arcs c = search rules
 
-same_length_11 : tie.Need-same-length-11
-same_length_11 c = search rules
+shape_of-labels : tie.Need-shape_of-labels
+shape_of-labels c = search rules
 
-returns_3 : tie.Need-returns-3
-returns_3 c =
+returns : tie.Need-returns
+returns c =
     let k = c.before.before.before.before.before.before in
     let else2 = counting k in
     let r = read (counted else2) in
     rw (to_z-of_z (fits_64 k), to_z-of_z (fits_32 k))
-    (looked_told _ _ (is_bytes r) (accepted r) r.count-string.result _ r.count-string.ensures (counted else2).if1.left else2.if2.left
-    k.shortest-accepted.result _ _ _ _ k.shortest-accepted.ensures)
+    (looked_told _ _ (is_bytes r) (accepted r) r.count_string-read.result _ r.count_string-read.ensures (counted else2).if-read-ne0.false else2.if-read-eq0.false
+    k.shortest_accepted-told.result _ _ _ _ k.shortest_accepted-told.ensures)
 
 pub lookup_in_spec : {M : Type 1} → statement M
 lookup_in_spec =
     tie.close
     (tie.spec
-    count_string_requires
-    refused_requires
-    same_length
-    same_length_2
-    same_length_3
-    returns
-    refused_requires_2
-    same_length_4
-    same_length_5
-    same_length_6
-    returns_2
-    cast_len
-    unvalidated_requires
-    slice_reshare_prefix_shortest_accepted
-    slice_aggregate_shortest_accepted
-    shortest_accepted_requires
-    cast_cost
-    same_length_7
-    same_length_8
-    same_length_9
-    same_length_10
-    same_length_11
-    returns_3)
+    count_string-read-requires
+    refused-requires
+    shape_of-lattice-then-read-ne0
+    shape_of-origins-then-read-ne0
+    shape_of-pairs-then-read-ne0
+    returns-then-read-ne0
+    refused-requires-then-read-eq0
+    shape_of-lattice-then-read-eq0
+    shape_of-origins-then-read-eq0
+    shape_of-pairs-then-read-eq0
+    returns-then-read-eq0
+    overflow_cast-len
+    unvalidated-seen-requires
+    slice_bounds-shortest_accepted-end
+    slice_bounds-shortest_accepted-end-2
+    shortest_accepted-told-requires
+    overflow_cast-cost
+    shape_of-lattice
+    shape_of-origins
+    shape_of-pairs
+    shape_of-arcs
+    shape_of-labels
+    returns)
