@@ -1,5 +1,6 @@
 // The cases of composing two transducers. Buffers are dirty before the call, and shown to their ends after it.
 use crate::{lent, load, show};
+use std::io;
 use transducer::{MAX_BYTES, MAX_ORIGINS, MAX_STATES, Written};
 
 // Composes two transducers into buffers that the case may shorten.
@@ -24,7 +25,7 @@ fn compose_into(
 }
 
 // Composes two transducers. The case has the length of the left one (4 bytes), and the two.
-pub fn compose(case: &[u8], room: u8) {
+pub fn compose(rt: &impl Print, case: &[u8], room: u8) -> io::Result<()> {
     let mut table = [lent::DIRTY8; MAX_BYTES + lent::SPARE];
     let mut origins = [lent::DIRTY16; MAX_ORIGINS + lent::SPARE];
     let mut states = [lent::DIRTY32; MAX_STATES + lent::SPARE];
@@ -37,6 +38,6 @@ pub fn compose(case: &[u8], room: u8) {
         &mut origins,
         &mut states,
     );
-    show::built(answer, &table, &origins);
-    show::number(b" ", show::sum32(&states));
+    show::built(rt, answer, &table, &origins)?;
+    show::number(rt, b" ", show::sum32(&states))
 }

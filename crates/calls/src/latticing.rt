@@ -1,5 +1,6 @@
 // The cases of applying a string and of trimming. Buffers are dirty before the call, and shown to their ends after it.
 use crate::{lent, load, show};
+use std::io;
 use transducer::{MAX_ARCS, MAX_BYTES, MAX_STATES, Written};
 
 // More labels than a string may have.
@@ -27,7 +28,7 @@ fn apply_into(
 }
 
 // Applies a string to a transducer. The case has the number of its labels (2 bytes), the labels, and the transducer.
-pub fn apply(case: &[u8], room: u8) {
+pub fn apply(rt: &impl Print, case: &[u8], room: u8) -> io::Result<()> {
     let mut lattice = [lent::DIRTY8; MAX_BYTES + lent::SPARE];
     let mut origins = [lent::DIRTY16; MAX_ARCS + lent::SPARE];
     let mut pairs = [lent::DIRTY32; MAX_STATES + lent::SPARE];
@@ -42,8 +43,8 @@ pub fn apply(case: &[u8], room: u8) {
         &mut origins,
         &mut pairs,
     );
-    show::built(answer, &lattice, &origins);
-    show::number(b" ", show::sum32(&pairs));
+    show::built(rt, answer, &lattice, &origins)?;
+    show::number(rt, b" ", show::sum32(&pairs))
 }
 
 // Trims into buffers that the case may shorten.
@@ -54,9 +55,9 @@ fn trim_into(table: &[u8], room: u8, out: &mut [u8], origins: &mut [u16]) -> Wri
 }
 
 // Trims a transducer.
-pub fn trim(table: &[u8], room: u8) {
+pub fn trim(rt: &impl Print, table: &[u8], room: u8) -> io::Result<()> {
     let mut out = [lent::DIRTY8; MAX_BYTES + lent::SPARE];
     let mut origins = [lent::DIRTY16; MAX_ARCS + lent::SPARE];
     let answer = trim_into(table, room, &mut out, &mut origins);
-    show::built(answer, &out, &origins);
+    show::built(rt, answer, &out, &origins)
 }

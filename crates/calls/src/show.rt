@@ -1,30 +1,26 @@
 // What a line says: words, numbers, and a sum of each buffer to its end, which another content would change.
 ghost use Rattle.std.specs.Prelude.{◌<◌};
 
+use std::io;
 use transducer::Written;
 
 const PRIME: u64 = 65521;
 
 // Prints a word.
-pub fn word(text: &[u8]) {
-    io::write_all(1, text);
+pub fn word(rt: &impl Print, text: &[u8]) -> io::Result<()> {
+    rt.write_all(text)
 }
 
 // Prints a word and a number.
-pub fn number(text: &[u8], value: u64) {
-    io::write_all(1, text);
-    io::print_decimal(1, value);
+pub fn number(rt: &impl Print, text: &[u8], value: u64) -> io::Result<()> {
+    rt.write_all(text)?;
+    print!(rt; "{value}")
 }
 
 // Prints a word and a cost.
-pub fn cost(text: &[u8], value: i64) {
-    io::write_all(1, text);
-    if 0 <= value {
-        io::print_decimal(1, value as u64);
-        return;
-    }
-    io::write_all(1, b"-");
-    io::print_decimal(1, (-1 - value) as u64 + 1);
+pub fn cost(rt: &impl Print, text: &[u8], value: i64) -> io::Result<()> {
+    rt.write_all(text)?;
+    print!(rt; "{value}")
 }
 
 fn wide8(x: u8) -> u64
@@ -122,14 +118,14 @@ pub fn sum_costs(cells: &[i64]) -> u64 {
 }
 
 // Prints what a call that writes a transducer answered.
-pub fn written(answer: Written) {
-    number(b" refusal ", answer.refusal as u64);
-    number(b" length ", answer.len as u64);
+pub fn written(rt: &impl Print, answer: Written) -> io::Result<()> {
+    number(rt, b" refusal ", answer.refusal as u64)?;
+    number(rt, b" length ", answer.len as u64)
 }
 
 // Prints the same, and the sums of a transducer's bytes and of origins.
-pub fn built(answer: Written, table: &[u8], origins: &[u16]) {
-    written(answer);
-    number(b" sums ", sum8(table));
-    number(b" ", sum16(origins));
+pub fn built(rt: &impl Print, answer: Written, table: &[u8], origins: &[u16]) -> io::Result<()> {
+    written(rt, answer)?;
+    number(rt, b" sums ", sum8(table))?;
+    number(rt, b" ", sum16(origins))
 }

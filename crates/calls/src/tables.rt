@@ -1,24 +1,32 @@
 // The cases of reading and writing a transducer. Buffers are dirty before the call, and shown to their ends after it.
 use crate::{lent, load, show};
+use std::io;
 use transducer::{Header, MAX_ARCS, MAX_BYTES, MAX_FIELDS, MAX_STATES, Written};
 
 // Prints what reading answered, and the four buffers.
-fn show_read(head: Header, states: &[u16], weights: &[i32], fields: &[u16], arc_weights: &[i32]) {
-    show::number(b" refusal ", head.refusal as u64);
-    show::number(b" states ", head.states as u64);
-    show::number(b" arcs ", head.arcs as u64);
-    show::number(b" finals ", head.finals as u64);
-    show::number(b" start ", head.start as u64);
-    show::number(b" sums ", show::sum16(states));
-    show::number(b" ", show::sum_weights(weights));
-    show::number(b" ", show::sum16(fields));
-    show::number(b" ", show::sum_weights(arc_weights));
+fn show_read(
+    rt: &impl Print,
+    head: Header,
+    states: &[u16],
+    weights: &[i32],
+    fields: &[u16],
+    arc_weights: &[i32],
+) -> io::Result<()> {
+    show::number(rt, b" refusal ", head.refusal as u64)?;
+    show::number(rt, b" states ", head.states as u64)?;
+    show::number(rt, b" arcs ", head.arcs as u64)?;
+    show::number(rt, b" finals ", head.finals as u64)?;
+    show::number(rt, b" start ", head.start as u64)?;
+    show::number(rt, b" sums ", show::sum16(states))?;
+    show::number(rt, b" ", show::sum_weights(weights))?;
+    show::number(rt, b" ", show::sum16(fields))?;
+    show::number(rt, b" ", show::sum_weights(arc_weights))
 }
 
 // Prints what writing answered, and the buffer.
-fn show_written(written: Written, out: &[u8]) {
-    show::written(written);
-    show::number(b" sum ", show::sum8(out));
+fn show_written(rt: &impl Print, written: Written, out: &[u8]) -> io::Result<()> {
+    show::written(rt, written)?;
+    show::number(rt, b" sum ", show::sum8(out))
 }
 
 // Reads a transducer into buffers that the case may shorten.
@@ -44,7 +52,7 @@ fn read_into(
 }
 
 // Reads a transducer.
-pub fn read(bytes: &[u8], room: u8) {
+pub fn read(rt: &impl Print, bytes: &[u8], room: u8) -> io::Result<()> {
     let mut states = [lent::DIRTY16; MAX_STATES + lent::SPARE];
     let mut weights = [lent::DIRTY_WEIGHT; MAX_STATES + lent::SPARE];
     let mut fields = [lent::DIRTY16; MAX_FIELDS + lent::SPARE];
@@ -57,7 +65,7 @@ pub fn read(bytes: &[u8], room: u8) {
         &mut fields,
         &mut arc_weights,
     );
-    show_read(head, &states, &weights, &fields, &arc_weights);
+    show_read(rt, head, &states, &weights, &fields, &arc_weights)
 }
 
 // Whether bytes are what stands at the front of a buffer.
@@ -76,7 +84,7 @@ fn same(bytes: &[u8], out: &[u8]) -> bool {
 }
 
 // Reads a transducer and writes what was read.
-pub fn round_trip(bytes: &[u8]) {
+pub fn round_trip(rt: &impl Print, bytes: &[u8]) -> io::Result<()> {
     let mut states = [lent::DIRTY16; MAX_STATES + lent::SPARE];
     let mut weights = [lent::DIRTY_WEIGHT; MAX_STATES + lent::SPARE];
     let mut fields = [lent::DIRTY16; MAX_FIELDS + lent::SPARE];
@@ -89,7 +97,7 @@ pub fn round_trip(bytes: &[u8]) {
         &mut fields,
         &mut arc_weights,
     );
-    show_read(head, &states, &weights, &fields, &arc_weights);
+    show_read(rt, head, &states, &weights, &fields, &arc_weights)?;
     let written = codec::write(
         head.states,
         head.arcs,
@@ -101,10 +109,11 @@ pub fn round_trip(bytes: &[u8]) {
         &arc_weights,
         &mut out,
     );
-    show_written(written, &out);
+    show_written(rt, written, &out)?;
     if same(bytes, &out) {
-        show::word(b" same");
+        show::word(rt, b" same")?;
     }
+    Ok(())
 }
 
 // Writes a transducer from runs of which the case says how many cells are lent, into a buffer that it may shorten.
@@ -136,7 +145,7 @@ fn write_from(
 }
 
 // Writes a transducer. The case has its four numbers, how many cells each of the four runs has, and the runs.
-pub fn write(case: &[u8], room: u8) {
+pub fn write(rt: &impl Print, case: &[u8], room: u8) -> io::Result<()> {
     let mut states = [lent::DIRTY16; MAX_STATES + lent::SPARE];
     let mut weights = [lent::DIRTY_WEIGHT; MAX_STATES + lent::SPARE];
     let mut fields = [lent::DIRTY16; MAX_FIELDS + lent::SPARE];
@@ -162,5 +171,5 @@ pub fn write(case: &[u8], room: u8) {
         &arc_weights,
         &mut out,
     );
-    show_written(written, &out);
+    show_written(rt, written, &out)
 }

@@ -3,54 +3,78 @@
 // tests/limits/cases.py writes the cases. They take more steps than the interpreter of `rt try` has, whose compiled runs do them all.
 #![tactic(auto)]
 
-ghost use Rattle.std.specs.Prelude.{◌<◌, length};
+ghost use Rattle.std.specs.Prelude.{◌≡◌, ◌<◌, ◌≤◌, IfOk, length, take};
 
 mod telling;
+
+use std::io;
+use std::io::Read;
 
 // The bytes that all cases take at most.
 const INPUT: usize = 655360;
 
 // Makes the call that a case names by number.
-fn call(number: u8, case: &[u8], room: u8) {
+fn call(rt: &impl Print, number: u8, case: &[u8], room: u8) -> io::Result<()> {
     match number {
-        1 => calls::read(case, room),
-        2 => calls::write(case, room),
-        3 => calls::round_trip(case),
-        4 => calls::compose(case, room),
-        5 => calls::apply(case, room),
-        6 => calls::trim(case, room),
-        7 => calls::count(case),
-        8 => calls::nth(case, room),
-        9 => telling::shortest(case, room),
-        _ => telling::distance(case, room),
+        1 => calls::read(rt, case, room),
+        2 => calls::write(rt, case, room),
+        3 => calls::round_trip(rt, case),
+        4 => calls::compose(rt, case, room),
+        5 => calls::apply(rt, case, room),
+        6 => calls::trim(rt, case, room),
+        7 => calls::count(rt, case),
+        8 => calls::nth(rt, case, room),
+        9 => telling::shortest(rt, case, room),
+        _ => telling::distance(rt, case, room),
     }
 }
 
 // Executes the case at a place, and answers where the next one stands.
-fn run_case(cases: &[u8], at: usize) -> usize
+fn run_case(rt: &impl Print, cases: &[u8], at: usize) -> io::Result<usize>
     requires { at < length cases.now }
-    ensures { at < result }
+    ensures { IfOk result (λ next. at < next) }
 {
     let number = cases[at];
     let room = calls::byte(cases, at + 1);
     let name = calls::u16_or_0(cases, at + 2) as usize;
     let size = calls::u32_or_0(cases, at + 4) as usize;
-    calls::word(calls::part(cases, at + 8, name));
-    call(number, calls::part(cases, at + 8 + name, size), room);
-    calls::word(b"\n");
-    at + 8 + name + size
+    calls::word(rt, calls::part(cases, at + 8, name))?;
+    call(rt, number, calls::part(cases, at + 8 + name, size), room)?;
+    calls::word(rt, b"\n")?;
+    Ok(at + 8 + name + size)
 }
 
 // Executes all cases.
-fn run(cases: &[u8]) {
+fn run(rt: &impl Print, cases: &[u8]) -> io::Result<()> {
     let mut at = 0;
     while at < cases.len() {
-        at = run_case(cases, at);
+        at = run_case(rt, cases, at)?;
     }
+    Ok(())
 }
 
-fn main() {
+// Reads until `bytes` is full, the input ends or a read fails, and answers how many bytes there are.
+fn read_full(input: &mut impl Read, bytes: &mut [u8]) -> usize
+    ensures fits { result ≤ length bytes.new }
+    ensures front { result ≡ length (take result bytes.new) }
+{
+    let mut done = 0;
+    while done < bytes.len() {
+        match input.read(&mut bytes[done..]) {
+            Ok(0) | Err(_) => return done,
+            Ok(n) => done += n,
+        }
+    }
+    done
+}
+
+// Reads the cases that standard input lists into `bytes`, as many as there is room for, and executes them.
+fn run_input(rt: &(impl Print + Input), bytes: &mut [u8]) -> io::Result<()> {
+    let count = read_full(&mut rt.reader(), bytes);
+    run(rt, &bytes[..count])
+}
+
+fn main(rt: HostRuntime) -> io::Result<()> {
     let mut input = [0u8; INPUT];
-    let count = io::read_full(0, &mut input);
-    run(&input[..count]);
+    run_input(&rt, &mut input)
 }
