@@ -12,83 +12,83 @@ use Rattle.cascade.proofs.unapplied.Tie as tie
 abbrev start_1 : tie.After-refused → tie.Start
 start_1 c = c.before.before.before.before.before.before
 
-abbrev start : tie.After-refusal → tie.Start
+abbrev start : tie.After-refusal-other → tie.Start
 start c = c.before.before.before.before.before.before
 
-abbrev at_last : tie.After-slice-known6 → tie.Else6
+abbrev at_last : tie.After-slice_known-6-1 → tie.Else-states-lt-MAX_STATES
 at_last c = c.before.before.before.before.before.before.before.before.before.before
 
 -- The right transducer was accepted.
-right : (c : tie.Else2) → refusal (start c.before).args.right.now ≡ 0
-right c = sym c.before.refusal.ensures ∙ c.if2.false
+right : (c : tie.Else-other-ne0) → refusal (start c.before).args.right.now ≡ 0
+right c = sym c.before.refusal-other.ensures ∙ c.if-other-ne0.false
 
-refused_requires : tie.Need-refused-requires
-refused_requires c κs = tt
+refused-requires : tie.Need-refused-requires
+refused-requires c κs = tt
 
-returns : tie.Need-returns
-returns c =
+returns-then-number-lt9 : tie.Need-returns-then-number-lt9
+returns-then-number-lt9 c =
     let x = (start_1 c).args in
     λ left string u.
-    says_left left x.right.now string x.table.now x.origins.now x.states.now x.number u c.before.if1.true _ c.refused.ensures
+    says_left left x.right.now string x.table.now x.origins.now x.states.now x.number u c.before.if-number-lt9.true _ c.refused.ensures
 
-refusal_requires : tie.Need-refusal-requires
-refusal_requires c κs = tt
+refusal-other-requires : tie.Need-refusal-other-requires
+refusal-other-requires c κs = tt
 
-refused_requires_2 : tie.Need-refused-requires-2
-refused_requires_2 c κs = tt
+refused-requires-then-other-ne0 : tie.Need-refused-requires-then-other-ne0
+refused-requires-then-other-ne0 c κs = tt
 
-returns_2 : tie.Need-returns-2
-returns_2 c =
+returns-then-other-ne0 : tie.Need-returns-then-other-ne0
+returns-then-other-ne0 c =
     let asked = c.before.before in
     let x = (start asked).args in
     λ left string u.
-    says_right left x.right.now string x.table.now x.origins.now x.states.now x.number u asked.before.if1.false
-    asked.refusal.result asked.refusal.ensures c.before.if2.true _ c.refused2.ensures
+    says_right left x.right.now string x.table.now x.origins.now x.states.now x.number u asked.before.if-number-lt9.false
+    asked.refusal-other.result asked.refusal-other.ensures c.before.if-other-ne0.true _ c.refused-then-other-ne0.ensures
 
-refused_requires_3 : tie.Need-refused-requires-3
-refused_requires_3 c κs = tt
+refused-requires-then-number-eq9 : tie.Need-refused-requires-then-number-eq9
+refused-requires-then-number-eq9 c κs = tt
 
-returns_3 : tie.Need-returns-3
-returns_3 c =
+returns-then-number-eq9 : tie.Need-returns-then-number-eq9
+returns-then-number-eq9 c =
     let passed = c.before.before in
     let asked = passed.before in
     let x = (start asked).args in
     λ left string u.
-    says_string left x.right.now string x.table.now x.origins.now x.states.now x.number u asked.before.if1.false (right passed)
-    c.before.if3.true _ c.refused3.ensures
+    says_string left x.right.now string x.table.now x.origins.now x.states.now x.number u asked.before.if-number-lt9.false (right passed)
+    c.before.if-number-eq9.true _ c.refused-then-number-eq9.ensures
 
-refused_requires_4 : tie.Need-refused-requires-4
-refused_requires_4 c κs = tt
+refused-requires-then-table-lt-MAX_BYTES : tie.Need-refused-requires-then-table-lt-MAX_BYTES
+refused-requires-then-table-lt-MAX_BYTES c κs = tt
 
-returns_4 : tie.Need-returns-4
-returns_4 c =
+returns-then-table-lt-MAX_BYTES : tie.Need-returns-then-table-lt-MAX_BYTES
+returns-then-table-lt-MAX_BYTES c =
     let other = c.before.before in
     let passed = other.before in
     let asked = passed.before in
     let x = (start asked).args in
     λ left string u.
-    says_table left x.right.now string x.table.now x.origins.now x.states.now x.number u asked.before.if1.false (right passed)
-    other.if3.false c.before.if4.true _ c.refused4.ensures
+    says_table left x.right.now string x.table.now x.origins.now x.states.now x.number u asked.before.if-number-lt9.false (right passed)
+    other.if-number-eq9.false c.before.if-table-lt-MAX_BYTES.true _ c.refused-then-table-lt-MAX_BYTES.ensures
 
-refused_requires_5 : tie.Need-refused-requires-5
-refused_requires_5 c κs = tt
+refused-requires-then-origins-lt-MAX_ORIGINS : tie.Need-refused-requires-then-origins-lt-MAX_ORIGINS
+refused-requires-then-origins-lt-MAX_ORIGINS c κs = tt
 
-returns_5 : tie.Need-returns-5
-returns_5 c =
+returns-then-origins-lt-MAX_ORIGINS : tie.Need-returns-then-origins-lt-MAX_ORIGINS
+returns-then-origins-lt-MAX_ORIGINS c =
     let long = c.before.before in
     let other = long.before in
     let passed = other.before in
     let asked = passed.before in
     let x = (start asked).args in
     λ left string u.
-    says_origins left x.right.now string x.table.now x.origins.now x.states.now x.number u asked.before.if1.false (right passed)
-    other.if3.false long.if4.false c.before.if5.true _ c.refused5.ensures
+    says_origins left x.right.now string x.table.now x.origins.now x.states.now x.number u asked.before.if-number-lt9.false (right passed)
+    other.if-number-eq9.false long.if-table-lt-MAX_BYTES.false c.before.if-origins-lt-MAX_ORIGINS.true _ c.refused-then-origins-lt-MAX_ORIGINS.ensures
 
-refused_requires_6 : tie.Need-refused-requires-6
-refused_requires_6 c κs = tt
+refused-requires-then-states-lt-MAX_STATES : tie.Need-refused-requires-then-states-lt-MAX_STATES
+refused-requires-then-states-lt-MAX_STATES c κs = tt
 
-returns_6 : tie.Need-returns-6
-returns_6 c =
+returns-then-states-lt-MAX_STATES : tie.Need-returns-then-states-lt-MAX_STATES
+returns-then-states-lt-MAX_STATES c =
     let wide = c.before.before in
     let long = wide.before in
     let other = long.before in
@@ -96,23 +96,23 @@ returns_6 c =
     let asked = passed.before in
     let x = (start asked).args in
     λ left string u.
-    says_states left x.right.now string x.table.now x.origins.now x.states.now x.number u asked.before.if1.false (right passed)
-    other.if3.false long.if4.false wide.if5.false c.before.if6.true _ c.refused6.ensures
+    says_states left x.right.now string x.table.now x.origins.now x.states.now x.number u asked.before.if-number-lt9.false (right passed)
+    other.if-number-eq9.false long.if-table-lt-MAX_BYTES.false wide.if-origins-lt-MAX_ORIGINS.false c.before.if-states-lt-MAX_STATES.true _ c.refused-then-states-lt-MAX_STATES.ensures
 
-refuse_requires : tie.Need-refuse-requires
-refuse_requires c κs = tt
+refuse-requires : tie.Need-refuse-requires
+refuse-requires c κs = tt
 
-same_length : tie.Need-same-length
-same_length c = search rules
+shape_of-table : tie.Need-shape_of-table
+shape_of-table c = search rules
 
-same_length_2 : tie.Need-same-length-2
-same_length_2 c = search rules
+shape_of-origins : tie.Need-shape_of-origins
+shape_of-origins c = search rules
 
-same_length_3 : tie.Need-same-length-3
-same_length_3 c = search rules
+shape_of-states : tie.Need-shape_of-states
+shape_of-states c = search rules
 
-returns_7 : tie.Need-returns-7
-returns_7 c =
+returns : tie.Need-returns
+returns c =
     let roomy = at_last c in
     let wide = roomy.before in
     let long = wide.before in
@@ -121,28 +121,28 @@ returns_7 c =
     let asked = passed.before in
     let x = (start asked).args in
     λ left string u.
-    says_large left x.right.now string x.table.now x.origins.now x.states.now x.number u asked.before.if1.left (right passed)
-    other.if3.left long.if4.left wide.if5.left roomy.if6.left _ _ _ _ c.before.before.before.before.before.before.refuse.ensures
+    says_large left x.right.now string x.table.now x.origins.now x.states.now x.number u asked.before.if-number-lt9.false (right passed)
+    other.if-number-eq9.false long.if-table-lt-MAX_BYTES.false wide.if-origins-lt-MAX_ORIGINS.false roomy.if-states-lt-MAX_STATES.false _ _ _ _ c.before.before.before.before.before.before.refuse.ensures
 
 pub unapplied_spec : {M : Type 1} → statement M
 unapplied_spec =
     tie.close
     (tie.spec
-    refused_requires
-    returns
-    refusal_requires
-    refused_requires_2
-    returns_2
-    refused_requires_3
-    returns_3
-    refused_requires_4
-    returns_4
-    refused_requires_5
-    returns_5
-    refused_requires_6
-    returns_6
-    refuse_requires
-    same_length
-    same_length_2
-    same_length_3
-    returns_7)
+    refused-requires
+    returns-then-number-lt9
+    refusal-other-requires
+    refused-requires-then-other-ne0
+    returns-then-other-ne0
+    refused-requires-then-number-eq9
+    returns-then-number-eq9
+    refused-requires-then-table-lt-MAX_BYTES
+    returns-then-table-lt-MAX_BYTES
+    refused-requires-then-origins-lt-MAX_ORIGINS
+    returns-then-origins-lt-MAX_ORIGINS
+    refused-requires-then-states-lt-MAX_STATES
+    returns-then-states-lt-MAX_STATES
+    refuse-requires
+    shape_of-table
+    shape_of-origins
+    shape_of-states
+    returns)
