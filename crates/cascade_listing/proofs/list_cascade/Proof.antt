@@ -13,143 +13,143 @@ use Rattle.cascade_listing.proofs.list_cascade.Statement.{statement}
 use Rattle.cascade_listing.proofs.list_cascade.Tie as tie
 
 -- Places to look back to.
-abbrev loaded : tie.After-cascade → tie.After-load-labels
+abbrev loaded : tie.After-cascade-made → tie.After-load_labels-count
 loaded c = c.before.before.before.before.before
 
-abbrev lent_right : tie.After-cascade → tie.After-shared-slice-known2
+abbrev lent_right : tie.After-cascade-made → tie.After-shared_slice_known-2-1
 lent_right c = (loaded c).before.before.before.before.before
 
-abbrev lent_left : tie.After-cascade → tie.After-shared-slice-known
+abbrev lent_left : tie.After-cascade-made → tie.After-shared_slice_known-1
 lent_left c = (lent_right c).before
 
-abbrev start : tie.After-cascade → tie.Start
+abbrev start : tie.After-cascade-made → tie.Start
 start c = (lent_left c).before
 
-abbrev at_odd : tie.Then1 → tie.Start
+abbrev at_odd : tie.Then-bytes-ne0 → tie.Start
 at_odd c = c.before.before.before.before.before
 
-abbrev refused_by : tie.Then2 → tie.After-cascade
+abbrev refused_by : tie.Then-number-ne0 → tie.After-cascade-made
 refused_by c = c.before.before.before.before
 
-abbrev called : tie.After-struct-known → tie.After-cascade
+abbrev called : tie.After-struct_known-1 → tie.After-cascade-made
 called c = c.before.before.before.before.before
 
-abbrev at_listed : tie.After-slice-known4 → tie.After-struct-known
+abbrev at_listed : tie.After-slice_known-2-1 → tie.After-struct_known-1
 at_listed c = c.before.before.before.before.before
 
-abbrev string : tie.After-cascade → List ℕ
-string c = take (loaded c).load-labels.result (loaded c).load-labels.new.1.0
+abbrev string : tie.After-cascade-made → List ℕ
+string c = take (loaded c).load_labels-count.result (loaded c).load_labels-count.new.string
 
-calling : (c : tie.After-cascade)
-    → Calling (start c).args.left.now (start c).args.right.now (start c).args.bytes.now (string c) c.cascade.result (replicate max_bytes 0)
-    c.cascade.new.1.1.1.0 (replicate max_origins 0) c.cascade.new.1.1.1.1.0 (replicate max_states 0) c.cascade.new.1.1.1.1.1.0
+calling : (c : tie.After-cascade-made)
+    → Calling (start c).args.left.now (start c).args.right.now (start c).args.bytes.now (string c) c.cascade-made.result (replicate max_bytes 0)
+    c.cascade-made.new.table (replicate max_origins 0) c.cascade-made.new.origins (replicate max_states 0) c.cascade-made.new.states
 calling c =
     record {
-      left = λ i. omega (arith, (lent_left c).shared-slice-known.given i);
-      right = λ i. omega (arith, (lent_right c).shared-slice-known2.given i);
-      even = (loaded c).before.before.if1.false;
-      string = (loaded c).load-labels.ensures.labels;
+      left = λ i. omega (arith, (lent_left c).shared_slice_known-1.given i);
+      right = λ i. omega (arith, (lent_right c).shared_slice_known-2-1.given i);
+      even = (loaded c).before.before.if-bytes-ne0.false;
+      string = (loaded c).load_labels-count.ensures.labels;
       table_room = length-replicate {A = ℕ} max_bytes 0;
       origins_room = length-replicate {A = ℕ} max_origins 0;
       states_room = length-replicate {A = ℕ} max_states 0;
-      says = c.cascade.ensures;
+      says = c.cascade-made.ensures;
     }
 
-refuse_odd_requires : tie.Need-refuse-odd-requires
-refuse_odd_requires c κs = (at_odd c.before).requires
+refuse_odd-requires : tie.Need-refuse_odd-requires
+refuse_odd-requires c κs = (at_odd c.before).requires
 
-same_length : tie.Need-same-length
-same_length c = c.before.before.refuse-odd.auto.1.1.0
+shape_of-out-then-bytes-ne0 : tie.Need-shape_of-out-then-bytes-ne0
+shape_of-out-then-bytes-ne0 c = c.before.before.refuse_odd.auto.out
 
-returns : tie.Need-returns
-returns c =
+returns-then-bytes-ne0 : tie.Need-returns-then-bytes-ne0
+returns-then-bytes-ne0 c =
     let odd = c.before.before.before.before in
     let x = (at_odd odd).args in
-    odd_refused x.left.now x.right.now x.bytes.now odd.if1.true c.before.before.refuse-odd.ensures
+    odd_refused x.left.now x.right.now x.bytes.now odd.if-bytes-ne0.true c.before.before.refuse_odd.ensures
 
-load_labels_requires : tie.Need-load-labels-requires
-load_labels_requires c κs = length-replicate {A = ℕ} most_loaded 0
+load_labels-count-requires : tie.Need-load_labels-count-requires
+load_labels-count-requires c κs = length-replicate {A = ℕ} most_loaded 0
 
-prefix : (c : tie.After-load-labels) → c.load-labels.result ≤ length c.load-labels.new.1.0
-prefix c = omega (arith, c.load-labels.ensures.long, c.load-labels.ensures.many)
+prefix : (c : tie.After-load_labels-count) → c.load_labels-count.result ≤ length c.load_labels-count.new.string
+prefix c = omega (arith, c.load_labels-count.ensures.long, c.load_labels-count.ensures.many)
 
-array_share_prefix_string : tie.Need-array-share-prefix-string
-array_share_prefix_string c = prefix c
+slice_bounds-string-end : tie.Need-slice_bounds-string-end
+slice_bounds-string-end c = prefix c
 
-slice_aggregate_cascade : tie.Need-slice-aggregate-cascade
-slice_aggregate_cascade c = sym (length-take-le c.before.load-labels.result c.before.load-labels.new.1.0 (prefix c.before))
+slice_bounds-cascade-end : tie.Need-slice_bounds-cascade-end
+slice_bounds-cascade-end c = sym (length-take-le c.before.load_labels-count.result c.before.load_labels-count.new.string (prefix c.before))
 
-slice_aggregate_cascade_2 : tie.Need-slice-aggregate-cascade-2
-slice_aggregate_cascade_2 c = search rules
+slice_bounds-cascade-end-2 : tie.Need-slice_bounds-cascade-end-2
+slice_bounds-cascade-end-2 c = search rules
 
-slice_aggregate_cascade_3 : tie.Need-slice-aggregate-cascade-3
-slice_aggregate_cascade_3 c = search rules
+slice_bounds-cascade-end-3 : tie.Need-slice_bounds-cascade-end-3
+slice_bounds-cascade-end-3 c = search rules
 
-slice_aggregate_cascade_4 : tie.Need-slice-aggregate-cascade-4
-slice_aggregate_cascade_4 c = search rules
+slice_bounds-cascade-end-4 : tie.Need-slice_bounds-cascade-end-4
+slice_bounds-cascade-end-4 c = search rules
 
-cascade_requires : tie.Need-cascade-requires
-cascade_requires c κs = tt
+cascade-made-requires : tie.Need-cascade-made-requires
+cascade-made-requires c κs = tt
 
-refuse_into_requires : tie.Need-refuse-into-requires
-refuse_into_requires c κs = (start (refused_by c.before)).requires
+refuse_into-requires : tie.Need-refuse_into-requires
+refuse_into-requires c κs = (start (refused_by c.before)).requires
 
-same_length_2 : tie.Need-same-length-2
-same_length_2 c = c.before.before.refuse-into.auto.1.0
+shape_of-out-then-number-ne0 : tie.Need-shape_of-out-then-number-ne0
+shape_of-out-then-number-ne0 c = c.before.before.refuse_into.auto.out
 
-returns_2 : tie.Need-returns-2
-returns_2 c =
+returns-then-number-ne0 : tie.Need-returns-then-number-ne0
+returns-then-number-ne0 c =
     let refused = c.before.before.before.before in
-    call_refused (calling (refused_by refused)) refused.if2.true c.before.before.refuse-into.ensures
+    call_refused (calling (refused_by refused)) refused.if-number-ne0.true c.before.before.refuse_into.ensures
 
-cast_len : tie.Need-overflow-cast-len
-cast_len c = search rules
+overflow_cast-len : tie.Need-overflow_cast-len
+overflow_cast-len c = search rules
 
-inside : (c : tie.After-struct-known) → (called c).cascade.result.len ≤ length (called c).cascade.new.1.1.1.0
-inside c = call_fits (calling (called c)) c.before.if2.false
+inside : (c : tie.After-struct_known-1) → (called c).cascade-made.result.len ≤ length (called c).cascade-made.new.table
+inside c = call_fits (calling (called c)) c.before.if-number-ne0.false
 
-array_share_prefix_table : tie.Need-array-share-prefix-table
-array_share_prefix_table c = inside c
+slice_bounds-table-end : tie.Need-slice_bounds-table-end
+slice_bounds-table-end c = inside c
 
-slice_aggregate_list_into : tie.Need-slice-aggregate-list-into
-slice_aggregate_list_into c =
-    sym (length-take-le (called c.before).cascade.result.len (called c.before).cascade.new.1.1.1.0 (inside c.before))
+slice_bounds-list_into-end : tie.Need-slice_bounds-list_into-end
+slice_bounds-list_into-end c =
+    sym (length-take-le (called c.before).cascade-made.result.len (called c.before).cascade-made.new.table (inside c.before))
 
-list_into_requires : tie.Need-list-into-requires
-list_into_requires c κs =
+list_into-requires : tie.Need-list_into-requires
+list_into-requires c κs =
     let known = c.before.before in (
-      call_accepted (calling (called known)) known.before.if2.false,
+      call_accepted (calling (called known)) known.before.if-number-ne0.false,
       (start (called known)).requires,
     )
 
-same_length_3 : tie.Need-same-length-3
-same_length_3 c = c.before.before.list-into.auto.1.0
+shape_of-out : tie.Need-shape_of-out
+shape_of-out c = c.before.before.list_into.auto.out
 
-returns_3 : tie.Need-returns-3
-returns_3 c =
+returns : tie.Need-returns
+returns c =
     let known = at_listed c in
-    call_listed (calling (called known)) known.before.if2.left c.before.before.list-into.ensures
+    call_listed (calling (called known)) known.before.if-number-ne0.false c.before.before.list_into.ensures
 
 pub list_cascade_spec : {M : Type 1} → statement M
 list_cascade_spec =
     tie.close
     (tie.spec
-    refuse_odd_requires
-    same_length
-    returns
-    load_labels_requires
-    array_share_prefix_string
-    slice_aggregate_cascade
-    slice_aggregate_cascade_2
-    slice_aggregate_cascade_3
-    slice_aggregate_cascade_4
-    cascade_requires
-    refuse_into_requires
-    same_length_2
-    returns_2
-    cast_len
-    array_share_prefix_table
-    slice_aggregate_list_into
-    list_into_requires
-    same_length_3
-    returns_3)
+    refuse_odd-requires
+    shape_of-out-then-bytes-ne0
+    returns-then-bytes-ne0
+    load_labels-count-requires
+    slice_bounds-string-end
+    slice_bounds-cascade-end
+    slice_bounds-cascade-end-2
+    slice_bounds-cascade-end-3
+    slice_bounds-cascade-end-4
+    cascade-made-requires
+    refuse_into-requires
+    shape_of-out-then-number-ne0
+    returns-then-number-ne0
+    overflow_cast-len
+    slice_bounds-table-end
+    slice_bounds-list_into-end
+    list_into-requires
+    shape_of-out
+    returns)

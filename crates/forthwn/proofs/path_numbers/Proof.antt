@@ -7,11 +7,11 @@ use mir.Facts.{to_z-of_z, to_z_pos}
 use Rattle.forthwn.proofs.path_numbers.Statement.{statement}
 use Rattle.forthwn.proofs.path_numbers.Tie as tie
 
-cast_t4 : tie.Need-overflow-cast-t4
-cast_t4 c = search rules
+overflow_cast-result : tie.Need-overflow_cast-result
+overflow_cast-result c = search rules
 
-cast_t5 : tie.Need-overflow-cast-t5
-cast_t5 c = search rules
+overflow_cast-result-2 : tie.Need-overflow_cast-result-2
+overflow_cast-result-2 c = search rules
 
 returns : tie.Need-returns
 returns c =
@@ -23,4 +23,9 @@ returns c =
     refl
 
 pub path_numbers_spec : {M : Type 1} → statement M
-path_numbers_spec = tie.close (tie.spec cast_t4 cast_t5 returns)
+path_numbers_spec =
+    tie.close
+    (tie.spec
+    overflow_cast-result
+    overflow_cast-result-2
+    returns)
