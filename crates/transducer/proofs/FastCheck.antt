@@ -20,7 +20,7 @@ use Rattle.transducer.specs.declared.Checks.{Checks}
 use Rattle.transducer.specs.declared.check.FastCheck.{FastCheck}
 use Rattle.transducer.specs.Format.{weight_limit, barred, arc_bytes, min_weight, max_weight, weight_good, weight_at, labels_good, arc_at}
 use Rattle.transducer.specs.Check.{arc_checked, arcs_checked, with_floor, arc_word, unsure, eight, input_of, output_of, target_of}
-use Rattle.transducer.specs.Check.{GoodUpTo, GoodFields, Rows, Between, Passing, NoneUnder, FastChecked, Goes_on, NoneBelow, EachUp}
+use Rattle.transducer.specs.Check.{GoodUpTo, GoodFields, Rows, Between, Passing, NoneUnder, FastChecked, GoesOn, NoneBelow, EachUp}
 use Rattle.transducer.specs.Check.{EachWrites, EachNamed, FastCheckSays}
 use Rattle.transducer.specs.Weight.{Weight, rebate, AtMost}
 use Rattle.transducer.proofs.Labels.{unbarred_good}
@@ -302,7 +302,7 @@ module _ {bs : List ℕ} {at count n : ℕ} {each : Bool} {floor last any all pl
 -- A run, of which the arcs up to `place` are seen.
 pub record RunSeen (bs : List ℕ) (from end n : ℕ) (each : Bool) (last any all : ℕ) (least : Weight) (before most lowest place : ℕ) : Type 0 where
   pub rows : Rows place end
-  pub goes_on : Goes_on bs from end n each last any all least before most lowest place
+  pub goes_on : GoesOn bs from end n each last any all least before most lowest place
 
 pub running_first : {bs : List ℕ} {from end n : ℕ} {each : Bool} {last any all : ℕ} {least : Weight} → Rows from end →
     RunSeen bs from end n each last any all least last any all from
@@ -323,8 +323,8 @@ module _ {bs : List ℕ} {from end n : ℕ} {each : Bool} {last any all : ℕ} {
 
 -- A run behind a run.
 pub running_on : {bs : List ℕ} {from end n : ℕ} {each : Bool} {last any all : ℕ} {least : Weight} {before most lowest place last' any' all' place' : ℕ} →
-    RunSeen bs from end n each last any all least before most lowest place → Goes_on bs place end n each before most lowest least last' any' all' place' →
-    Goes_on bs from end n each last any all least last' any' all' place'
+    RunSeen bs from end n each last any all least before most lowest place → GoesOn bs place end n each before most lowest least last' any' all' place' →
+    GoesOn bs from end n each last any all least last' any' all' place'
 running_on r more at count floor e g = more at count floor e (r.goes_on at count floor e g)
 
 -- What is known between two runs: no weight is lower than `below` below zero.

@@ -125,8 +125,8 @@ pub record Passing (bs : List ℕ) (place n : ℕ) (each : Bool) (before : ℕ) 
   pub order : before ≤ source
 
 -- A run from one place to another: whatever was known of the arcs before it goes on.
-abbrev pub Goes_on : (bs : List ℕ) (from end n : ℕ) (each : Bool) (last any all : ℕ) (least : Weight) (before most lowest place : ℕ) → Type 0
-Goes_on bs from end n each last any all least before most lowest place =
+abbrev pub GoesOn : (bs : List ℕ) (from end n : ℕ) (each : Bool) (last any all : ℕ) (least : Weight) (before most lowest place : ℕ) → Type 0
+GoesOn bs from end n each last any all least before most lowest place =
     (at count floor : ℕ) → end ≡ at + arc_bytes * count → FastChecked bs at count n each floor last any all least from →
     FastChecked bs at count n each floor before most lowest least place
 

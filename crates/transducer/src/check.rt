@@ -5,7 +5,7 @@ ghost use Rattle.std.proofs.Common.{to_z};
 ghost use Rattle.wire.specs.Bytes.{four};
 ghost use Rattle.transducer.specs.Format.{final_bytes, arc_bytes, final_at, arc_at, first_of, weight_limit, min_weight, max_weight};
 ghost use Rattle.transducer.specs.Check.{final_checked, arc_checked, finals_checked, arcs_checked, from_0, unsure};
-ghost use Rattle.transducer.specs.Check.{eight, GoodUpTo, GoodFields, Plain, Rows, Between, Passing, Goes_on, Seen, FastCheckSays};
+ghost use Rattle.transducer.specs.Check.{eight, GoodUpTo, GoodFields, Plain, Rows, Between, Passing, GoesOn, Seen, FastCheckSays};
 ghost use Rattle.transducer.specs.Weight.{rebate};
 
 use crate::{Arc, Checks, Final};
@@ -300,7 +300,7 @@ fn run_on(
     below: u32,
 ) -> Run
     requires { (end ≤ length bytes.now) × Rows from end × (below ≤ weight_limit) }
-    ensures { Goes_on bytes.now from end n each last any all (rebate below) result.last result.any result.all result.place }
+    ensures { GoesOn bytes.now from end n each last any all (rebate below) result.last result.any result.all result.place }
 {
     let mut before = last;
     let mut most = any;
@@ -338,7 +338,7 @@ fn run_by_two(
     below: u32,
 ) -> Run
     requires { (end ≤ length bytes.now) × Rows from end × (below ≤ weight_limit) × (arc_bytes ≤ end) }
-    ensures { Goes_on bytes.now from end n each last any all (rebate below) result.last result.any result.all result.place }
+    ensures { GoesOn bytes.now from end n each last any all (rebate below) result.last result.any result.all result.place }
 {
     let mut before = last;
     let mut most = any;

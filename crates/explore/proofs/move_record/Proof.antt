@@ -9,8 +9,6 @@ use lib.Seq.{paste, paste-zero, paste-suc}
 use Rattle.explore.proofs.MovedArcs.{read_next, record_moved}
 use Rattle.explore.proofs.move_record.Statement.{statement}
 use Rattle.explore.proofs.move_record.Tie as tie
-use Rattle.explore.proofs.move_record.Reads as reads
-use Rattle.explore.proofs.move_record.Lts as lts
 
 abbrev invariant-loop-k : tie.invariant-loop-k
 invariant-loop-k table from to record₀ k₀ «record» k = (k ≤ 16) × (length «record» ≡ 16) × (take k «record» ≡ take k (drop from table))

@@ -3,7 +3,6 @@ use mathlib.Core.Path.{◌≡◌, refl}
 use mathlib.Core.Bool.{true}
 use Prim.Native.Nat.{ℕ, ◌-◌, ◌<◌}
 use native.Mathlib.Omega.{arith}
-use borrow.Author.Tests.{not-false}
 use Rattle.wire.proofs.Bool.{clash}
 use Rattle.capped.specs.Marks.{marked}
 use Rattle.capped.proofs.MarksInPlace.{below_next}

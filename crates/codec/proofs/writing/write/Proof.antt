@@ -1,6 +1,5 @@
 -- One test after the other, each with its law in `WriteSays`; then stores, one behind the other, that the last law puts together.
 use borrow.Author.Rules.{rules}
-use borrow.Author.Tests.{not-true, not-false}
 use mathlib.Core.Path.{◌≡◌, sym, ◌∙◌}
 use mathlib.Core.Bool.{true}
 use native.Mathlib.Omega.{arith}

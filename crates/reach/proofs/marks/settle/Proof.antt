@@ -1,6 +1,5 @@
 -- Where the sweep says that more may come, the stack settles the rest.
 use borrow.Author.Rules.{rules}
-use borrow.Author.Tests.{not-true}
 use mathlib.Core.Path.{◌∙◌}
 use Rattle.reach.proofs.Spreading.{widened_twice}
 use Rattle.reach.proofs.marks.settle.Statement.{statement}

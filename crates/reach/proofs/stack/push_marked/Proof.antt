@@ -1,9 +1,6 @@
 -- The invariant (`Pushing`): the marked states below `s` are on the stack.
-use borrow.Author.Tests.{not-true, not-false}
-use mathlib.Core.Bool.{false}
 use Prim.Native.Nat.{◌-◌, ◌≤◌, ◌<◌}
 use native.Mathlib.Omega.{arith}
-use lib.ListN.{get_or}
 use Rattle.transducer.specs.Format.{max_states}
 use Rattle.reach.proofs.Stacked.{Pushing, pushing_first, pushing_top, pushing_over, pushing_next, pushing_stop}
 use Rattle.reach.proofs.stack.push_marked.Statement.{statement}

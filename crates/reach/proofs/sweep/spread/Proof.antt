@@ -1,9 +1,6 @@
 -- One law of `Spread` for each arm.
 use borrow.Author.Rules.{rules}
-use borrow.Author.Tests.{not-true, not-false}
-use mathlib.Core.Bool.{false}
 use native.Mathlib.Omega.{arith}
-use lib.ListN.{get_or}
 use Rattle.reach.proofs.Spreading.{spread_none, spread_set}
 use Rattle.reach.proofs.sweep.spread.Statement.{statement}
 use Rattle.reach.proofs.sweep.spread.Tie as tie

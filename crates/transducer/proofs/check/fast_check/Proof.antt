@@ -2,7 +2,6 @@
 use Rattle.std.specs.Int.{w32}
 use borrow.Author.Rules.{rules}
 use Rattle.std.proofs.Common.{◌+◌, ◌-◌, ◌/◌, ◌^◌, ◌≤◌, Bool, not, eqb, length, refl, ◌∙◌, arith, to_z-of_z, rules, ltb-true}
-use borrow.Author.Tests.{not-false}
 use lib.Bits.{bit_and, and_mask}
 use Rattle.transducer.specs.Format.{weight_limit}
 use Rattle.transducer.specs.Check.{FastChecked}

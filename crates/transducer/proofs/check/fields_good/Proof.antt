@@ -1,7 +1,6 @@
 -- Where each target was tested nothing is asked of the gathered ones.
 use borrow.Author.Rules.{rules}
 use Rattle.std.proofs.Common.{◌/◌, arith, rules, ltb-true}
-use borrow.Author.Tests.{not-false}
 use Rattle.wire.proofs.Bool.{never, clash}
 use Rattle.transducer.proofs.check.fields_good.Statement.{statement}
 use Rattle.transducer.proofs.check.fields_good.Tie as tie

@@ -1,7 +1,6 @@
 -- Each test that lets the arc by is a fact about its bytes.
 use borrow.Author.Rules.{rules}
 use Rattle.std.proofs.Common.{◌≡◌, ◌+◌, ◌<◌, true, refl, arith, rules, leb-false}
-use borrow.Author.Tests.{not-false}
 use Rattle.wire.specs.Bytes.{two, signed_four}
 use Rattle.transducer.specs.Format.{max_weight, weight_at}
 use Rattle.transducer.specs.Check.{Between}

@@ -1,7 +1,6 @@
 -- Each way out is one arm of `diagnosis`. Bytes that pass the framing and the kinds have a head to read.
 use borrow.Author.Rules.{rules}
 use Rattle.std.proofs.Common.{◌≡◌, ◌≤◌, true, false, length, sym, ◌∙◌, arith, rules}
-use borrow.Author.Tests.{not-true, not-false}
 use Rattle.transducer.specs.Format.{head_bytes, framed, kinds_good, records, head_good, head_states, head_arcs, head_finals, head_start}
 use Rattle.transducer.specs.Check.{diagnosis}
 use Rattle.transducer.proofs.Laid.{kinds_long}

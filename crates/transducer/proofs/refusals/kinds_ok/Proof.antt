@@ -1,7 +1,6 @@
 -- The invariant: the kinds from `at` on are good just where those of the whole are, and the framing there is right.
 use borrow.Author.Rules.{rules}
 use Rattle.std.proofs.Common.{◌≡◌, ◌-◌, length, sym, ◌∙◌, arith, rules}
-use borrow.Author.Tests.{not-true, not-false}
 use Rattle.wire.specs.Bytes.{two}
 use Rattle.transducer.proofs.Records.{framed_head, kinds_none, kinds_not_head, kinds_not_8, KindsFrom, going_first, going_fits, going_more}
 use Rattle.transducer.proofs.Records.{going_wrong, going_done}
