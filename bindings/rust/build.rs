@@ -9,7 +9,7 @@ fn main() {
     let archive = folder.join("libforthwn.a");
     println!("cargo::rerun-if-changed={}", archive.display());
     if !archive.is_file() {
-        println!("cargo::error=no {}: run `rt staticlib forthwn`, or set FORTHWN_LIB_DIR to its folder", archive.display());
+        println!("cargo::error=no {}: run `tools/build forthwn`, or set FORTHWN_LIB_DIR to its folder", archive.display());
     }
     println!("cargo::rustc-link-search=native={}", folder.display());
     println!("cargo::rustc-link-lib=static=forthwn");

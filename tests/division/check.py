@@ -5,7 +5,7 @@
 
 The code that they can run is every function of the crates that `compose` and `lattice` stand on, by crates.txt, and of these two: more than what is called, so
 that no call can be missed. Comments, texts and contracts are passed over, since they are not executed. Functions of the kit are not looked into; those that
-are called must be in KIT, which wrap sums and differences. What the compiler makes of the code is not looked at either.
+are called must be in KIT, which wrap sums and differences, or, as methods, in METHODS. What the compiler makes of the code is not looked at either.
 """
 import re
 import sys
@@ -14,12 +14,13 @@ from pathlib import Path
 ROOT = Path(__file__).resolve().parents[2]
 CALLS = {"compose": "pub fn compose(", "lattice": "pub fn apply("}
 KIT = {"std::num::wrapping_add_u32", "std::num::wrapping_sub_u32"}
+METHODS = {"len"}
 
 
 def below(crates):
     """These crates and all that they stand on."""
     lines = [line.split(":") for line in (ROOT / "crates.txt").read_text().splitlines() if ":" in line and not line.startswith("#")]
-    needs = {name: rest.split() for name, rest in lines}
+    needs = {name.split()[0]: rest.split() for name, rest in lines}
     reached, left = set(), set(crates)
     while left:
         crate = left.pop()
@@ -30,9 +31,16 @@ def below(crates):
 
 def executed(text):
     """The lines of a source with what is not executed left out."""
-    blank = lambda found: "\n" * found[0].count("\n")
-    text = re.sub(r"//.*|b?'(?:\\.|[^'\\])'|b?\"(?:\\.|[^\"\\])*\"", "", text)
-    return re.sub(r"(?s)\b(?:requires|ensures) \{ (?:λ \w+\. )?⌜.*?⌝ \}", blank, text).splitlines()
+    text = re.sub(r"//.*|(?m:^ghost use .*)|b?'(?:\\.|[^'\\])'|b?\"(?:\\.|[^\"\\])*\"", "", text)
+    left, at = [], 0
+    for found in re.finditer(r"\b(?:requires|ensures)(?: \w+)? \{", text):
+        end, deep = found.end(), 1
+        while deep:
+            deep += {"{": 1, "}": -1}.get(text[end], 0)
+            end += 1
+        left += [text[at : found.start()], "\n" * text.count("\n", found.start(), end)]
+        at = end
+    return "".join([*left, text[at:]]).splitlines()
 
 
 def main():
@@ -44,13 +52,15 @@ def main():
             faults.append(f"crates/{crate}: no `{CALLS[crate]}`")
         for path in paths:
             text = path.read_text()
-            functions += len(re.findall(r"\bfn \w+\(", text))
+            functions += len(re.findall(r"\bfn \w+[(<]", text))
             for number, (line, whole) in enumerate(zip(executed(text), text.splitlines()), 1):
                 where = f"{path.relative_to(ROOT)}:{number}"
                 if re.search(r"[/%]", line):
                     faults.append(f"{where}: a division or remainder: {whole.strip()}")
                 for name in re.findall(r"\bstd(?:::\w+)+", line):
                     faults += [] if name in KIT else [f"{where}: a function of the kit that is not in KIT: {name}"]
+                for name in re.findall(r"\.\s*([a-z]\w*)(?:::<[^>]*>)?\(", line):
+                    faults += [] if name in METHODS else [f"{where}: a method that is not in METHODS: {name}"]
     print("\n".join([*faults, f"composing and applying: {functions} functions of {', '.join(crates)}, {len(faults)} faults"]))
     return 1 if faults else 0
 

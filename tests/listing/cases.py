@@ -1,7 +1,7 @@
 """The program `list` on paper 01's cases: it is run in folders made here, and its bytes are held to a text that the plain Python of
 tests/limits computes. Each case has the first line written out by hand. Then the cascade, by the program `list_cascade`, on the same files and on some more.
 
-    python3 -B tests/listing/cases.py [PROGRAM [PROGRAM]]     (target/bin/list and target/bin/list_cascade unless named)
+    python3 -B tests/listing/cases.py [PROGRAM [PROGRAM]]     (those of tools/build list and tools/build list_cascade unless named)
 """
 import subprocess
 import sys
@@ -135,8 +135,9 @@ def run(program, files):
 
 
 def main():
-    named = [ROOT / "target/bin/list", ROOT / "target/bin/list_cascade"]
-    named[: len(sys.argv) - 1] = sys.argv[1:]
+    named = sys.argv[1:]
+    for name in ("list", "list_cascade")[len(named) :]:
+        named.append(subprocess.run([ROOT / "tools/build", name], stdout=subprocess.PIPE, text=True, check=True).stdout.strip())
     program, cascade = (Path(x).resolve() for x in named)
     wrong = total = longest_met = 0
     tried = [(name, first, files, listing, program) for name, first, *files in cases()]

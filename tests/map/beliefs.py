@@ -16,13 +16,14 @@ import sys
 from pathlib import Path
 
 ROOT = Path(__file__).resolve().parents[2]
+CRATES = {path.name for path in (ROOT / "crates").iterdir() if path.is_dir()}
 COLUMNS = ("the contracts cite", "claims", "only inner")
 # The files that say what is claimed of the calls, by crate; or one definition of a file.
 CLAIMS = {
     "codec": ["RoundTrip", "Unsigned"],
     "compose": ["Claim", "Composition"],
     "lattice": ["Lattice", "Application"],
-    "cycles": ["Cycles.Some-negative-cycle"],
+    "cycles": ["Cycles.SomeNegativeCycle"],
     "distance": ["Claim"],
     "shortest": ["Claim", "Agree"],
     "claim": ["Claim", "Kind", "Listed", "Agree"],
@@ -35,7 +36,7 @@ CLAIMS = {
 }
 
 USE = re.compile(r"(?:ghost |unfoldable |pub )*use (\S+?)(?:\.\{(.*)\}| as (\S+?));?$")
-OURS = re.compile(r"Rattle·(\w+)(?:·specs)?\.specs\.(.+)")
+OURS = re.compile(r"Rattle\.(\w+)\.specs\.(.+)")
 BEGIN = re.compile(r"(?:(?:unfoldable|abbrev|pub|record|data) )+([^\s(){}:]+)|([^\s(){}:]+) :")
 WORD = re.compile(r"[^\s(){};,]+")
 
@@ -44,7 +45,7 @@ def used(line):
     """What a `use` line of our own definitions brings: the name here, and the crate, module and name that it stands for."""
     path, names, alias = USE.match(line).groups()
     ours = OURS.match(path)
-    if not ours:
+    if not ours or ours[1] not in CRATES:
         return {}
     crate, module = ours.groups()
     if alias:
@@ -62,7 +63,7 @@ class Definitions:
                 self.read(path.parts[-3], path.stem, path.read_text().splitlines())
         self.structs = {}
         for path in sorted((ROOT / "crates").glob("*/src/*.rt")):
-            for text, name in re.findall(r"(?m)((?:^//.*\n)*^(?:pub )?(?:struct|enum) (\w+) \{(?:.*\n)+?\})", path.read_text()):
+            for text, name in re.findall(r"(?m)((?:^(?://|#\[).*\n)*^(?:pub )?(?:struct|enum) (\w+) \{(?:.*\n)+?\})", path.read_text()):
                 self.structs[path.parts[-3], "struct", name] = text.splitlines()
 
     def read(self, crate, module, lines):
@@ -81,7 +82,7 @@ class Definitions:
                 if begins:
                     name = (crate, module, begins[1] or begins[2])
                     self.lines[name] = []
-                    known.update({part: name for part in [name[2], *name[2].split("_")] if part})
+                    known.update({part: name for part in [name[2], *name[2].split("◌")] if part})
                 elif line.startswith("  ") and re.match(r"  \S+ :", line):
                     known.setdefault(line.split()[0], name)  # a constructor
                 self.lines[name] += [*comment, line]
@@ -91,7 +92,7 @@ class Definitions:
         """The definition that a name stands for, by way of what its module itself uses."""
         crate, module, word = name
         if module.startswith("declared."):
-            parts = module.replace(".the-variants", "").split(".")
+            parts = module.replace(".TheVariants", "").split(".")
             return crate, "struct", parts[-1]
         if "." in module:  # constructors of a type
             return (crate, *module.split("."))
@@ -127,7 +128,7 @@ class Definitions:
         for line in text.splitlines():
             if line.startswith("ghost use"):
                 known.update(used(line))
-        promises = re.findall(r"(?s)\n    ensures \{(.*?)⌝ \}\n\{", text)
+        promises = re.findall(r"(?s)\n    ensures \{(.*?) \}\n\{", text)
         if len(promises) != len(re.findall(r"(?m)^(?:pub )?(?:extern \"C\" )?fn ", text)):
             sys.exit("crates/forthwn/src/lib.rt: a function without a contract, or a contract of another form")
         return self.closure(name for promise in promises for name in self.cited(promise, known))

@@ -66,8 +66,8 @@ def fault(crate, name):
     if re.fullmatch(r"[a-z_]+/[a-z_0-9]+", name):
         if not crate:
             return "no crate stands before it"
-        there = (ROOT / "crates" / crate / "proofs" / name / "Proof.antt").is_file()
-        return None if there else f"{crate} has no proof of {name}"
+        files = [ROOT / "crates" / crate / "proofs" / name / file for file in ("Proof.antt", "Answers.antt", "Invariants.antt")]
+        return None if any(file.is_file() for file in files) else f"{crate} has no proof of {name}"
     return None
 
 

@@ -237,12 +237,13 @@ def main():
     faults = FAULTS + (MORE if options.all or options.only else [])
     if options.only:
         faults = [f for f in faults if options.only in f[0]]
-    library = os.path.abspath(os.environ.get("FORTHWN_LIB_DIR") or f"{ROOT}/target/staticlib")
-    if not os.environ.get("FORTHWN_LIB_DIR"):
-        made = subprocess.run(["rt", "staticlib", "forthwn"], cwd=ROOT, capture_output=True, text=True)
+    library = os.environ.get("FORTHWN_LIB_DIR")
+    if not library:
+        made = subprocess.run([os.path.join(ROOT, "tools", "build"), "forthwn"], stdout=subprocess.PIPE, text=True)
         if made.returncode != 0:
-            print(made.stdout + made.stderr)
             return 1
+        library = os.path.dirname(made.stdout.strip())
+    library = os.path.abspath(library)
     clean = text_of("model.rs")
     work = tempfile.mkdtemp(prefix="faults-")
     missed = []
