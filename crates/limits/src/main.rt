@@ -30,7 +30,7 @@ fn call(rt: &impl Print, number: u8, case: &[u8], room: u8) -> io::Result<()> {
 }
 
 // Executes the case at a place, and answers where the next one stands.
-// Where a write fails, its `io::Error` is answered: nothing that was lent has changed then, and no other error comes.
+// If a write fails, its `io::Error` is the answer; nothing that was lent has changed then, and no other error comes.
 fn run_case(rt: &impl Print, cases: &[u8], at: usize) -> io::Result<usize>
     requires { at < length cases.now }
     ensures { IfOk result (λ next. at < next) }
