@@ -77,7 +77,7 @@ module _ {A : Type 0} {f : ℕ → A} {at step count : ℕ} {out₀ : List A} wh
       let stored : out ≡ places count at step f ++ drop count out₀ = rw all at c.so_far in
       e ∙ rw stored (emptied_front none count (places count at step f) out₀ (length_places count at step f) h)
 
--- arc-fields
+-- arc_fields
 
 pub arc_fields_append : (xs ys : List Arc) → arc_fields (xs ++ ys) ≡ arc_fields xs ++ arc_fields ys
 unfolding arc_fields

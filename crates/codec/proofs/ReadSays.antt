@@ -21,7 +21,7 @@ use Rattle.codec.specs.Entry.{ReadSays, read_refusal, read_room, arc_fields}
 use Rattle.codec.proofs.Copy.{places_shift}
 use Rattle.transducer.proofs.Offsets.{length_accepted, decode_states, decode_start, decode_finals, decode_arcs, length_finals, length_arcs, accepted_within}
 
--- read-room
+-- read_room
 
 module _ (a b c d : ℕ) where
   pub short_states : a < max_states → read_room a b c d ≡ 10

@@ -59,7 +59,7 @@ module _ (f m a b c d : ℕ) where
   unfolding too_few
   not_too_few h = rw (le-ltb a f h.states, le-ltb b f h.weights, le-ltb c (4 * m) h.fields, le-ltb d m h.arc_weights)
 
--- Write-says
+-- WriteSays
 
 says_refused : (t : Transducer) (number k : ℕ) (out : List ℕ) (r : Written) → number ≡ k → eqb k 0 ≡ false → r ≡ record { refusal = k; len = 0 }
     → WriteSays t number r out out

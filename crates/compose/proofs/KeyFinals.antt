@@ -20,7 +20,7 @@ use Rattle.compose.specs.Finished.{key_final, key_weight}
 use Rattle.steps.specs.Packing.{pack, unpacked, Bounded}
 use Rattle.steps.proofs.Packing.{unpacked_pack}
 
--- key-final, by the two codes
+-- key_final, by the two codes
 
 module _ (ls rs : List ℕ) (k : ℕ) (x : State) (is : x ≡ unpacked k) where
   pub left_not_final : get_or ls x.left 0 ≡ 0 → key_final ls rs k ≡ false

@@ -24,7 +24,7 @@ pub bucket_of_lt : (key : ℕ) → bucket_of key < buckets
 unfolding bucket_of
 bucket_of_lt key = omega arith
 
--- last-in
+-- last_in
 
 pub last_in_here : (b n : ℕ) (xs : List ℕ) → bucket_of (get_or xs n 0) ≡ b → last_in b (suc n) xs ≡ suc n
 unfolding last_in

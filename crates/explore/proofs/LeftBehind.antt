@@ -90,7 +90,7 @@ module _ (before written : List ℕ) where
       by_test (eqb number 0) (λ e. rw (e, long))
       (λ e. by_test (keeps number) (λ l. clash (ap (λ (n : ℕ). eqb n 0) (late l)) e) (λ l. rw (e, l, long)))
 
--- Built-says, by how the buffers are left: as they were, or all zeros. Of a buffer written to before, only the length counts.
+-- BuiltSays, by how the buffers are left: as they were, or all zeros. Of a buffer written to before, only the length counts.
 module _ (bytes traced : List ℕ) (number : ℕ) where
   pub says_kept : (k : ℕ) (a b c : List ℕ) → number ≡ k → (k ≡ 0 → ⊥) → keeps k ≡ true → (r : Written) → r ≡ record { refusal = k; len = 0 }
       → BuiltSays bytes traced number r a a b b c c

@@ -21,7 +21,7 @@ use Rattle.lattice.specs.ApplyEntry.{apply_room, apply_refusal, ApplySays}
 use Rattle.lattice.specs.Applying.{ApplyAsks}
 use Rattle.lattice.specs.Lattice.{lattice, lattice_origins}
 
--- Apply-says on success
+-- ApplySays on success
 
 module _ (cs bs : List ℕ) (number : ℕ) where
   abbrev bytes_left : List ℕ

@@ -26,7 +26,7 @@ use Rattle.transducer.proofs.Leaving.{rest_at, state_leaving}
 use Rattle.steps.proofs.RunSteps.{run_skip, alone_run, both_run, right_run, arc_steps, arc_steps_alone, arc_steps_none, arc_steps_both}
 use Rattle.steps.proofs.RunSteps.{arc_steps_unread, runs_from, runs_last, runs_next}
 
--- first-at
+-- first_at
 
 module _ (u : Transducer) (test : Arc → Bool) where
   at_least : (n j : ℕ) → j ≤ first_at u test n j

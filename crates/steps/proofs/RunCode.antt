@@ -9,7 +9,7 @@ use Rattle.transducer.specs.Format.{Transducer}
 use Rattle.transducer.specs.Path.{arc}
 use Rattle.steps.specs.Runs.{fitting_from, begin_from, several, FitsOnly}
 
--- begin-from
+-- begin_from
 
 module _ (t u : Transducer) (filter from to last k : ℕ) where
   begin_alone : k < last → (arc t k).output ≡ 0 → filter ≡ 0

@@ -28,7 +28,7 @@ use Rattle.transducer.proofs.RoundTrip.{good_range, good_content}
 use Rattle.transducer.specs.Weight.{no_weight}
 use Rattle.transducer.proofs.Weights.{none_plus}
 
--- run-steps
+-- run_steps
 
 pub run_none : (u : Transducer) (r : Run) (j : ℕ) → run_steps u r 0 j ≡ []
 unfolding run_steps

@@ -98,7 +98,7 @@ module _ {A : Type 0} (size : ℕ) (one : A → List ℕ) (all : List A → List
       ∙ ap (λ (l : List ℕ). sets out from l)
       (ap (λ (l : List ℕ). all (places i 0 1 f) ++ l) (sym single) ∙ sym (run_append (places i 0 1 f) (f i ∷ [])) ∙ ap all (sym longer))
 
--- final-records
+-- final_records
 
 pub length_final_records : (fs : List Final) → length (final_records fs) ≡ 10 * length fs
 unfolding final_records
@@ -114,7 +114,7 @@ pub sets_finals : (out : List ℕ) (from at i : ℕ) (f : ℕ → Final) {mid la
 unfolding final_records
 sets_finals = sets_run 10 final_record final_records refl (λ f fs. refl) length_final_record
 
--- arc-records
+-- arc_records
 
 pub length_arc_records : (as' : List Arc) → length (arc_records as') ≡ arc_bytes * length as'
 unfolding arc_records

@@ -1,7 +1,7 @@
 -- The fields of arcs gathered in one number of eight bytes: by `bit_or`, which is never below either of two numbers, nor in any field; and by `bit_and`, which
 -- is never above.
---     or_above_l, or_above_r, or-input-.., or-output-.., or-target-..      bit_or only grows
---     and-target-.., and-output-..                                        bit_and only falls
+--     or_above_l, or_above_r, or_input_.., or_output_.., or_target_..      bit_or only grows
+--     and_target_.., and_output_..                                        bit_and only falls
 --     eight_input, eight_output, eight_target                             what the fields are
 -- Assumes nothing.
 use Rattle.std.proofs.Common.{◌≡◌, ℕ, ◌+◌, ◌*◌, ◌/◌, ◌%◌, ◌<◌, ◌≤◌, List, ◌∙◌, mod-eq_of_lt, arith, lit<}

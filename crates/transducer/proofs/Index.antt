@@ -9,7 +9,7 @@ use Rattle.transducer.specs.Path.{arc, no_arc}
 use Rattle.transducer.specs.Accepted.{arcs_below}
 use Rattle.transducer.proofs.Good.{Content, sources_stay_good, arc_states_below}
 
--- arcs-below
+-- arcs_below
 
 pub arcs_below_lt : (s : ℕ) (a : Arc) (xs : List Arc) → a.source < s → arcs_below s (a ∷ xs) ≡ suc (arcs_below s xs)
 unfolding arcs_below
