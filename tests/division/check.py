@@ -4,8 +4,8 @@
   tests/division/check.py     prints each `/` and `%` in the code that they can run; status 1 where there is one
 
 The code that they can run is every function of the crates that `compose` and `lattice` stand on, by crates.txt, and of these two: more than what is called, so
-that no call can be missed. Comments, texts and contracts are passed over, since they are not executed. Functions of the kit are not looked into; those that
-are called must be in KIT, which wrap sums and differences, or, as methods, in METHODS. What the compiler makes of the code is not looked at either.
+that no call can be missed. Comments, texts and contracts are passed over, since they are not executed. Functions of the kit are not looked into here: those that
+are called must be in METHODS, which were read for it once and divide nothing. What the compiler makes of the code is not looked at either.
 """
 import re
 import sys
@@ -13,8 +13,12 @@ from pathlib import Path
 
 ROOT = Path(__file__).resolve().parents[2]
 CALLS = {"compose": "pub fn compose(", "lattice": "pub fn apply("}
-KIT = {"std::num::wrapping_add_u32", "std::num::wrapping_sub_u32"}
-METHODS = {"len"}
+KIT = set()
+METHODS = {
+    *("len", "get", "iter", "all", "filter", "count", "rev", "copied", "copy_from_slice"),
+    *("is_some", "unwrap", "unwrap_or"),
+    *("from", "from_le_bytes", "max", "min", "wrapping_add", "wrapping_sub", "is_power_of_two", "cast_signed", "cast_unsigned", "to_le_bytes"),
+}
 
 
 def below(crates):
@@ -59,7 +63,9 @@ def main():
                     faults.append(f"{where}: a division or remainder: {whole.strip()}")
                 for name in re.findall(r"\bstd(?:::\w+)+", line):
                     faults += [] if name in KIT else [f"{where}: a function of the kit that is not in KIT: {name}"]
-                for name in re.findall(r"\.\s*([a-z]\w*)(?:::<[^>]*>)?\(", line):
+                for name in re.findall(r"\b(?:[ui]\d+|[ui]size)::([a-z]\w*)\(", line):
+                    faults += [] if name in METHODS else [f"{where}: a method that is not in METHODS: {name}"]
+                for name in re.findall(r"(?<!\.)\.\s*([a-z]\w*)(?:::<[^>]*>)?\(", line):
                     faults += [] if name in METHODS else [f"{where}: a method that is not in METHODS: {name}"]
     print("\n".join([*faults, f"composing and applying: {functions} functions of {', '.join(crates)}, {len(faults)} faults"]))
     return 1 if faults else 0

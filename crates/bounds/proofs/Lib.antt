@@ -1,2 +1,4 @@
+-- The numbers of refusals.
+pub mod Numbered
 -- Worked rows.
 pub mod Rows

@@ -1,2 +1,3 @@
 -- What a caller must believe
 pub mod Bounds
+pub mod Refusal

@@ -3,6 +3,11 @@
 
 ghost use Rattle.std.specs.Prelude.{◌≡◌, ◌<◌};
 ghost use Rattle.bounds.specs.Bounds.{arcs_at, weight_good, labels_good, head_good, first_of};
+ghost use Rattle.bounds.specs.Refusal.{refusal_in};
+
+mod refusals;
+
+pub use refusals::Refusal;
 
 pub const MAX_STATES: usize = 1024;
 
@@ -54,6 +59,7 @@ pub fn arcs_at(finals: usize) -> usize
 }
 
 // 3: whether the head's numbers are in range.
+#[tactic(auto, unfolding(crate::specs::Bounds::head_good))]
 pub fn head_ok(n: u32, m: u32, f: u32, start: u32) -> bool
     ensures { result ≡ head_good n m f start }
 {
@@ -61,6 +67,7 @@ pub fn head_ok(n: u32, m: u32, f: u32, start: u32) -> bool
 }
 
 // 7: whether an arc may bear these two labels: only one that reads any symbol passes it on.
+#[tactic(auto, unfolding(crate::specs::Bounds::labels_good))]
 pub fn labels_ok(input: u16, output: u16) -> bool
     ensures { result ≡ labels_good input output }
 {
@@ -71,27 +78,29 @@ pub fn labels_ok(input: u16, output: u16) -> bool
 }
 
 // 8: whether a weight is in range.
+#[tactic(auto, unfolding(crate::specs::Bounds::weight_good))]
 pub fn weight_ok(weight: i32) -> bool
     ensures { result ≡ weight_good weight }
 {
     (MIN_WEIGHT <= weight) & (weight <= MAX_WEIGHT)
 }
 
-// The lowest of refusals 5 to 8 whose test failed, or 0.
-pub fn first_failed(states: bool, order: bool, labels: bool, weights: bool) -> u32
-    ensures { result ≡ first_of states order labels weights }
+// The first of these tests that failed, as its refusal.
+#[tactic(auto, unfolding(crate::specs::Bounds::first_of))]
+pub fn first_failed(states: bool, order: bool, labels: bool, weights: bool) -> Result<(), Refusal>
+    ensures { refusal_in result ≡ first_of states order labels weights }
 {
     if !states {
-        return 5;
+        return Err(Refusal::States);
     }
     if !order {
-        return 6;
+        return Err(Refusal::Order);
     }
     if !labels {
-        return 7;
+        return Err(Refusal::Labels);
     }
     if !weights {
-        return 8;
+        return Err(Refusal::Weights);
     }
-    0
+    Ok(())
 }

@@ -1,5 +1,5 @@
 // Buffers as a case lends them: dirty, with cells behind their least length, and one of them short where the case says so.
-ghost use Rattle.std.specs.Prelude.{◌≤◌};
+ghost use Rattle.std.specs.Prelude.{◌≤◌, length};
 
 // Cells that a buffer has behind its least length.
 pub const SPARE: usize = 5;
@@ -17,18 +17,17 @@ pub const DIRTY_COST: i64 = 6510615555426900570;
 // At this room each buffer is lent at its least length; at a buffer's number that one is one short; otherwise all is lent.
 const EXACT: u8 = 9;
 
-// How many of a buffer's cells are lent.
-pub fn cells(room: u8, buffer: u8, all: usize) -> usize
-    ensures { result ≤ all }
+// What is lent of a buffer. The cases of crates/limits/stdin name the short one by a byte, which may not change, so that buffers have numbers here.
+pub fn lend<T>(room: u8, buffer: u8, all: &mut [T]) -> &mut [T]
+    ensures { length result.now ≤ length all.entry.now }
 {
-    if all <= SPARE {
-        return all;
-    }
-    if room == EXACT {
-        return all - SPARE;
-    }
-    if room == buffer {
-        return all - SPARE - 1;
-    }
-    all
+    let held = if room == EXACT {
+        SPARE
+    } else if room == buffer {
+        SPARE + 1
+    } else {
+        0
+    };
+    let cells = all.len().saturating_sub(held);
+    &mut all[..cells]
 }

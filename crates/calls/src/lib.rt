@@ -12,8 +12,8 @@ mod telling;
 
 pub use composing::compose;
 pub use latticing::{apply, trim};
-pub use lent::{DIRTY_COST, DIRTY16, SPARE, cells};
+pub use lent::{DIRTY_COST, DIRTY16, SPARE, lend};
 pub use load::{byte, part, u16_or_0, u32_or_0};
-pub use show::{cost, number, sum_costs, word};
+pub use show::{Cell, numbered, sum};
 pub use tables::{read, round_trip, write};
 pub use telling::{count, nth, show_told};

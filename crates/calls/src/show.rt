@@ -1,131 +1,86 @@
-// What a line says: words, numbers, and a sum of each buffer to its end, which another content would change.
-ghost use Rattle.std.specs.Prelude.{◌<◌};
+// What a line says of a buffer to its end: a sum, which another content would change; and what a call that writes a transducer answered.
+ghost use Rattle.std.specs.Prelude.{◌≡◌, ◌<◌, MatchResult};
+ghost use Rattle.transducer.specs.Answer.{refusal_in};
 
 use std::io;
-use transducer::Written;
+use transducer::Refusal;
 
 const PRIME: u64 = 65521;
 
-// Prints a word.
-pub fn word(rt: &impl Print, text: &[u8]) -> io::Result<()> {
-    rt.write_all(text)
+// A cell of a buffer.
+pub trait Cell: Copy {
+    // What a cell leaves by the prime.
+    fn residue(self) -> u64
+        ensures { result < 65521 };
 }
 
-// Prints a word and a number.
-pub fn number(rt: &impl Print, text: &[u8], value: u64) -> io::Result<()> {
-    rt.write_all(text)?;
-    print!(rt; "{value}")
-}
-
-// Prints a word and a cost.
-pub fn cost(rt: &impl Print, text: &[u8], value: i64) -> io::Result<()> {
-    rt.write_all(text)?;
-    print!(rt; "{value}")
-}
-
-fn wide8(x: u8) -> u64
-    ensures { result < 256 }
-{
-    x as u64
-}
-
-fn wide16(x: u16) -> u64
-    ensures { result < 65536 }
-{
-    x as u64
-}
-
-fn wide32(x: u32) -> u64
-    ensures { result < 4294967296 }
-{
-    x as u64
-}
-
-// The sum of bytes, each place weighing 31 times the next.
-pub fn sum8(cells: &[u8]) -> u64 {
-    let mut sum: u64 = 0;
-    let mut i = 0;
-    while i < cells.len() {
-        sum = (sum * 31 + wide8(cells[i])) % PRIME;
-        i += 1;
+impl Cell for u8 {
+    fn residue(self) -> u64 {
+        self as u64
     }
-    sum
 }
 
-// The same of cells of 16 bits.
-pub fn sum16(cells: &[u16]) -> u64 {
-    let mut sum: u64 = 0;
-    let mut i = 0;
-    while i < cells.len() {
-        sum = (sum * 31 + wide16(cells[i])) % PRIME;
-        i += 1;
+impl Cell for u16 {
+    fn residue(self) -> u64 {
+        self as u64 % PRIME
     }
-    sum
 }
 
-// The same of cells of 32 bits.
-pub fn sum32(cells: &[u32]) -> u64 {
-    let mut sum: u64 = 0;
-    let mut i = 0;
-    while i < cells.len() {
-        sum = (sum * 31 + wide32(cells[i])) % PRIME;
-        i += 1;
+impl Cell for u32 {
+    fn residue(self) -> u64 {
+        self as u64 % PRIME
     }
-    sum
 }
 
-// The bits of a weight.
-fn wide_weight(x: i32) -> u64
-    ensures { result < 4294967296 }
-{
-    if 0 <= x {
-        return x as u64;
+// A weight counts by its bits.
+impl Cell for i32 {
+    fn residue(self) -> u64 {
+        self.cast_unsigned().residue()
     }
-    4294967295 - (-1 - x) as u64
 }
 
-// The same of weights, by their bits.
-pub fn sum_weights(cells: &[i32]) -> u64 {
-    let mut sum: u64 = 0;
-    let mut i = 0;
-    while i < cells.len() {
-        sum = (sum * 31 + wide_weight(cells[i])) % PRIME;
-        i += 1;
+// A cost below zero leaves what is missing to a multiple of the prime.
+impl Cell for i64 {
+    fn residue(self) -> u64 {
+        self.rem_euclid(PRIME as i64) as u64
     }
-    sum
 }
 
-// What a cost leaves by the prime, one below zero too.
-fn wide_cost(x: i64) -> u64
+// The sum of cells, each place weighing 31 times the next.
+pub fn sum<T: Cell>(cells: &[T]) -> u64
     ensures { result < 65521 }
 {
-    if 0 <= x {
-        return x as u64 % PRIME;
-    }
-    let m = (-1 - x) as u64 % PRIME;
-    PRIME - 1 - m
-}
-
-// The same of costs.
-pub fn sum_costs(cells: &[i64]) -> u64 {
-    let mut sum: u64 = 0;
-    let mut i = 0;
-    while i < cells.len() {
-        sum = (sum * 31 + wide_cost(cells[i])) % PRIME;
-        i += 1;
+    let mut sum = 0;
+    for cell in cells {
+        sum = (sum * 31 + cell.residue()) % PRIME;
     }
     sum
+}
+
+// An answer as a line shows it: 0 and the value, or the refusal's number and what stands where there is none.
+pub fn numbered<T: Copy>(answer: Result<T, Refusal>, none: T) -> (u32, T)
+    ensures number { result.0 ≡ refusal_in answer }
+    ensures value { MatchResult answer (λ v. result.1 ≡ v) (λ _. result.1 ≡ none) }
+{
+    match answer {
+        Ok(value) => (0, value),
+        Err(refusal) => (refusal.number(), none),
+    }
 }
 
 // Prints what a call that writes a transducer answered.
-pub fn written(rt: &impl Print, answer: Written) -> io::Result<()> {
-    number(rt, b" refusal ", answer.refusal as u64)?;
-    number(rt, b" length ", answer.len as u64)
+pub fn written(rt: &impl Print, answer: Result<u32, Refusal>) -> io::Result<()> {
+    let (refusal, len) = numbered(answer, 0);
+    print!(rt; " refusal {refusal} length {len}")
 }
 
 // Prints the same, and the sums of a transducer's bytes and of origins.
-pub fn built(rt: &impl Print, answer: Written, table: &[u8], origins: &[u16]) -> io::Result<()> {
+pub fn built(
+    rt: &impl Print,
+    answer: Result<u32, Refusal>,
+    table: &[u8],
+    origins: &[u16],
+) -> io::Result<()> {
     written(rt, answer)?;
-    number(rt, b" sums ", sum8(table))?;
-    number(rt, b" ", sum16(origins))
+    print!(rt; " sums {} {}", sum(table), sum(origins))
 }

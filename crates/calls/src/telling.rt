@@ -1,44 +1,47 @@
 // The cases of the path count and the k-th path. Buffers are dirty before the call, and shown to their ends after it.
+use crate::lent::lend;
 use crate::{lent, load, show};
-use report::Told;
+use report::PathNumbers;
 use std::io;
-use transducer::MAX_PATH;
+use transducer::{MAX_PATH, Refusal};
+
+// What a line shows of a path where the call refused.
+const NO_PATH: PathNumbers = PathNumbers {
+    cost: 0,
+    arcs: 0,
+    labels: 0,
+};
 
 // Counts the accepting paths of a transducer.
 pub fn count(rt: &impl Print, table: &[u8]) -> io::Result<()> {
-    let answer = paths::path_count(table);
-    show::number(rt, b" refusal ", answer.refusal as u64)?;
-    show::number(rt, b" count ", answer.count as u64)
+    let (refusal, count) = show::numbered(paths::path_count(table), 0);
+    print!(rt; " refusal {refusal} count {count}")
 }
 
 // Prints what was told of a path, and the two buffers.
-pub fn show_told(rt: &impl Print, told: Told, arcs: &[u16], labels: &[u16]) -> io::Result<()> {
-    show::number(rt, b" refusal ", told.refusal as u64)?;
-    show::cost(rt, b" cost ", told.cost)?;
-    show::number(rt, b" arcs ", told.arcs as u64)?;
-    show::number(rt, b" labels ", told.labels as u64)?;
-    show::number(rt, b" sums ", show::sum16(arcs))?;
-    show::number(rt, b" ", show::sum16(labels))
-}
-
-// The k-th path into buffers that the case may shorten.
-fn nth_into(table: &[u8], k: u32, room: u8, arcs: &mut [u16], labels: &mut [u16]) -> Told {
-    let a = lent::cells(room, 15, arcs.len());
-    let b = lent::cells(room, 16, labels.len());
-    paths::nth_path(table, k, &mut arcs[0..a], &mut labels[0..b])
+pub fn show_told(
+    rt: &impl Print,
+    answer: Result<PathNumbers, Refusal>,
+    arcs: &[u16],
+    labels: &[u16],
+) -> io::Result<()> {
+    let (refusal, path) = show::numbered(answer, NO_PATH);
+    print!(rt;
+        " refusal {refusal} cost {} arcs {} labels {}",
+        path.cost, path.arcs, path.labels
+    )?;
+    print!(rt; " sums {} {}", show::sum(arcs), show::sum(labels))
 }
 
 // The k-th path of a transducer. The case has k (4 bytes) and the transducer.
 pub fn nth(rt: &impl Print, case: &[u8], room: u8) -> io::Result<()> {
     let mut arcs = [lent::DIRTY16; MAX_PATH + lent::SPARE];
     let mut labels = [lent::DIRTY16; MAX_PATH + lent::SPARE];
-    let k = load::u32_or_0(case, 0);
-    let told = nth_into(
+    let answer = paths::nth_path(
         load::part(case, 4, case.len()),
-        k,
-        room,
-        &mut arcs,
-        &mut labels,
+        load::u32_or_0(case, 0),
+        lend(room, 15, &mut arcs),
+        lend(room, 16, &mut labels),
     );
-    show_told(rt, told, &arcs, &labels)
+    show_told(rt, answer, &arcs, &labels)
 }

@@ -1,5 +1,5 @@
 -- Marks in an array: one changed, and the dead states marked. Assumes nothing.
-use mathlib.Core.Path.{◌≡◌, refl, ap, ◌∙◌}
+use mathlib.Core.Path.{◌≡◌, ap, ◌∙◌}
 use mathlib.Core.Bool.{Bool, true, false, ◌||◌, not}
 use mathlib.Core.List.{List}
 use Prim.Native.Nat.{ℕ, ◌+◌, ◌≤◌, ◌<◌}
@@ -41,9 +41,6 @@ pub record DeadBelow (s : ℕ) (live ms ms' : List Bool) : Type 0 where
   pub below : WithDead s live ms ms'
   pub above : (u : ℕ) → s ≤ u → marked ms' u ≡ marked ms u
 
-pub dead_first : (live ms : List Bool) → DeadBelow 0 live ms ms
-dead_first live ms = record { below = record { long = refl; at_state = λ s h. absurd (omega arith) }; above = λ u _. refl }
-
 pub dead_next : (live ms ms' : List Bool) (s : ℕ) → s < length ms → DeadBelow s live ms ms'
     → DeadBelow (s + 1) live ms (set ms' s (marked ms' s || not (marked live s)))
 dead_next live ms ms' s room k =
@@ -59,6 +56,3 @@ dead_next live ms ms' s room k =
     on u l (yes y) =
         rw y (marked_set_same ms' s x (omega (arith, k.below.long)) ∙ ap (λ (b : Bool). b || not (marked live s)) (k.above s (omega arith)))
     on u l (no n) = marked_set_other ms' s x u n ∙ k.below.at_state u (omega arith)
-
-pub dead_stop : (live ms ms' : List Bool) (s n : ℕ) → n ≤ s → DeadBelow s live ms ms' → WithDead n live ms ms'
-dead_stop live ms ms' s n h k = record { long = k.below.long; at_state = λ u l. k.below.at_state u (omega arith) }

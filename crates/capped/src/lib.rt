@@ -8,7 +8,8 @@ pub use capped::{MOST, own};
 pub use marks::{all_marked, dead_unmarked, mark_dead};
 
 // A count of paths: 99 stands for 99 or more.
-#[derive(Clone, Copy)]
+// C is told 99 for 99 or more.
+#[derive(Clone, Copy, PartialEq, Eq, PartialOrd, Ord, Debug)]
 pub struct Count {
     pub value: u8,
 }

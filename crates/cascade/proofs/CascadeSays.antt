@@ -1,6 +1,6 @@
 -- The answers of the call with the table: which refusal it is, and what is said and left behind; one law for each answer. Assumes nothing.
 use mathlib.Core.Path.{◌≡◌, refl, sym, ap, ◌∙◌}
-use mathlib.Core.Bool.{Bool, true, false, ◌||◌, cond}
+use mathlib.Core.Bool.{Bool, true, false, cond}
 use mathlib.Core.List.{List, [], ◌∷◌}
 use Prim.Native.Nat.{ℕ, ◌-◌, ◌*◌, ◌≤◌, ◌<◌}
 use native.Mathlib.Omega.{arith}
@@ -11,14 +11,14 @@ use borrow.Author.Tests.{eqb-true, eqb-false, ne_eqb, lt-ltb, le-ltb, leb-true, 
 use Rattle.wire.specs.Bytes.{Bytes, filled}
 use Rattle.wire.proofs.Bool.{by_test}
 use Rattle.wire.proofs.Places.{take_told}
-use Rattle.transducer.specs.declared.Header.{Header}
-use Rattle.transducer.specs.declared.Written.{Written}
+use Rattle.transducer.specs.declared.Head.{Head}
+use Rattle.transducer.specs.Answer.{Written}
 use Rattle.transducer.specs.Format.{max_arcs, max_bytes, max_origins, max_states, head_bytes, Transducer, Good, refusal, decode}
 use Rattle.transducer.specs.Encode.{encode}
-use Rattle.transducer.specs.Accepted.{header_of}
+use Rattle.transducer.specs.Accepted.{head_in}
 use Rattle.transducer.specs.Each.{has_no_any_input, any_refusal}
-use Rattle.transducer.specs.Entry.{or_else, unless}
-use Rattle.transducer.proofs.Answers.{some_or_else, none_or_else, unless_some, unless_none}
+use Rattle.transducer.specs.Entry.{or_else}
+use Rattle.transducer.proofs.Answers.{some_or_else, none_or_else, unless_some}
 use Rattle.transducer.proofs.Fits.{plain_named}
 use Rattle.transducer.proofs.Headed.{headed, head_inside}
 use Rattle.transducer.proofs.Most.{refusal_most}
@@ -127,13 +127,13 @@ module _ (xs ys cs a b c : List ℕ) (n : ℕ) (unapplied : Unapplied xs cs n) w
       kept k (by_tables k (none_or_else (refusal xs) (refusal ys) (left_accepted more) ∙ sym is) bad) bad (omega (arith, refusal_most ys))
 
   module _ (more : 9 ≤ n) (right : refusal ys ≡ 0) where
-    pub says_string : n ≡ 9 → Refused 9
+    pub says_string : n ≡ 9 → Refused n
     unfolding cascade_refusal tables_refusal or_else
     says_string nine = on (why xs cs n unapplied)
       where
-        on : Why xs cs n → Refused 9
+        on : Why xs cs n → Refused n
         on (by_left is bad) = absurd (omega (arith, refusal_most xs))
-        on (by_string ok wrong is) = kept 9 (rw (ok, right, wrong)) (λ z. omega arith) (omega arith)
+        on (by_string ok wrong is) = kept n (rw (ok, right, wrong) (sym is)) (λ z. omega arith) (omega arith)
         on (by_size ok good is high low) = absurd (omega arith)
 
     -- The lattice is too large.
@@ -305,7 +305,7 @@ module _ {xs cs : List ℕ} (bytes_xs : Bytes xs) {put : Written} {d d' e e' f f
         left : b' ≡ filled (length b) os
         left = says.origins ∙ behind_written b os told none
 
-        module _ (head : Header) (is : head ≡ header_of zs) where
+        module _ (head : Head) (is : head ≡ head_in zs) where
           many : 2 * head.arcs ≡ length os
           many =
               ap (λ (n : ℕ). 2 * n) ((headed zs bytes_zs accepted head is).arcs_are ∙ ap (λ (t : Transducer). length t.arcs) in_bytes)

@@ -5,7 +5,7 @@ use mathlib.Core.List.{List}
 use Prim.Native.Nat.{ℕ, ◌≤◌}
 use lib.ListN.{length, take}
 use Rattle.wire.specs.Bytes.{Bytes}
-use Rattle.transducer.specs.declared.Written.{Written}
+use Rattle.transducer.specs.Answer.{Written}
 use Rattle.transducer.specs.Format.{Transducer, Good, refusal, decode}
 use Rattle.transducer.specs.Each.{has_no_any_input, any_refusal}
 use Rattle.transducer.specs.Entry.{or_else}
@@ -22,7 +22,7 @@ use Rattle.lattice.specs.Application.{Application}
 use Rattle.lattice.specs.Lattice.{lattice}
 use Rattle.lattice.proofs.Called.{AppliedCall, applied_number, application_of, appliable, applied_fits, applied_read, applied_good, applied_accepted}
 use Rattle.lattice.proofs.LatticeGood.{lattice_plain}
-use Rattle.paths.specs.declared.Counted.{Counted}
+use Rattle.paths.specs.Answer.{Counted}
 use Rattle.paths.specs.Count.{endless, path_count}
 use Rattle.paths.specs.Entry.{count_refusal, CountSays}
 use Rattle.cascade.specs.Cascade.{TwoCalls}

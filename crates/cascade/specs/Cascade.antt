@@ -3,7 +3,7 @@
 -- none, so that composing is never refused by 18. Assumes nothing: these are definitions.
 use Rattle.std.specs.Prelude.{◌≡◌, List, ℕ, length, take}
 use Rattle.wire.specs.Bytes.{Bytes}
-use Rattle.transducer.specs.declared.Written.{Written}
+use Rattle.transducer.specs.Answer.{Written}
 use Rattle.trim.specs.Trim.{through}
 use Rattle.compose.specs.Claim.{met_at, TwoPaths}
 use Rattle.claim.specs.Claim.{Pairs, to_pair}

@@ -1,16 +1,16 @@
 -- From what the cascade answers to the text of its listing. Assumes nothing.
 use mathlib.Core.Path.{◌≡◌, refl, sym, ap, ◌∙◌}
-use mathlib.Core.Bool.{Bool, true, false, ◌&&◌, cond}
+use mathlib.Core.Bool.{true}
 use mathlib.Core.List.{List}
 use Prim.Native.Nat.{ℕ, ◌%◌, ◌≤◌, ◌<◌}
 use native.Mathlib.Omega.{arith}
 use borrow.Author.Tests.{eqb-true, eqb-false, eq-eqb, ne_eqb, lt-ltb, le-ltb}
-use lib.Dec.{eqb, ltb}
+use lib.Dec.{eqb}
 use lib.ListN.{length, take}
 use Rattle.wire.specs.Bytes.{Bytes}
 use Rattle.wire.proofs.Bool.{by_test}
-use Rattle.transducer.specs.declared.Written.{Written}
-use Rattle.transducer.specs.Format.{Transducer, max_states, max_bytes, max_origins, refusal, decode}
+use Rattle.transducer.specs.Answer.{Written}
+use Rattle.transducer.specs.Format.{max_states, max_bytes, max_origins, refusal, decode}
 use Rattle.transducer.specs.Entry.{or_else, unless, left_in}
 use Rattle.transducer.proofs.Answers.{some_or_else, none_or_else}
 use Rattle.compose.specs.Entry.{compose_room}
@@ -19,10 +19,10 @@ use Rattle.lattice.specs.ApplyEntry.{application_refusal}
 use Rattle.cascade.specs.Entry.{cascade, tables_refusal, cascade_refusal, CascadeSays}
 use Rattle.cascade.specs.Cascade.{Cascaded}
 use Rattle.cascade.proofs.Cascaded.{passed, cascaded_fits, cascaded_accepted, cascaded_read}
-use Rattle.listing.specs.declared.Listed.{Listed}
+use Rattle.listing.specs.Answer.{Listed}
 use Rattle.listing.specs.Code.{labels_in, most_loaded}
 use Rattle.listing.specs.Text.{listing_text, refused_text, least_room, Whole}
-use Rattle.listing.specs.Entry.{applied_refusal, text_unless, text_room}
+use Rattle.listing.specs.Entry.{applied_refusal, text_room}
 use Rattle.listing.proofs.Steps.{front, text_refused, text_kept, good_whole, taken_good}
 use Rattle.cascade_listing.specs.Entry.{cascade_listing_refusal, cascade_text, CascadeListingSays}
 
@@ -41,10 +41,10 @@ tables_first a n is bad p =
     let first : or_else a 9 ≡ n = some_or_else a 9 (λ z. bad (is ∙ z)) ∙ sym is in
     rw first p
 
-pub nine_last : {out out' : List ℕ} {w : Listed} (a n : ℕ) → n ≡ a → n ≡ 0 → Whole out out' w 9 (refused_text 9)
+pub nine_last : {out out' : List ℕ} {w : Listed} (a : ℕ) → 0 ≡ a → Whole out out' w 9 (refused_text 9)
     → Whole out out' w (or_else a 9) (refused_text (or_else a 9))
-nine_last a n is none p =
-    let last : or_else a 9 ≡ 9 = none_or_else a 9 (sym is ∙ none) in
+nine_last a none p =
+    let last : or_else a 9 ≡ 9 = none_or_else a 9 (sym none) in
     rw last p
 
 pub odd_refused : {out out' : List ℕ} {w : Listed} (xs ys cs : List ℕ) → (length cs % 2 ≡ 0 → ⊥)

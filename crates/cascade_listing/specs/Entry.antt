@@ -4,7 +4,7 @@ use Rattle.transducer.specs.Format.{decode}
 use Rattle.transducer.specs.Entry.{or_else, unless, left_in}
 use Rattle.explore.specs.Explore.{built_refusal}
 use Rattle.cascade.specs.Entry.{cascade, tables_refusal}
-use Rattle.listing.specs.declared.Listed.{Listed}
+use Rattle.listing.specs.Answer.{Listed}
 use Rattle.listing.specs.Code.{labels_in}
 use Rattle.listing.specs.Text.{listing_text}
 use Rattle.listing.specs.Entry.{applied_refusal, text_unless}

@@ -5,7 +5,7 @@ use Rattle.wire.specs.Bytes.{Bytes}
 use Rattle.compose.specs.Claim.{met_at, TwoPaths}
 use Rattle.cascade.specs.Pairs.{FittingPairs}
 use Rattle.cascade.specs.Entry.{cascade, cascade_origins}
-use Rattle.listing.specs.declared.Listed.{Listed}
+use Rattle.listing.specs.Answer.{Listed}
 use Rattle.listing.specs.Code.{labels_in}
 use Rattle.listing.specs.Entry.{text_room}
 use Rattle.printed.specs.PrintedText.{PrintedText}

@@ -7,28 +7,28 @@ ghost use Rattle.transducer.specs.Entry.{or_else};
 ghost use Rattle.cascade.specs.Entry.{tables_refusal};
 ghost use Rattle.listing.specs.Text.{Whole, refused_text, least_room};
 ghost use Rattle.listing.specs.Entry.{text_room};
+ghost use Rattle.listing.specs.Answer.{listed, listed_of};
 ghost use Rattle.cascade_listing.specs.Entry.{cascade_listing_refusal, cascade_text, CascadeListingSays};
 
-use listing::{LEAST_ROOM, Listed, MOST_LOADED};
-use transducer::{MAX_BYTES, MAX_ORIGINS, MAX_STATES};
+use listing::{LEAST_ROOM, Listing, MOST_LOADED};
+use transducer::{MAX_BYTES, MAX_ORIGINS, MAX_STATES, Refusal};
 
 // Writes the line of the refusal if the code has an odd last byte: 1 to 8 of the two transducers come before 9.
-fn refuse_odd(left: &[u8], right: &[u8], out: &mut [u8]) -> Listed
+fn refuse_odd(left: &[u8], right: &[u8], out: &mut [u8]) -> Listing
     requires { least_room ≤ length out.old }
-    ensures { Whole out.old out.new result (or_else (tables_refusal left.now right.now) 9)
+    ensures { Whole out.old out.new (listed_of result) (or_else (tables_refusal left.now right.now) 9)
         (refused_text (or_else (tables_refusal left.now right.now) 9)) }
 {
-    let number = cascade::tables_refusal(left, right);
-    if number != 0 {
-        return listing::refuse_into(number, out);
+    match cascade::ensure_both_accepted(left, right) {
+        Ok(()) => listing::refuse_into(Refusal::Symbols, out),
+        Err(refusal) => listing::refuse_into(refusal, out),
     }
-    listing::refuse_into(9, out)
 }
 
 // Lists the cascade into a buffer that is long enough.
-fn list_cascade(left: &[u8], right: &[u8], bytes: &[u8], out: &mut [u8]) -> Listed
+fn list_cascade(left: &[u8], right: &[u8], bytes: &[u8], out: &mut [u8]) -> Listing
     requires { least_room ≤ length out.old }
-    ensures { Whole out.old out.new result (cascade_listing_refusal left.now right.now bytes.now)
+    ensures { Whole out.old out.new (listed_of result) (cascade_listing_refusal left.now right.now bytes.now)
         (cascade_text left.now right.now bytes.now) }
 {
     if bytes.len() % 2 != 0 {
@@ -47,27 +47,21 @@ fn list_cascade(left: &[u8], right: &[u8], bytes: &[u8], out: &mut [u8]) -> List
         &mut origins,
         &mut states,
     );
-    let number = made.refusal;
-    if number != 0 {
-        return listing::refuse_into(number, out);
+    match made {
+        Ok(len) => listing::list_into(&table[..len as usize], out),
+        Err(refusal) => listing::refuse_into(refusal, out),
     }
-    let len = made.len as usize;
-    listing::list_into(&table[..len], out)
 }
 
 // The listing of the cascade of two transducers and a code: the text from the front of `out`, zeros behind, its length, and the number of the refusal that
 // the text says. If `out` is too short for the longest text, 10 is answered and nothing written. Time is that of the cascade and of counting, and of a
 // walk along each path listed.
-pub fn list(left: &[u8], right: &[u8], bytes: &[u8], out: &mut [u8]) -> Listed
+pub fn list(left: &[u8], right: &[u8], bytes: &[u8], out: &mut [u8]) -> Result<Listing, Refusal>
     ensures { CascadeListingSays left.now right.now bytes.now (text_room (length out.old))
-        result out.old out.new }
+        (listed result) out.old out.new }
 {
     if out.len() < LEAST_ROOM {
-        return Listed {
-            refusal: 10,
-            len: 0,
-            said: 0,
-        };
+        return Err(Refusal::Room);
     }
-    list_cascade(left, right, bytes, out)
+    Ok(list_cascade(left, right, bytes, out))
 }

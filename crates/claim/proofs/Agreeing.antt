@@ -15,7 +15,7 @@ use Rattle.transducer.proofs.Weights.{most_both}
 use Rattle.transducer.proofs.Answers.{unless_some, cost_unless_some}
 use Rattle.transducer.proofs.Runs.{good_within}
 use Rattle.compose.specs.Claim.{Least}
-use Rattle.paths.specs.declared.Counted.{Counted}
+use Rattle.paths.specs.Answer.{Counted}
 use Rattle.paths.specs.Count.{path_count}
 use Rattle.paths.specs.Entry.{count_refusal}
 use Rattle.paths.specs.Calls.{Counting}

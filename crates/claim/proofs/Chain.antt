@@ -7,8 +7,7 @@ use Rattle.transducer.specs.Format.{Transducer, decode}
 use Rattle.transducer.specs.Path.{accepts, read_by, written_by, path_cost}
 use Rattle.transducer.specs.Each.{path_passed, plain}
 use Rattle.transducer.specs.Weight.{plus}
-use Rattle.compose.specs.Claim.{met_at, TwoPaths, OneToOne}
-use Rattle.compose.specs.Claim.{Pair as Composed-pair, StandsFor as Composed-stands}
+use Rattle.compose.specs.Claim.{met_at, TwoPaths, OneToOne, Pair as Composed-pair, StandsFor as Composed-stands}
 use Rattle.trim.specs.Trim.{through}
 use Rattle.lattice.specs.Lattice.{ReadsAs, ReadsOneToOne}
 use Rattle.lattice.proofs.Plain.{reads_string, writes_same, every_reading}

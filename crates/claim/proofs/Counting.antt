@@ -4,10 +4,8 @@ use mathlib.Core.Path.{◌≡◌, refl, sym, ap, subst}
 use mathlib.Core.Bool.{Bool, true, false}
 use mathlib.Core.Logic.{◌⊎◌, inl, inr, ◌↔◌}
 use mathlib.Core.List.{List, [], ◌∷◌, map}
-use mathlib.Core.List.Memᴰ.{cases_cons as first-or-later}
-use mathlib.Core.List.Memᴰ.{map as in_map}
-use mathlib.Core.List.Memᴰ.{not-nil as none_in}
-use mathlib.Core.List.Memᴰ.{of_map}
+use mathlib.Core.List.Memᴰ.{cases_cons as first-or-later, map as in_map}
+use mathlib.Core.List.Memᴰ.{not-nil as none_in, of_map}
 use mathlib.Core.List.{Memᴰ as Mem}
 use Prim.Native.Nat.{ℕ, zero, suc, ◌≤◌, min}
 use native.Mathlib.Omega.{arith}
@@ -16,7 +14,7 @@ use Rattle.transducer.specs.Format.{Transducer, refusal, decode}
 use Rattle.transducer.specs.Path.{accepts}
 use Rattle.transducer.proofs.Members.{Distinct, distinct_places, places_distinct, no_longer, map_distinct}
 use Rattle.transducer.proofs.Runs.{Within}
-use Rattle.paths.specs.declared.Counted.{Counted}
+use Rattle.paths.specs.Answer.{Counted}
 use Rattle.paths.specs.Count.{paths, endless, path_count}
 use Rattle.paths.specs.Entry.{count_refusal, CountSays}
 use Rattle.paths.proofs.Called.{refused_14, counted_none, count_told}

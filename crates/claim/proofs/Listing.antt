@@ -9,7 +9,7 @@ use Rattle.transducer.specs.Format.{Transducer, refusal, decode}
 use Rattle.transducer.specs.Path.{accepts, written_by, path_cost}
 use Rattle.transducer.proofs.Members.{distinct_places}
 use Rattle.transducer.proofs.Runs.{Within}
-use Rattle.paths.specs.declared.Counted.{Counted}
+use Rattle.paths.specs.Answer.{Counted}
 use Rattle.paths.specs.Count.{before, paths, endless, path_count, nth_path}
 use Rattle.paths.specs.Entry.{count_refusal, CountSays}
 use Rattle.paths.specs.Calls.{Telling, told_arcs}

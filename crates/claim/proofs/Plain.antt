@@ -9,7 +9,7 @@ use Rattle.transducer.specs.Format.{Transducer, decode}
 use Rattle.transducer.specs.Path.{accepts, read_by, written_by}
 use Rattle.transducer.specs.Each.{plain}
 use Rattle.transducer.proofs.FitPaths.{read_path_fits, path_fits_plain, path_passed_plain}
-use Rattle.paths.specs.declared.Counted.{Counted}
+use Rattle.paths.specs.Answer.{Counted}
 use Rattle.paths.specs.Calls.{Telling, told_arcs}
 use Rattle.lattice.specs.Application.{lattice_bytes}
 use Rattle.compose.specs.Claim.{TwoPaths}

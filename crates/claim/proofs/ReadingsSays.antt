@@ -6,7 +6,7 @@ use Prim.Native.Nat.{ℕ, ◌≤◌}
 use native.Mathlib.Omega.{arith}
 use lib.ListN.{length, take, replicate, length-replicate}
 use Rattle.wire.specs.Bytes.{Bytes}
-use Rattle.transducer.specs.declared.Written.{Written}
+use Rattle.transducer.specs.Answer.{Written}
 use Rattle.transducer.specs.Format.{max_arcs, max_bytes, max_states, Transducer, Good, refusal, decode}
 use Rattle.transducer.specs.Each.{has_no_any_input}
 use Rattle.transducer.specs.Entry.{or_else}
@@ -19,9 +19,9 @@ use Rattle.compose.proofs.Called.{ComposedCall, composed_number, composition_of,
 use Rattle.lattice.specs.ApplyEntry.{application_refusal}
 use Rattle.lattice.specs.Application.{Application}
 use Rattle.lattice.proofs.Called.{Appliable, unrefused_appliable, lattice_bytes_are, some_application}
-use Rattle.paths.specs.declared.Counted.{Counted}
+use Rattle.paths.specs.Answer.{Counted}
 use Rattle.paths.specs.Count.{endless, path_count}
-use Rattle.lookup.specs.declared.StringCount.{StringCount}
+use Rattle.lookup.specs.Answer.{StringCount}
 use Rattle.lookup.specs.Lookup.{count_string_refusal, CountStringSays}
 use Rattle.lookup.proofs.CountString.{counts_lattice}
 use Rattle.claim.specs.Entry.{composition_lattice, readings_refusal, ReadingsSays}

@@ -5,7 +5,7 @@ use Rattle.transducer.specs.Format.{Transducer, decode}
 use Rattle.transducer.specs.Path.{accepts, read_by, written_by, path_cost}
 use Rattle.transducer.specs.Weight.{Weight, Below}
 use Rattle.compose.specs.Claim.{Least}
-use Rattle.report.specs.declared.Told.{Told}
+use Rattle.report.specs.Answer.{Told}
 use Rattle.paths.specs.Calls.{Counting}
 use Rattle.shortest.specs.Claim.{ShortestPath}
 use Rattle.claim.specs.Kind.{Kind, PathsAre, Counts}

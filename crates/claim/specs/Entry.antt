@@ -5,7 +5,7 @@ use Rattle.transducer.specs.Entry.{or_else, unless}
 use Rattle.compose.specs.Entry.{composition, composition_refusal}
 use Rattle.lattice.specs.Lattice.{lattice}
 use Rattle.lattice.specs.ApplyEntry.{application_refusal}
-use Rattle.paths.specs.declared.Counted.{Counted}
+use Rattle.paths.specs.Answer.{Counted}
 use Rattle.paths.specs.Count.{endless, path_count}
 use Rattle.claim.specs.Kind.{Counts}
 use Rattle.claim.specs.Claim.{Pairs}

@@ -5,7 +5,7 @@ use mathlib.Core.List.{Memᴰ as Among}
 use Rattle.transducer.specs.Format.{max_count, Transducer}
 use Rattle.transducer.specs.Path.{accepts, read_by, written_by, path_cost}
 use Rattle.transducer.specs.Weight.{Weight}
-use Rattle.paths.specs.declared.Counted.{Counted}
+use Rattle.paths.specs.Answer.{Counted}
 
 -- A kind: which things are of it, and what each of them reads, writes and costs.
 pub record Kind : Type 1 where

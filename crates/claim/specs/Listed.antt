@@ -2,7 +2,7 @@
 use Rattle.std.specs.Prelude.{◌≡◌, true, List, ℕ, ◌<◌}
 use Rattle.transducer.specs.Format.{max_count, decode}
 use Rattle.transducer.specs.Path.{accepts}
-use Rattle.paths.specs.declared.Counted.{Counted}
+use Rattle.paths.specs.Answer.{Counted}
 use Rattle.paths.specs.Count.{before}
 use Rattle.paths.specs.Calls.{Telling, told_arcs, told_labels}
 use Rattle.claim.specs.Kind.{Kind}

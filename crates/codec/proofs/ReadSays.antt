@@ -1,22 +1,27 @@
 -- What `read` answers, case by case: a refusal of 1 to 8, a buffer that is too short, and success. Assumes nothing.
-use mathlib.Core.Path.{◌≡◌, refl, sym, ap}
+use Rattle.std.proofs.Common.{Ok}
+use mathlib.Core.Path.{◌≡◌, refl, sym, ap, ◌∙◌}
 use mathlib.Core.Bool.{false, cond, or-true}
 use mathlib.Core.List.{List, map}
 use Prim.Native.Nat.{ℕ, ◌+◌, ◌*◌, ◌≤◌, ◌<◌}
 use native.Mathlib.Omega.{arith}
 use borrow.Author.Tests.{lt-ltb, le-ltb, ne_eqb}
 use lib.Dec.{ltb, eqb}
-use lib.ListN.{length}
+use lib.ListN.{length, get_or}
+use mir.Val.{Fits}
+use mir.Syntax.{w8}
 use Rattle.wire.specs.Bytes.{Bytes, two, places, filled, signed_filled}
 use Rattle.wire.proofs.Places.{map_places}
 use Rattle.transducer.specs.Entry.{or_else, unless, left_in, weights_left_in}
 use Rattle.transducer.specs.Weight.{Weight}
 use Rattle.transducer.specs.declared.Arc.{Arc}
 use Rattle.transducer.specs.declared.Final.{Final}
-use Rattle.transducer.specs.declared.Header.{Header}
+use Rattle.transducer.specs.Answer.{Header}
 use Rattle.transducer.specs.Format.{head_bytes, final_bytes, arc_bytes, max_arcs, max_fields, max_states, decode, refusal, head_arcs, head_finals}
 use Rattle.transducer.specs.Format.{weight_at, final_at, arc_at, arcs_at}
-use Rattle.transducer.specs.Accepted.{header_of}
+use Rattle.transducer.specs.Accepted.{head_in}
+use Rattle.transducer.specs.declared.Head.{Head}
+use Rattle.transducer.specs.Answer.{header}
 use Rattle.codec.specs.Entry.{ReadSays, read_refusal, read_room, arc_fields}
 use Rattle.codec.proofs.Copy.{places_shift}
 use Rattle.transducer.proofs.Offsets.{length_accepted, decode_states, decode_start, decode_finals, decode_arcs, length_finals, length_arcs, accepted_within}
@@ -87,7 +92,7 @@ module _ {bs a : List ℕ} {b : List Weight} {c : List ℕ} {d : List Weight} {n
 -- Success
 
 -- The numbers of an accepted head, as `read` uses them.
-pub record Counted (bs : List ℕ) (head : Header) : Type 0 where
+pub record Counted (bs : List ℕ) (head : Head) : Type 0 where
   pub finals_are : head.finals ≡ head_finals bs
   pub arcs_are : head.arcs ≡ head_arcs bs
   pub few_finals : head.finals ≤ max_states
@@ -95,12 +100,11 @@ pub record Counted (bs : List ℕ) (head : Header) : Type 0 where
   pub long : length bs ≡ arcs_at head.finals + arc_bytes * head.arcs
 
 module _ (bs : List ℕ) (bytes : Bytes bs) (ok : refusal bs ≡ 0) where
-  pub counted : {head : Header} → head ≡ header_of bs → Counted bs head
-  unfolding header_of
+  pub counted : {head : Head} → head ≡ head_in bs → Counted bs head
   counted {head} h =
       let within = accepted_within bs bytes ok in
-      let f : head.finals ≡ head_finals bs = ap (λ (r : Header). r.finals) h in
-      let m : head.arcs ≡ head_arcs bs = ap (λ (r : Header). r.arcs) h in
+      let f : head.finals ≡ head_finals bs = ap (λ (r : Head). r.finals) h in
+      let m : head.arcs ≡ head_arcs bs = ap (λ (r : Head). r.arcs) h in
       record { finals_are = f; arcs_are = m; few_finals = omega arith; few_arcs = omega arith; long = omega (arith, length_accepted bs bytes ok) }
 
   states_read : map (λ f. f.state) (decode bs).finals ≡ places (head_finals bs) 16 10 (two bs)
@@ -121,15 +125,15 @@ module _ (bs : List ℕ) (bytes : Bytes bs) (ok : refusal bs ≡ 0) where
       rw (decode_arcs bs bytes ok, map_places (λ (a : Arc). a.weight) (head_arcs bs) (arcs_at (head_finals bs)) 16 (arc_at bs))
       (sym (places_shift (head_arcs bs) (arcs_at (head_finals bs)) 12 16 (weight_at bs)))
 
-  pub says_read : {head : Header} {first : ℕ} {a a' : List ℕ} {b b' : List Weight} {c c' : List ℕ} {d d' : List Weight} → max_states ≤ length a
+  pub says_read : {head : Head} {first : ℕ} {a a' : List ℕ} {b b' : List Weight} {c c' : List ℕ} {d d' : List Weight} → max_states ≤ length a
       → max_states ≤ length b → max_fields ≤ length c → max_arcs ≤ length d →
-      head ≡ header_of bs → first ≡ arcs_at head.finals →
+      head ≡ head_in bs → first ≡ arcs_at head.finals →
       a' ≡ filled (length a) (places head.finals 16 10 (two bs)) →
       b' ≡ signed_filled (length b) (places head.finals 18 10 (weight_at bs)) →
       c' ≡ filled (length c) (arc_fields (places head.arcs first 16 (arc_at bs))) →
       d' ≡ signed_filled (length d) (places head.arcs (first + 12) 16 (weight_at bs)) →
-      ReadSays bs (read_refusal bs (length a) (length b) (length c) (length d)) head a a' b b' c c' d d'
-  unfolding read_refusal or_else header_of unless left_in weights_left_in
+      ReadSays bs (read_refusal bs (length a) (length b) (length c) (length d)) (header (Ok head)) a a' b b' c c' d d'
+  unfolding read_refusal or_else unless left_in weights_left_in
   says_read {head} {first} {a} {a'} {b} {b'} {c} {c'} {d} {d'} la lb lc ld h place ea eb ec ed =
       rw (ok, long_enough (length a) (length b) (length c) (length d) la lb lc ld, h) (record {
         refusal_is = refl;
@@ -142,3 +146,12 @@ module _ (bs : List ℕ) (bytes : Bytes bs) (ok : refusal bs ≡ 0) where
         fields = rw (decode_arcs bs bytes ok) (rw (place, h) at ec);
         arc_weights = rw arc_weights_read (rw (place, h) at ed);
       })
+
+-- From what the code knows: each byte fits, and the refusal is none.
+
+pub is_bytes : (bs : List ℕ) → ((i : ℕ) → Fits w8 (get_or bs i 0)) → Bytes bs
+is_bytes bs given = λ i. omega (arith, given i)
+
+pub head_counted : {bs : List ℕ} {number : ℕ} {head : Head} → ((i : ℕ) → Fits w8 (get_or bs i 0)) → number ≡ refusal bs → number ≡ 0 → head ≡ head_in bs →
+    Counted bs head
+head_counted {bs} given is none h = counted bs (is_bytes bs given) (sym is ∙ none) h

@@ -19,8 +19,8 @@ use Rattle.wire.proofs.Bool.{passed, or_false, not_raised}
 use Rattle.transducer.specs.Entry.{or_else}
 use Rattle.transducer.specs.declared.Arc.{Arc}
 use Rattle.transducer.specs.declared.Final.{Final}
-use Rattle.transducer.specs.declared.Header.{Header}
-use Rattle.transducer.specs.declared.Written.{Written}
+use Rattle.transducer.specs.Answer.{Header}
+use Rattle.transducer.specs.Answer.{Written}
 use Rattle.transducer.specs.Format.{max_fields, Transducer, Good, max_states, max_arcs, max_bytes, decode, refusal, head_good, content_refusal}
 use Rattle.transducer.specs.Encode.{encode}
 use Rattle.transducer.specs.Path.{no_arc}

@@ -11,7 +11,7 @@ use lib.Seq.{sets}
 use Rattle.wire.specs.Bytes.{places, filled, cleared}
 use Rattle.wire.proofs.Places.{length_places}
 use Rattle.transducer.specs.Entry.{or_else, unless, left_in}
-use Rattle.transducer.specs.declared.Written.{Written}
+use Rattle.transducer.specs.Answer.{Written}
 use Rattle.transducer.specs.Format.{arc_bytes, max_bytes, Transducer, arcs_at, head_good, first_of, content_refusal}
 use Rattle.transducer.specs.Check.{finals_checked, arcs_checked, from_0, none_failed, final_word, arc_word}
 use Rattle.transducer.specs.Encode.{head_record, final_records, arc_records, encode}

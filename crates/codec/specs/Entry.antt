@@ -3,8 +3,8 @@ use Rattle.std.specs.Prelude.{◌≡◌, Bool, ◌||◌, not, cond, List, [], �
 use Rattle.wire.specs.Bytes.{places}
 use Rattle.transducer.specs.declared.Arc.{Arc}
 use Rattle.transducer.specs.declared.Final.{Final}
-use Rattle.transducer.specs.declared.Header.{Header}
-use Rattle.transducer.specs.declared.Written.{Written}
+use Rattle.transducer.specs.Answer.{Header}
+use Rattle.transducer.specs.Answer.{Written}
 use Rattle.transducer.specs.Format.{Transducer, max_states, max_arcs, max_fields, max_bytes, refusal, decode, head_good, content_refusal}
 use Rattle.transducer.specs.Encode.{encode}
 use Rattle.transducer.specs.Entry.{or_else, unless, left_in, weights_left_in}

@@ -1,8 +1,8 @@
 -- Reading and writing undo each other, said of the two calls. Assumes nothing: these are definitions.
 use Rattle.std.specs.Prelude.{◌≡◌, List, ℕ, ◌*◌, ◌≤◌, length, take}
 use Rattle.wire.specs.Bytes.{Bytes, filled, signed_filled}
-use Rattle.transducer.specs.declared.Header.{Header}
-use Rattle.transducer.specs.declared.Written.{Written}
+use Rattle.transducer.specs.Answer.{Header}
+use Rattle.transducer.specs.Answer.{Written}
 use Rattle.transducer.specs.Format.{max_states, max_arcs, max_fields, max_bytes}
 use Rattle.transducer.specs.Weight.{Weight}
 use Rattle.codec.specs.Entry.{ReadSays, read_refusal, WriteSays, write_refusal, given}

@@ -1,58 +1,28 @@
 // Reading a transducer.
-ghost use Rattle.std.specs.Prelude.{◌≡◌, ◌+◌, ◌*◌, ◌≤◌, ◌<◌, length};
-ghost use Rattle.wire.specs.Bytes.{two, places, filled, signed_filled};
-ghost use Rattle.transducer.specs.Format.{arc_bytes, arc_at, weight_at};
+ghost use Rattle.std.specs.Prelude.{◌≡◌, ℕ, ◌+◌, ◌*◌, ◌≤◌, ◌<◌, ◌++◌, length, drop};
+ghost use Rattle.wire.specs.Bytes.{places, filled};
+ghost use Rattle.transducer.specs.Format.{arc_bytes, arc_at, max_bytes};
+ghost use Rattle.transducer.specs.Answer.{header};
 ghost use Rattle.codec.specs.Entry.{ReadSays, read_refusal, arc_fields};
 
-use transducer::Header;
+use transducer::{Head, Refusal};
 
 // Where the first final's state and weight stand.
 const STATE_AT: usize = transducer::HEAD_BYTES + 4;
 
 const WEIGHT_AT: usize = transducer::HEAD_BYTES + 6;
 
-// What reading answers where it refuses.
-fn unread(number: u32) -> Header
-    ensures { result ≡ record { refusal = number; states = 0; arcs = 0; finals = 0; start = 0 } }
+// Puts the numbers that `load` reads at `count` places, the first at `at`, each `step` past the one before, to the front of `out`.
+fn copy<T: Copy, F: Fn(usize) -> T>(load: F, at: usize, step: usize, count: usize, out: &mut [T])
+    requires room { count ≤ length out.old }
+    requires loads { (i : ℕ) → i < count → F.pre load (at + step * i) }
+    requires within { at + step * count ≤ 2 * max_bytes }
+    ensures { (value : ℕ → T) → ((place : ℕ) (x : T) → F.post load place x → x ≡ value place)
+        → out.new ≡ places count at step value ++ drop count out.old }
 {
-    Header {
-        refusal: number,
-        states: 0,
-        arcs: 0,
-        finals: 0,
-        start: 0,
+    for i in 0..count {
+        out[i] = load(at + step * i);
     }
-}
-
-// Copies `count` numbers of two bytes, the first at `at`, each `step` past the one before, to the front of `out`;
-// behind them it puts zeros.
-fn copy16(bytes: &[u8], at: usize, step: usize, count: usize, out: &mut [u16])
-    requires { (count ≤ length out.old) × (at + step * count + 2 ≤ length bytes.now + step) × (step ≤ arc_bytes) }
-    ensures { out.new ≡ filled (length out.old) (places count at step (two bytes.now)) }
-{
-    let mut place = at;
-    let mut i = 0;
-    while i < count {
-        out[i] = wire::u16_at(bytes, place);
-        place += step;
-        i += 1;
-    }
-    wire::clear16(out, count);
-}
-
-// Copies `count` weights, the first at `at`, each `step` past the one before, to the front of `out`; behind them it puts zeros.
-fn copy_weights(bytes: &[u8], at: usize, step: usize, count: usize, out: &mut [i32])
-    requires { (count ≤ length out.old) × (at + step * count + 4 ≤ length bytes.now + step) × (step ≤ arc_bytes) }
-    ensures { out.new ≡ signed_filled (length out.old) (places count at step (weight_at bytes.now)) }
-{
-    let mut place = at;
-    let mut i = 0;
-    while i < count {
-        out[i] = wire::i32_at(bytes, place);
-        place += step;
-        i += 1;
-    }
-    wire::clear_i32(out, count);
 }
 
 // Copies the four fields of `count` arcs whose records begin at `at` to the front of `out`; behind them it puts zeros.
@@ -60,18 +30,14 @@ fn copy_fields(bytes: &[u8], at: usize, count: usize, out: &mut [u16])
     requires { (4 * count ≤ length out.old) × (at + arc_bytes * count ≤ length bytes.now) }
     ensures { out.new ≡ filled (length out.old) (arc_fields (places count at arc_bytes (arc_at bytes.now))) }
 {
-    let mut place = at;
-    let mut i = 0;
-    while i < count {
-        let a = transducer::load_arc(bytes, place);
+    for i in 0..count {
+        let a = transducer::load_arc(bytes, at + transducer::ARC_BYTES * i);
         out[4 * i] = a.source;
         out[4 * i + 1] = a.input;
         out[4 * i + 2] = a.output;
         out[4 * i + 3] = a.target;
-        place += transducer::ARC_BYTES;
-        i += 1;
     }
-    wire::clear16(out, 4 * count);
+    wire::clear(out, 4 * count, 0);
 }
 
 // Reads a transducer into four lent buffers. Linear in the bytes and in what is lent.
@@ -81,36 +47,44 @@ pub fn read(
     final_weights: &mut [i32],
     fields: &mut [u16],
     arc_weights: &mut [i32],
-) -> Header
+) -> Result<Head, Refusal>
     ensures { ReadSays bytes.now
         (read_refusal bytes.now (length final_states.old) (length final_weights.old)
         (length fields.old) (length arc_weights.old))
-        result final_states.old final_states.new final_weights.old final_weights.new
+        (header result) final_states.old final_states.new final_weights.old final_weights.new
         fields.old fields.new arc_weights.old arc_weights.new }
 {
-    let number = transducer::refusal(bytes);
-    if number != 0 {
-        return unread(number);
-    }
+    transducer::ensure_accepted(bytes)?;
     if final_states.len() < transducer::MAX_STATES {
-        return unread(10);
+        return Err(Refusal::Room);
     }
     if final_weights.len() < transducer::MAX_STATES {
-        return unread(10);
+        return Err(Refusal::Room);
     }
     if fields.len() < transducer::MAX_FIELDS {
-        return unread(10);
+        return Err(Refusal::Room);
     }
     if arc_weights.len() < transducer::MAX_ARCS {
-        return unread(10);
+        return Err(Refusal::Room);
     }
     let head = transducer::head_of(bytes);
     let f = head.finals as usize;
     let m = head.arcs as usize;
     let first = transducer::arcs_at(f);
-    copy16(bytes, STATE_AT, transducer::FINAL_BYTES, f, final_states);
-    copy_weights(bytes, WEIGHT_AT, transducer::FINAL_BYTES, f, final_weights);
+    let state_at = |place| wire::u16_at(bytes, place);
+    let weight_at = |place| wire::i32_at(bytes, place);
+    copy(state_at, STATE_AT, transducer::FINAL_BYTES, f, final_states);
+    wire::clear(final_states, f, 0);
+    copy(
+        weight_at,
+        WEIGHT_AT,
+        transducer::FINAL_BYTES,
+        f,
+        final_weights,
+    );
+    wire::clear(final_weights, f, 0);
     copy_fields(bytes, first, m, fields);
-    copy_weights(bytes, first + 12, transducer::ARC_BYTES, m, arc_weights);
-    head
+    copy(weight_at, first + 12, transducer::ARC_BYTES, m, arc_weights);
+    wire::clear(arc_weights, m, 0);
+    Ok(head)
 }

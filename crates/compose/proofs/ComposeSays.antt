@@ -7,17 +7,18 @@ use native.Mathlib.Omega.{arith}
 use lib.ListN.{length, get_or, take, drop}
 use lib.Seq.{sets, length-sets}
 use borrow.Author.Tests.{lt-ltb, le-ltb, ne_eqb}
-use Rattle.wire.specs.Bytes.{Bytes, cleared}
-use Rattle.wire.proofs.Bool.{never}
+use Rattle.std.proofs.Common.{Option, Some, None}
+use Rattle.std.proofs.lemmas.Option.{IfSome_then}
+use Rattle.wire.specs.Bytes.{cleared}
 use Rattle.transducer.specs.declared.Final.{Final}
-use Rattle.transducer.specs.declared.Written.{Written}
+use Rattle.transducer.specs.Answer.{Written, Refusal, written}
+use Rattle.std.specs.Prelude.{Result}
 use Rattle.transducer.specs.Format.{arcs_at, max_arcs, max_bytes, max_origins, max_states, Transducer, Good, refusal, decode}
 use Rattle.transducer.specs.Encode.{head_record, final_records, encode}
 use Rattle.transducer.specs.Each.{has_no_any_input, any_refusal}
 use Rattle.transducer.specs.Entry.{or_else, unless}
 use Rattle.transducer.specs.Accepted.{FinalsByState}
 use Rattle.transducer.proofs.Most.{refusal_most}
-use Rattle.transducer.proofs.RoundTrip.{accepted_good}
 use Rattle.explore.specs.declared.FinalsPut.{FinalsPut}
 use Rattle.explore.specs.declared.Walk.{Walk}
 use Rattle.explore.specs.Explore.{built_refusal}
@@ -41,8 +42,7 @@ use Rattle.explore.proofs.WalkTold.{
 use Rattle.steps.specs.Steps.{same_state, steps, first_state, origin_pair}
 use Rattle.compose.specs.Compose.{final_state, state_weight, composed}
 use Rattle.compose.specs.Entry.{ComposeSays, compose_refusal, compose_room, origin_pairs}
-use Rattle.compose.specs.declared.entry.Attempt.{Attempt}
-use Rattle.compose.specs.Finished.{key_final, key_weight, key_finals, Finishable, Composable, Attempted}
+use Rattle.compose.specs.Finished.{key_final, key_weight, key_finals, Finishable, Attempted}
 use Rattle.steps.specs.Packing.{pack}
 use Rattle.compose.specs.Walk.{key_steps, key_walk}
 use Rattle.compose.proofs.Explored.{two_origins, composed_keying, key_bounded}
@@ -92,10 +92,6 @@ module _ (xs ys a b c : List ℕ) where
         says_states p q h = short (rw (le-ltb (length a) max_bytes p, le-ltb (length b) max_origins q, lt-ltb (length c) max_states h))
 
         module _ (p : max_bytes ≤ length a) (q : max_origins ≤ length b) (s : max_states ≤ length c) where
-          pub composable : Composable xs ys (length a) (length b) (length c)
-          composable =
-              record { left_accepted = lok; left_no_any = all; right_accepted = rok; table_long = p; origins_long = q; states_long = s }
-
           into : number ≡ built_refusal (composed (decode xs) (decode ys)).result
           unfolding compose_refusal or_else any_refusal compose_room
           into = rw (lok, all, rok, le-ltb (length a) max_bytes p, le-ltb (length b) max_origins q, le-ltb (length c) max_states s)
@@ -112,8 +108,7 @@ pub record Writable (w : Walk) (f : FinalsPut) : Type 0 where
 
 -- The answers once the walk has begun, of accepted transducers
 
-module _ (left right : List ℕ) (lb : Bytes left) (rb : Bytes right) (lok : refusal left ≡ 0) (all : has_no_any_input (decode left) ≡ true)
-    (rok : refusal right ≡ 0) where
+module _ (left right : List ℕ) (tg : Good (decode left)) (ug : Good (decode right)) where
   abbrev t : Transducer
   t = decode left
 
@@ -122,12 +117,6 @@ module _ (left right : List ℕ) (lb : Bytes left) (rb : Bytes right) (lok : ref
 
   abbrev z : Transducer
   z = (composed (decode left) (decode right)).result
-
-  tg : Good (decode left)
-  tg = accepted_good left lb lok
-
-  ug : Good (decode right)
-  ug = accepted_good right rb rok
 
   keying : Keying same_state (steps t u) (first_state t u) pack origin_pair (key_steps t u) (Within t u)
   keying = composed_keying t u tg ug
@@ -156,18 +145,16 @@ module _ (left right : List ℕ) (lb : Bytes left) (rb : Bytes right) (lok : ref
 
   -- An attempt that has given its answer, one that has not, and one whose buffers had changed but not their lengths.
   module _ {room : ℕ} where
-    pub attempted : {r : Attempt} {answer : Written} {a a' b b' c c' : List ℕ} → r ≡ record { written = answer; retry = false }
-        → Says answer a a' b b' c c' → Attempted left right room r a a' b b' c c'
-    attempted is s = rw is (record { says = λ _. s; enough = λ _. refl })
+    pub attempted : {answer : Result ℕ Refusal} {a a' b b' c c' : List ℕ} → Says (written answer) a a' b b' c c' → Attempted left right room (Some answer) a a' b b' c c'
+    attempted s = record { says = s; enough = λ _. refl }
 
-    pub attempted_again : {answer : Written} {a a' b b' c c' : List ℕ} → room < max_states
-        → Attempted left right room (record { written = answer; retry = true }) a a' b b' c c'
-    attempted_again less = record { says = λ e. never (sym e); enough = λ h. absurd (omega arith) }
+    pub attempted_again : {a a' b b' c c' : List ℕ} → room < max_states → Attempted left right room None a a' b b' c c'
+    attempted_again less = record { says = tt; enough = λ h. absurd (omega arith) }
 
-    pub attempted_same : (r : Attempt) (a a₀ a' b b₀ b' c c₀ c' : List ℕ) → length a ≡ length a₀ → length b ≡ length b₀ → length c ≡ length c₀
+    pub attempted_same : (r : Option (Result ℕ Refusal)) (a a₀ a' b b₀ b' c c₀ c' : List ℕ) → length a ≡ length a₀ → length b ≡ length b₀ → length c ≡ length c₀
         → Attempted left right room r a a' b b' c c' → Attempted left right room r a₀ a' b₀ b' c₀ c'
     attempted_same r a a₀ a' b b₀ b' c c₀ c' la lb lc s =
-        record { says = λ e. says_same r.written a a₀ a' b b₀ b' c c₀ c' la lb lc (s.says e); enough = s.enough }
+        record { says = IfSome_then r s.says (λ w said. says_same (written w) a a₀ a' b b₀ b' c c₀ c' la lb lc said); enough = s.enough }
 
   -- The walk has been lent the part of the buffer from a place on.
   module _ (w : Walk) (held origins states : List ℕ) (told : WalkTold 2 (key_walk t u) w held origins states) (table : List ℕ) where

@@ -18,7 +18,7 @@ use Rattle.explore.specs.Chain.{Chained}
 use Rattle.explore.specs.Walk.{Keyed, Sofar, with_key, taken, all_taken, state_served, traced_by, Records, Walked, Went}
 use Rattle.wire.proofs.Bool.{by_test}
 use Rattle.explore.proofs.Recording.{KeyKept}
-use Rattle.explore.proofs.Walking.{walked_next, Taking, taking_state, taking_part, taking_full, taking_stop}
+use Rattle.explore.proofs.Walking.{walked_next, Taking, taking_state, taking_next, taking_part, taking_full, taking_stop}
 use Rattle.steps.specs.declared.Begin.{Begin}
 use Rattle.steps.specs.declared.Origin.{Origin}
 use Rattle.steps.specs.declared.Run.{Run}
@@ -94,6 +94,19 @@ module _ (u : Transducer) (r : Run) (to j : ℕ) where
   pub run_left_none : to ≤ j → run_left u r to j ≡ []
   unfolding run_steps
   run_left_none end = let none : to - j ≡ 0 = omega arith in rw none
+
+-- The next step is taken, and its target stored where the search for it has ended.
+pub taking_kept : {u : Transducer} {r : Run} {to j k source number : ℕ} {goal : Sofar} {s : Step} {w w₁ w' : Walk}
+    {table table' origins origins' states states' heads heads' links links' : List ℕ}
+    (g : Taking 2 source (run_left u r to j) goal w table origins states heads links) → NextStep u r j to k → s ≡ run_step u r j
+    → KeyKept s.target g.sofar.keys number w w₁ states' heads' links'
+    → Records (record { source = source; input = s.input; output = s.output; target = number; weight = s.weight }) w₁ w' table table'
+    → origins' ≡ traced_by 2 w₁.arcs (origin_pair s.origin) origins
+    → Taking 2 source (run_left u r to k) goal w' table' origins' states' heads' links'
+taking_kept {u} {r} {to} {j} {k} {source} {number} {goal} {s} {w} {w₁} {w'} {table} {table'} {origins} {origins'} {states} {states'} {heads} {heads'}
+    {links} {links'} g next is kept records o =
+    taking_next g (keyed_step s) (run_left u r to k) (run_left_next u r to j k s next is) w' table' origins' states' heads' links'
+    (step_kept g.sofar source number s w w₁ w' table table' origins origins' states states' heads heads' links links' g.walked kept records o)
 
 -- Where the arcs of a composed state's parts stand: the left ones from `first` to below `last`, the right ones up to below `to`.
 pub record Placed (t u : Transducer) (x : State) (first last to : ℕ) : Type 0 where

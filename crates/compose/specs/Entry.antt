@@ -1,6 +1,6 @@
 -- What composing answers and leaves behind. Assumes nothing: these are definitions.
 use Rattle.std.specs.Prelude.{◌||◌, cond, List, ℕ, ltb}
-use Rattle.transducer.specs.declared.Written.{Written}
+use Rattle.transducer.specs.Answer.{Written}
 use Rattle.transducer.specs.Format.{Transducer, max_states, max_bytes, max_origins, refusal, decode}
 use Rattle.transducer.specs.Encode.{encode}
 use Rattle.transducer.specs.Each.{any_refusal}

@@ -1,5 +1,5 @@
 -- What is written when the walk is done: the finals of the states met, by their keys. Assumes nothing: these are definitions.
-use Rattle.std.specs.Prelude.{◌≡◌, Bool, true, false, ◌&&◌, not, List, ℕ, ◌≤◌, ◌<◌, eqb, length, get_or}
+use Rattle.std.specs.Prelude.{Option, Result, IfSome, is_some, ◌≡◌, Bool, true, ◌&&◌, not, List, ℕ, ◌≤◌, ◌<◌, eqb, length, get_or}
 use Rattle.transducer.specs.declared.Final.{Final}
 use Rattle.transducer.specs.Format.{max_states, max_arcs, max_bytes, max_origins, arcs_at, refusal, decode}
 use Rattle.transducer.specs.Each.{has_no_any_input}
@@ -9,7 +9,7 @@ use Rattle.explore.specs.declared.Walk.{Walk}
 use Rattle.explore.specs.Explore.{finals_from, built_refusal}
 use Rattle.explore.specs.Walk.{WalkTold}
 use Rattle.steps.specs.Packing.{unpacked, Bounded}
-use Rattle.compose.specs.declared.entry.Attempt.{Attempt}
+use Rattle.transducer.specs.Answer.{Refusal, written}
 use Rattle.compose.specs.Compose.{composed}
 use Rattle.compose.specs.Entry.{ComposeSays}
 use Rattle.compose.specs.Walk.{key_walk}
@@ -47,8 +47,8 @@ pub record WalkedThrough (left right : List ℕ) (w : Walk) (arcs origins states
   pub told : WalkTold 2 (key_walk (decode left) (decode right)) w arcs origins states
   pub few_arcs : w.arcs ≤ max_arcs
 
--- What an attempt leaves that has room for some finals: the answer, unless it is to be made again, which it is not where there is room for 1,024.
-pub record Attempted (left right : List ℕ) (room : ℕ) (r : Attempt) (a a' b b' c c' : List ℕ) : Type 0 where
-  pub says : r.retry ≡ false
-      → ComposeSays left right (built_refusal (composed (decode left) (decode right)).result) r.written a a' b b' c c'
-  pub enough : max_states ≤ room → r.retry ≡ false
+-- What an attempt leaves that has room for some finals: the answer, unless there is none and it is to be made again, which is not so where there is
+-- room for 1,024.
+pub record Attempted (left right : List ℕ) (room : ℕ) (r : Option (Result ℕ Refusal)) (a a' b b' c c' : List ℕ) : Type 0 where
+  pub says : IfSome r (λ answer. ComposeSays left right (built_refusal (composed (decode left) (decode right)).result) (written answer) a a' b b' c c')
+  pub enough : max_states ≤ room → is_some r ≡ true

@@ -1,6 +1,6 @@
 -- The walk that composes: states as keys, and steps with keys for targets. Assumes nothing: these are definitions.
 use Rattle.std.specs.Prelude.{◌≡◌, Bool, true, List, map, ℕ}
-use Rattle.transducer.specs.Format.{Transducer, decode}
+use Rattle.transducer.specs.Format.{Transducer, Good, decode}
 use Rattle.transducer.specs.Each.{has_no_any_input}
 use Rattle.transducer.specs.Accepted.{AcceptedAt, Indexed}
 use Rattle.explore.specs.Walk.{Keyed, Sofar, explored}
@@ -9,6 +9,8 @@ use Rattle.steps.specs.Steps.{steps, first_state, origin_pair}
 use Rattle.steps.specs.Lookup.{Lookup}
 use Rattle.steps.specs.Packing.{pack, unpacked}
 use Rattle.steps.specs.Runs.{coded}
+use Rattle.compose.specs.declared.sides.Side.{Side}
+use Rattle.compose.specs.declared.sides.Sides.{Sides}
 
 -- A step of the code as the walk by keys takes it, and the steps of the state of a key.
 unfoldable pub keyed_step : Step → Keyed
@@ -22,16 +24,24 @@ key_steps t u key = map keyed_step (map coded (steps t u (unpacked key)))
 abbrev pub key_walk : (t u : Transducer) → Sofar
 key_walk t u = explored (key_steps t u) (pack (first_state t u))
 
+-- The two transducers that a walk reads.
+abbrev pub left_of : Sides → Transducer
+left_of s = decode s.left.bytes.now
+
+abbrev pub right_of : Sides → Transducer
+right_of s = decode s.right.bytes.now
+
 -- Two accepted transducers with their first-arc indexes; `no_any` where none of the right one's arcs is for any symbol.
-pub record BothIndexed (left : List ℕ) (lfirst : ℕ) (lindex right : List ℕ) (rfirst : ℕ) (rindex : List ℕ) (no_any : Bool) : Type 0 where
-  pub left_open : AcceptedAt left lfirst
-  pub left_index : Indexed (decode left) lindex
-  pub right_open : AcceptedAt right rfirst
-  pub right_index : Indexed (decode right) rindex
-  pub right_no_any : no_any ≡ true → has_no_any_input (decode right) ≡ true
+pub record BothIndexed (left right : Side) (no_any : Bool) : Type 0 where
+  pub left_good : Good (decode left.bytes.now)
+  pub left_open : AcceptedAt left.bytes.now left.first
+  pub left_index : Indexed (decode left.bytes.now) left.index.now
+  pub right_good : Good (decode right.bytes.now)
+  pub right_open : AcceptedAt right.bytes.now right.first
+  pub right_index : Indexed (decode right.bytes.now) right.index.now
+  pub right_no_any : no_any ≡ true → has_no_any_input (decode right.bytes.now) ≡ true
 
 -- Both of them with the look-up of the right one's arcs.
-pub record Walkable (left : List ℕ) (lfirst : ℕ) (lindex right : List ℕ) (rfirst : ℕ) (rindex : List ℕ)
-    (heads chain again : List ℕ) (no_any : Bool) : Type 0 where
-  pub both : BothIndexed left lfirst lindex right rfirst rindex no_any
-  pub right_lookup : Lookup (decode right) heads chain again
+pub record Walkable (s : Sides) : Type 0 where
+  pub both : BothIndexed s.left s.right s.no_any_input
+  pub right_lookup : Lookup (right_of s) s.heads.now s.chain.now s.next_same_label.now

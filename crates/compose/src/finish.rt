@@ -20,26 +20,19 @@ pub fn put_finals(
 {
     let mut finals = 0;
     let mut overflow = false;
-    let mut s = 0;
-    while s < count {
-        let state = s as u16;
+    for s in 0..count {
         let x = steps::unpack(states[s]);
-        let p = x.left as usize;
-        let q = x.right as usize;
-        let a = lcodes[p];
-        let b = rcodes[q];
-        s += 1;
-        if a != 0 {
-            if b != 0 {
-                let weight = transducer::weight_of(a) + transducer::weight_of(b);
-                let f = Final {
-                    state: state,
-                    weight: weight,
-                };
-                transducer::put_final(table, HEAD_BYTES + FINAL_BYTES * finals, f);
-                overflow = overflow | !transducer::weight_ok(weight);
-                finals += 1;
-            }
+        let a = lcodes[x.left as usize];
+        let b = rcodes[x.right as usize];
+        if a != 0 && b != 0 {
+            let weight = transducer::weight_of(a) + transducer::weight_of(b);
+            let f = Final {
+                state: s as u16,
+                weight: weight,
+            };
+            transducer::put_final(table, HEAD_BYTES + FINAL_BYTES * finals, f);
+            overflow |= !transducer::weight_ok(weight);
+            finals += 1;
         }
     }
     FinalsPut {

@@ -3,6 +3,7 @@
 
 mod entry;
 mod finish;
+mod sides;
 mod walking;
 
 pub use entry::{compose, compose_into};

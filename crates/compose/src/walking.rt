@@ -1,20 +1,23 @@
 // The walk: each state is served in turn, its steps taken, their targets numbered as first reached.
 ghost use Rattle.std.specs.Prelude.{◌≡◌, true, false, cond, ◌≤◌, ◌<◌, length, get_or};
-ghost use Rattle.transducer.specs.Format.{max_states, max_origins, decode};
-ghost use Rattle.transducer.specs.Accepted.{AcceptedAt};
+ghost use Rattle.transducer.specs.Format.{max_states, max_origins};
 ghost use Rattle.explore.specs.Walk.{all_taken, state_served, traced_by, max_arc_bytes, Records, Holds, Takes, WalkSays};
 ghost use Rattle.steps.specs.Steps.{first_state, origin_pair};
-ghost use Rattle.steps.specs.Lookup.{NextSameLabel};
 ghost use Rattle.steps.specs.Packing.{pack, unpacked};
 ghost use Rattle.steps.specs.Runs.{Takeable, InBoth};
-ghost use Rattle.compose.specs.Walk.{key_steps, key_walk, Walkable};
+ghost use Rattle.compose.specs.Walk.{left_of, right_of, key_steps, key_walk, Walkable};
 ghost use Rattle.compose.specs.Taking.{run_left};
 
+use crate::sides::{Side, Sides};
 use explore::{BUCKETS, Walk};
-use steps::{Begin, LABEL_BUCKETS, Origin, Run, Step};
-use transducer::{Arc, INDEX_LEN, MAX_ARCS, MAX_STATES};
+use steps::{Begin, Origin, Run, Step};
+use transducer::{Arc, MAX_ARCS, MAX_STATES};
+
+// The buffers that a walk writes go as they are: two fields of a struct of `&mut` cannot be lent to one call, and of such a struct passed by value a contract
+// could name what is left behind by position alone.
 
 // The number that a state beyond the limit would have.
+// It is compared with the number that `explore::find` gives, which is no Option.
 const FULL: usize = MAX_STATES;
 
 // Writes the origins of the arc of number `arcs`, where there is room for that arc.
@@ -56,8 +59,7 @@ fn record_step(
 
 // Takes the step of a run of a left arc alone, from a state of number `source`.
 fn take_one(
-    right: &[u8],
-    rfirst: usize,
+    sides: &Sides<'_>,
     r: Run,
     source: u16,
     from: usize,
@@ -69,41 +71,33 @@ fn take_one(
     heads: &mut [u16; BUCKETS],
     links: &mut [u16; MAX_STATES],
 ) -> Walk
-    requires accepted_at { AcceptedAt right.now rfirst × Takeable (decode right.now) r from to × (r.alone ≡ true) }
+    requires walkable { Walkable sides.now }
+    requires takeable { Takeable (right_of sides.now) r from to × (r.alone ≡ true) }
     requires holds { Holds 2 w table.old origins.old states.old heads.old links.old }
-    ensures { Takes 2 (all_taken source (run_left (decode right.now) r to from)) w result table.old table.new
+    ensures { Takes 2 (all_taken source (run_left (right_of sides.now) r to from)) w result table.old table.new
         origins.old origins.new states.old states.new
         heads.old heads.new links.old links.new }
 {
     if to <= from {
         return w;
     }
-    let s = steps::step_of(r, right, rfirst, from);
+    let s = steps::step_of(r, sides.right.bytes, sides.right.first, from);
     let key = s.target;
     let count = w.states;
     let number = explore::find(states, heads, links, count, key);
     if number == FULL {
-        return Walk {
-            states: count,
-            arcs: w.arcs,
-            overflow: w.overflow,
-            full: 1,
-        };
+        return Walk { full: 1, ..w };
     }
     let next = Walk {
         states: explore::store_new(states, heads, links, count, key, number),
-        arcs: w.arcs,
-        overflow: w.overflow,
-        full: w.full,
+        ..w
     };
     record_step(table, origins, next, source, s, number)
 }
 
 // Takes the steps of a run with right arcs, from a state of number `source`; the first of them with right arc `from`.
 fn take_each(
-    right: &[u8],
-    rfirst: usize,
-    next_same_label: &[u16],
+    sides: &Sides<'_>,
     r: Run,
     source: u16,
     from: usize,
@@ -115,21 +109,27 @@ fn take_each(
     heads: &mut [u16; BUCKETS],
     links: &mut [u16; MAX_STATES],
 ) -> Walk
-    requires accepted_at { AcceptedAt right.now rfirst × NextSameLabel (decode right.now) 0 next_same_label.now
-        × Takeable (decode right.now) r from to × (r.alone ≡ false) }
+    requires walkable { Walkable sides.now }
+    requires takeable { Takeable (right_of sides.now) r from to × (r.alone ≡ false) }
     requires holds { Holds 2 w table.old origins.old states.old heads.old links.old }
-    ensures { Takes 2 (all_taken source (run_left (decode right.now) r to from)) w result table.old table.new
+    ensures { Takes 2 (all_taken source (run_left (right_of sides.now) r to from)) w result table.old table.new
         origins.old origins.new states.old states.new
         heads.old heads.new links.old links.new }
 {
+    let right = sides.right.bytes;
+    let first = sides.right.first;
+    let next_same_label = sides.next_same_label;
     let mut walk = w;
     let mut j = from;
+    // The right arcs that fit are followed by links, so there is no index to count.
     while j < to {
-        let s = steps::step_of(r, right, rfirst, j);
+        let s = steps::step_of(r, right, first, j);
         let key = s.target;
         let count = walk.states;
+        // The search of `explore::find` stands here once more: what it finds is stored without a second look.
         // A state met before keeps the number it was first given, and a new one is stored where the search ends.
         let mut next = heads[explore::bucket(key)] as usize;
+        // The stored states of a bucket are followed by links, so there is no index to count.
         let number = loop {
             if next == 0 {
                 if count == FULL {
@@ -159,9 +159,7 @@ fn take_each(
 
 // Takes the steps of a run. One alone is told from the others once, not at each step.
 fn take_run(
-    right: &[u8],
-    rfirst: usize,
-    next_same_label: &[u16],
+    sides: &Sides<'_>,
     r: Run,
     source: u16,
     from: usize,
@@ -173,56 +171,34 @@ fn take_run(
     heads: &mut [u16; BUCKETS],
     links: &mut [u16; MAX_STATES],
 ) -> Walk
-    requires accepted_at { AcceptedAt right.now rfirst × NextSameLabel (decode right.now) 0 next_same_label.now × Takeable (decode right.now) r from to }
+    requires walkable { Walkable sides.now }
+    requires takeable { Takeable (right_of sides.now) r from to }
     requires holds { Holds 2 w table.old origins.old states.old heads.old links.old }
-    ensures { Takes 2 (all_taken source (run_left (decode right.now) r to from)) w result table.old table.new
+    ensures { Takes 2 (all_taken source (run_left (right_of sides.now) r to from)) w result table.old table.new
         origins.old origins.new states.old states.new
         heads.old heads.new links.old links.new }
 {
     if r.alone {
-        return take_one(
-            right, rfirst, r, source, from, to, w, table, origins, states, heads, links,
-        );
+        take_one(
+            sides, r, source, from, to, w, table, origins, states, heads, links,
+        )
+    } else {
+        take_each(
+            sides, r, source, from, to, w, table, origins, states, heads, links,
+        )
     }
-    take_each(
-        right,
-        rfirst,
-        next_same_label,
-        r,
-        source,
-        from,
-        to,
-        w,
-        table,
-        origins,
-        states,
-        heads,
-        links,
-    )
 }
 
 // The right arc behind those of a run that begins there: a left arc alone takes none, and counts as one.
 fn end_of(at: Begin, to: usize) -> usize
     ensures { result ≡ cond at.alone 1 to }
 {
-    if at.alone {
-        return 1;
-    }
-    to
+    if at.alone { 1 } else { to }
 }
 
 // Serves the state of number `source`: takes all its steps, in order.
 fn expand_state(
-    left: &[u8],
-    lfirst: usize,
-    lindex: &[u16; INDEX_LEN],
-    right: &[u8],
-    rfirst: usize,
-    rindex: &[u16; INDEX_LEN],
-    rheads: &[u16; LABEL_BUCKETS],
-    chain: &[u16],
-    next_same_label: &[u16],
-    no_any_input: bool,
+    sides: &Sides<'_>,
     source: usize,
     w: Walk,
     table: &mut [u8],
@@ -231,35 +207,55 @@ fn expand_state(
     heads: &mut [u16; BUCKETS],
     links: &mut [u16; MAX_STATES],
 ) -> Walk
-    requires walkable { Walkable left.now lfirst lindex.now right.now rfirst rindex.now rheads.now chain.now next_same_label.now no_any_input
-        × (source < w.states) }
-    requires in_both { InBoth (decode left.now) (decode right.now) (unpacked (get_or states.old source 0)) }
+    requires walkable { Walkable sides.now }
+    requires source_met { source < w.states }
+    requires in_both { InBoth (left_of sides.now) (right_of sides.now) (unpacked (get_or states.old source 0)) }
     requires holds { Holds 2 w table.old origins.old states.old heads.old links.old }
-    ensures { Takes 2 (state_served (key_steps (decode left.now) (decode right.now)) source) w result
+    ensures { Takes 2 (state_served (key_steps (left_of sides.now) (right_of sides.now)) source) w result
         table.old table.new
         origins.old origins.new states.old states.new
         heads.old heads.new links.old links.new }
 {
+    let Side {
+        bytes: left,
+        first: lfirst,
+        index: lindex,
+    } = sides.left;
+    let Side {
+        bytes: right,
+        first: rfirst,
+        index: rindex,
+    } = sides.right;
+    let heads_of = sides.heads;
+    let chain = sides.chain;
     let x = steps::unpack(states[source]);
     let p = x.left as usize;
     let q = x.right as usize;
     let from = rindex[q] as usize;
     let to = rindex[q + 1] as usize;
     let last = lindex[p + 1] as usize;
-    let wild = steps::first_any(right, rfirst, rheads, chain, no_any_input, q as u16, to);
+    let wild = steps::first_any(
+        right,
+        rfirst,
+        heads_of,
+        chain,
+        sides.no_any_input,
+        q as u16,
+        to,
+    );
     let mut walk = w;
     let mut i = lindex[p] as usize;
     let only = steps::only_label(right, rfirst, from, wild, to, i, last);
+    // The runs are found by jumps over left arcs that take no step, so there is no index to count.
     while i <= last {
         let at = steps::next_run(
-            left, lfirst, i, last, x.filter, right, rfirst, rheads, chain, q as u16, only, wild, to,
+            left, lfirst, i, last, x.filter, right, rfirst, heads_of, chain, q as u16, only, wild,
+            to,
         );
         let r = steps::run_of(left, lfirst, at, last, x);
         let end = end_of(at, to);
         walk = take_run(
-            right,
-            rfirst,
-            next_same_label,
+            sides,
             r,
             source as u16,
             at.j,
@@ -281,25 +277,16 @@ fn expand_state(
 
 // Walks from the first state, until each state that was met is served or there are too many.
 pub fn walk_all(
-    left: &[u8],
-    lfirst: usize,
-    lindex: &[u16; INDEX_LEN],
-    right: &[u8],
-    rfirst: usize,
-    rindex: &[u16; INDEX_LEN],
-    rheads: &[u16; LABEL_BUCKETS],
-    chain: &[u16],
-    next_same_label: &[u16],
-    no_any_input: bool,
+    sides: &Sides<'_>,
     first: u32,
     table: &mut [u8],
     origins: &mut [u16],
     states: &mut [u32],
 ) -> Walk
-    requires walkable { Walkable left.now lfirst lindex.now right.now rfirst rindex.now rheads.now chain.now next_same_label.now no_any_input }
-    requires first_value { first ≡ pack (first_state (decode left.now) (decode right.now)) }
+    requires walkable { Walkable sides.now }
+    requires first_value { first ≡ pack (first_state (left_of sides.now) (right_of sides.now)) }
     requires max_arc_bytes_in_bounds { (max_arc_bytes ≤ length table.old) × (max_origins ≤ length origins.old) × (max_states ≤ length states.old) }
-    ensures { WalkSays 2 (key_walk (decode left.now) (decode right.now)) result table.old table.new
+    ensures { WalkSays 2 (key_walk (left_of sides.now) (right_of sides.now)) result table.old table.new
         origins.old origins.new states.old states.new }
 {
     let mut heads = [0u16; BUCKETS];
@@ -312,25 +299,10 @@ pub fn walk_all(
         full: 0,
     };
     let mut s = 0;
+    // The states to be served grow in number while they are served, so they are no range.
     while s < walk.states {
         walk = expand_state(
-            left,
-            lfirst,
-            lindex,
-            right,
-            rfirst,
-            rindex,
-            rheads,
-            chain,
-            next_same_label,
-            no_any_input,
-            s,
-            walk,
-            table,
-            origins,
-            states,
-            &mut heads,
-            &mut links,
+            sides, s, walk, table, origins, states, &mut heads, &mut links,
         );
         if walk.full != 0 {
             return walk;

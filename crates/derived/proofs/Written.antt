@@ -1,11 +1,10 @@
 -- The head and the finals copied, arcs written behind them, and what was written read back. Assumes nothing.
-use mathlib.Core.Path.{◌≡◌, refl, sym, ap, ◌∙◌}
-use mathlib.Core.List.{List, [], ◌∷◌, ◌++◌, append_assoc}
-use Prim.Native.Nat.{ℕ, ◌+◌, ◌*◌, ◌≤◌, ◌<◌}
-use native.Mathlib.Numerals.{add-one}
+use mathlib.Core.Path.{◌≡◌, sym, ap, ◌∙◌}
+use mathlib.Core.List.{List, ◌++◌, append_assoc}
+use Prim.Native.Nat.{ℕ, ◌+◌, ◌*◌, ◌≤◌}
 use native.Mathlib.Omega.{arith}
-use lib.ListN.{length, get_or, set, take, drop, length-append, length-set}
-use lib.Seq.{sets, sets-eq, take-suc, take-suc-set, take-length, take-append-le, take_at}
+use lib.ListN.{length, take, drop, length-append}
+use lib.Seq.{sets, sets-eq, take-length, take-append-le, take_at}
 use Rattle.wire.specs.Bytes.{Bytes}
 use Rattle.transducer.specs.declared.Arc.{Arc}
 use Rattle.transducer.specs.Format.{Transducer, Good, refusal, decode, arc_bytes, arcs_at}
@@ -29,22 +28,6 @@ puts_by t len out rest size is =
     record {
       len_is = size;
       table = ap (take len) is ∙ (ap (λ (k : ℕ). take k (e ++ rest)) size ∙ (take-append-le (length e) e rest (omega arith) ∙ take-length e));
-    }
-
--- The loop that copies: the first i bytes are copied.
-pub record Copied (xs out₀ out : List ℕ) (i : ℕ) : Type 0 where
-  pub long : length out ≡ length out₀
-  pub same : take i out ≡ take i xs
-
-pub copied_first : (xs out : List ℕ) → Copied xs out out 0
-copied_first xs out = record { long = refl; same = refl }
-
-pub copied_next : (xs out₀ out : List ℕ) (i : ℕ) → i < length xs → i < length out → Copied xs out₀ out i → Copied xs out₀ (set out i (get_or xs i 0)) (i + 1)
-copied_next xs out₀ out i h k c =
-    let x : ℕ = get_or xs i 0 in
-    record {
-      long = length-set out i x ∙ c.long;
-      same = rw add-one (take-suc-set out i x k ∙ (ap (λ (l : List ℕ). l ++ (x ∷ [])) c.same ∙ sym (take-suc xs i 0 h)));
     }
 
 -- The head of a transducer.

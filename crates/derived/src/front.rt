@@ -6,9 +6,5 @@ pub fn copy_front(table: &[u8], end: usize, out: &mut [u8])
     requires { (end ≤ length table.now) × (end ≤ length out.old) }
     ensures { take end out.new ≡ take end table.now }
 {
-    let mut i = 0;
-    while i < end {
-        out[i] = table[i];
-        i += 1;
-    }
+    out[..end].copy_from_slice(&table[..end]);
 }

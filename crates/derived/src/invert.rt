@@ -12,15 +12,14 @@ use crate::front;
 use transducer::Arc;
 
 // Exchanges the labels of an arc.
+#[tactic(auto, unfolding(crate::specs::Inverted::inverted_arc))]
 fn inverted_arc(a: Arc) -> Arc
     ensures { result ≡ inverted_arc a }
 {
     Arc {
-        source: a.source,
         input: a.output,
         output: a.input,
-        target: a.target,
-        weight: a.weight,
+        ..a
     }
 }
 
@@ -29,11 +28,9 @@ fn put_inverted(table: &[u8], first: usize, arcs: usize, out: &mut [u8])
     requires { AcceptedAt table.now first × (arcs ≡ length (decode table.now).arcs) × (first + arc_bytes * arcs ≤ length out.old) }
     ensures { out.new ≡ sets out.old first (arc_records (map inverted_arc (decode table.now).arcs)) }
 {
-    let mut i = 0;
-    while i < arcs {
+    for i in 0..arcs {
         let a = transducer::arc_of(table, first, i);
         transducer::put_arc(out, first + transducer::ARC_BYTES * i, inverted_arc(a));
-        i += 1;
     }
 }
 

@@ -14,7 +14,7 @@ use crate::front;
 fn sum_at_most(coming: i32, weight: i32, rest: i32, most: i64) -> bool
     ensures { result ≡ at_most (plus coming (plus weight rest)) most }
 {
-    coming as i64 + (weight as i64 + rest as i64) <= most
+    i64::from(coming) + (i64::from(weight) + i64::from(rest)) <= most
 }
 
 // Writes the arcs that are within the bound from `at` on, and their numbers to the front of `numbers`. Returns how many there are.
@@ -34,19 +34,16 @@ fn put_within(
     ensures { PassingPut (within_bound coming.now rest.now most) unchanged (decode table.now).arcs at result
         out.old out.new numbers.old numbers.new }
 {
-    let mut i = 0;
     let mut count = 0;
-    while i < arcs {
+    for i in 0..arcs {
         let a = transducer::arc_of(table, first, i);
         let s = a.source as usize;
         let t = a.target as usize;
-        let number = i;
-        i += 1;
         if !sum_at_most(coming[s], a.weight, rest[t], most) {
             continue;
         }
         transducer::put_arc(out, at + transducer::ARC_BYTES * count, a);
-        numbers[count] = number as u16;
+        numbers[count] = i as u16;
         count += 1;
     }
     count

@@ -8,6 +8,7 @@ use Rattle.transducer.specs.Format.{min_weight, decode, refusal}
 use Rattle.transducer.specs.Path.{arc, no_arc}
 use Rattle.transducer.specs.Weight.{AtMost}
 use Rattle.transducer.specs.Accepted.{ValidationSays}
+use Rattle.transducer.specs.Answer.{validated}
 use Rattle.transducer.proofs.Good.{arc_light}
 use Rattle.transducer.proofs.Weights.{good_range}
 use Rattle.reach.proofs.Sized.{Sized}
@@ -17,7 +18,7 @@ lightest : (bs : List ℕ) → Sized (decode bs) → (i : ℕ) → i < length (d
 unfolding arc
 lightest bs size i l = (good_range (arc (decode bs) i).weight (arc_light (decode bs) size.content i no_arc l)).low
 
-pub unvalidated_says : (bs : List ℕ) → Sized (decode bs) → refusal bs ≡ 0 → ValidationSays bs unvalidated
+pub unvalidated_says : (bs : List ℕ) → Sized (decode bs) → refusal bs ≡ 0 → ValidationSays bs (validated unvalidated)
 unvalidated_says bs size ok =
     record {
       refusal_is = sym ok;

@@ -1,68 +1,45 @@
 -- The lent cells as they are written: the costs, none past the last state, and zeros behind. Assumes nothing.
 use mathlib.Core.Path.{◌≡◌, refl, sym, ap, ◌∙◌}
 use mathlib.Core.Bool.{Bool, true, false, cond}
-use mathlib.Core.List.{List, [], ◌∷◌}
-use Prim.Native.Nat.{ℕ, zero, suc, ◌+◌, ◌≤◌, ◌<◌}
+use mathlib.Core.List.{List}
+use Prim.Native.Nat.{ℕ, ◌-◌, ◌≤◌, ◌<◌}
 use native.Mathlib.Omega.{arith}
-use native.Mathlib.Decide.{ℕ_discrete}
-use native.Mathlib.Nat.{not-suc-le-zero}
 use lib.Dec.{ltb}
-use lib.ListN.{length, get_or, set, length-set}
-use lib.Seq.{get_or-set_same, get_or-set_other, ext_get_or}
-use mir.Syntax.{w32}
-use mir.Val.{to_z, of_z}
-use mir.Facts.{to_z-of_z}
+use lib.ListN.{length, take, drop, length-drop}
+use lib.Seq.{ext_get_or, length-take-le}
+use borrow.Rule.Slice.PartMut.{put_mid, same_len_mid}
+use borrow.Author.Rules.{rules}
+use Rattle.std.proofs.Common.{replicate}
+use Rattle.std.proofs.lemmas.List.{places as at_place, length-replicate, get_or_past}
 use borrow.Author.Tests.{ltb-true, ltb-false}
 use Rattle.wire.specs.Bytes.{places, padded, signed_filled}
-use Rattle.wire.proofs.Ints.{size}
-use Rattle.transducer.proofs.Weights.{sums}
 use Rattle.wire.proofs.Places.{length_places, get_or_places, length_padded, get_or_padded}
 use Rattle.transducer.specs.Format.{max_states}
-use Rattle.transducer.specs.Weight.{Weight, no_weight, AtMost}
+use Rattle.transducer.specs.Weight.{Weight, no_weight}
 use Rattle.distance.specs.Distance.{no_path}
-use Rattle.relax.specs.Tentative.{unreached, cost_at, least_cost}
+use Rattle.relax.specs.Tentative.{cost_at}
 use Rattle.distance.specs.Ended.{cost_told}
-use Rattle.distance.specs.Entry.{cost_or_none, Copied, Spanned}
+use Rattle.distance.specs.Entry.{cost_or_none, Copied}
 
--- A cost as it is read and handed on in 32 bits.
-pub cost_back : (x : Weight) → AtMost least_cost x → AtMost x unreached → to_z w32 (of_z w32 x) ≡ x
-cost_back x low high = to_z-of_z {w = w32} (record { sfits = omega (arith, sums, size x, low, high) })
+-- One cost put into the cells from a place to below another.
+pub record Spanned (from to : ℕ) (x : Weight) (cells cells' : List Weight) : Type 0 where
+  pub long : length cells' ≡ length cells
+  pub kept : (s : ℕ) → s < from → cost_at cells' s ≡ cost_at cells s
+  pub put : (s : ℕ) → from ≤ s → s < to → cost_at cells' s ≡ x
 
-pub copied_first : (costs cells : List Weight) → Copied 0 costs cells cells
-copied_first costs cells = record { long = refl; put = λ s h. absurd (not-suc-le-zero h) }
-
-pub copied_next : (s : ℕ) (costs cells cells' : List Weight) → Copied s costs cells cells' → s < length cells → (x : Weight) → x ≡ cost_told (cost_at costs s)
-    → Copied (s + 1) costs cells (set cells' s x)
-copied_next s costs cells cells' k h x e =
-    record { long = length-set cells' s x ∙ k.long; put = λ u l. put u l (ℕ_discrete u s) }
-  where
-    put : (u : ℕ) → u < s + 1 → Dec (u ≡ s) → cost_at (set cells' s x) u ≡ cost_told (cost_at costs u)
-    put u l (yes q) = rw q (get_or-set_same cells' s x no_weight (omega (arith, k.long)) ∙ e)
-    put u l (no n) = get_or-set_other cells' s u x no_weight n ∙ k.put u (omega arith)
-
-pub spanned_first : (from : ℕ) (x : Weight) (cells : List Weight) → Spanned from from x cells cells
-spanned_first from x cells = record { long = refl; kept = λ s h. refl; put = λ s a b. absurd (omega arith) }
-
-pub spanned_next : (from at : ℕ) (x : Weight) (cells cells' : List Weight) → from ≤ at → Spanned from at x cells cells' → at < length cells
-    → Spanned from (at + 1) x cells (set cells' at x)
-spanned_next from at x cells cells' low k h =
+pub spanned : (from to : ℕ) (x : Weight) (cells part : List Weight) → from ≤ to → to ≤ length cells
+    → part ≡ replicate (length (take (to - from) (drop from cells))) x → Spanned from to x cells (put_mid from (to - from) cells part)
+spanned from to x cells part low high is =
+    let many : length part ≡ length (take (to - from) (drop from cells)) = ap length is ∙ length-replicate _ x in
+    let count : length (take (to - from) (drop from cells)) ≡ to - from = length-take-le (to - from) (drop from cells) (omega (arith, length-drop from cells)) in
+    let filled : part ≡ replicate (to - from) x = is ∙ ap (λ (n : ℕ). replicate n x) count in
     record {
-      long = length-set cells' at x ∙ k.long;
-      kept = λ u l. get_or-set_other cells' at u x no_weight (λ e. omega arith) ∙ k.kept u l;
-      put = λ u a b. put u a b (ℕ_discrete u at);
+      long = same_len_mid from (to - from) cells part many;
+      kept = λ s h. search (rules, at_place);
+      put = λ s h l. rw filled (search (rules, at_place));
     }
-  where
-    put : (u : ℕ) → from ≤ u → u < at + 1 → Dec (u ≡ at) → cost_at (set cells' at x) u ≡ x
-    put u a b (yes q) = rw q (get_or-set_same cells' at x no_weight (omega (arith, k.long)))
-    put u a b (no n) = get_or-set_other cells' at u x no_weight n ∙ k.put u a (omega arith)
 
--- Past its end a list has what is asked for there.
-get_d_past : {A : Type 0} (l : List A) (i : ℕ) (d : A) → length l ≤ i → get_or l i d ≡ d
-get_d_past [] i d h = refl
-get_d_past (x ∷ l) zero d h = absurd (omega arith)
-get_d_past (x ∷ l) (suc i) d h = get_d_past l i d (omega arith)
-
--- All three.
+-- What is copied and the two that are filled, together.
 module _ (states end : ℕ) (costs a b c d : List Weight) (few : states ≤ max_states) (room : max_states ≤ length a) (is_end : end ≡ length c)
     (p : Copied states costs a b) (q : Spanned states max_states no_path b c) (r : Spanned max_states end no_weight c d) where
   wanted : List Weight
@@ -93,7 +70,7 @@ module _ (states end : ℕ) (costs a b c d : List Weight) (few : states ≤ max_
           r.kept s l ∙ (inside s l ∙ sym (wanted_at s l))
       on false e =
           let l : max_states ≤ s = ltb-false s max_states e in
-          r.put s l (omega (arith, r.long, is_end)) ∙ sym (get_d_past wanted s no_weight (omega (arith, length_wanted)))
+          r.put s l (omega (arith, r.long, is_end)) ∙ sym (get_or_past wanted s no_weight (omega (arith, length_wanted)))
 
   pub put_all : d ≡ signed_filled (length a) (places max_states 0 1 (cost_or_none states costs))
   unfolding signed_filled wanted

@@ -1,6 +1,6 @@
 -- What sweeps and queue come to in the end. Assumes nothing: these are definitions.
 use Rattle.std.specs.Prelude.{◌≡◌, Bool, true, false, cond, List, ℕ, ◌<◌}
-use Rattle.transducer.specs.declared.Validation.{Validation}
+use Rattle.transducer.specs.declared.Facts.{Facts}
 use Rattle.transducer.specs.Format.{Transducer, min_weight}
 use Rattle.transducer.specs.Weight.{Weight, below}
 use Rattle.reach.specs.Reach.{accessible}
@@ -9,8 +9,8 @@ use Rattle.relax.specs.Tentative.{Sizes, unreached, cost_at, by_state, Cells, Se
 use Rattle.distance.specs.Distance.{no_path, least_to_come}
 
 -- The facts of validation that hold of all accepted bytes.
-abbrev pub unvalidated : Validation
-unvalidated = record { refusal = 0; least = min_weight; top_sorted = false; no_output_epsilon = false; no_any_input = false }
+abbrev pub unvalidated : Facts
+unvalidated = record { least = min_weight; top_sorted = false; no_output_epsilon = false; no_any_input = false }
 
 -- The states that count: all, or those that the start reaches.
 abbrev pub counted : (everywhere : Bool) → Transducer → (s : ℕ) → Bool

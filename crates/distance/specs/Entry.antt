@@ -1,5 +1,5 @@
 -- What costs to come answer and leave behind. Assumes nothing: these are definitions.
-use Rattle.std.specs.Prelude.{◌≡◌, cond, List, ℕ, ◌≤◌, ◌<◌, ltb, length}
+use Rattle.std.specs.Prelude.{◌≡◌, cond, List, ℕ, ◌<◌, ltb, length}
 use Rattle.wire.specs.Bytes.{places}
 use Rattle.transducer.specs.Format.{Transducer, max_states, refusal, decode}
 use Rattle.transducer.specs.Entry.{or_else, weights_left_in}
@@ -33,9 +33,3 @@ cost_or_none states cs s = cond (ltb s states) (cost_told (cost_at cs s)) no_pat
 pub record Copied (states : ℕ) (costs cells cells' : List Weight) : Type 0 where
   pub long : length cells' ≡ length cells
   pub put : (s : ℕ) → s < states → cost_at cells' s ≡ cost_told (cost_at costs s)
-
--- One cost put into the cells from a place to below another.
-pub record Spanned (from to : ℕ) (x : Weight) (cells cells' : List Weight) : Type 0 where
-  pub long : length cells' ≡ length cells
-  pub kept : (s : ℕ) → s < from → cost_at cells' s ≡ cost_at cells s
-  pub put : (s : ℕ) → from ≤ s → s < to → cost_at cells' s ≡ x

@@ -1,4 +1,4 @@
--- What a caller must believe; of the entry not `cost_or_none`, `Copied` and `Spanned`
+-- What a caller must believe; of the entry neither `cost_or_none` nor `Copied`
 pub mod Distance
 pub mod Entry
 -- What is claimed

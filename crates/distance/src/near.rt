@@ -2,10 +2,11 @@
 ghost use Rattle.std.specs.Prelude.{◌≡◌, ℕ};
 ghost use Rattle.transducer.specs.Format.{decode};
 ghost use Rattle.transducer.specs.Accepted.{ValidationSays};
+ghost use Rattle.transducer.specs.Answer.{validated};
 ghost use Rattle.relax.specs.Begun.{Cleared, Begun};
 ghost use Rattle.distance.specs.Ended.{counted, DistancesSay, unvalidated};
 
-use transducer::{MAX_STATES, Shape, Validation};
+use transducer::{Facts, MAX_STATES, Shape};
 
 // The least cost to come from each state, `everywhere` or where the start leads, with the fewest labels at that cost and the fewest arcs with these; `costs`
 // begins with the empty paths' costs, `lens` with zeros.
@@ -16,11 +17,11 @@ pub fn distances(
     table: &[u8],
     shape: Shape,
     everywhere: bool,
-    seen: Validation,
+    seen: Facts,
     costs: &mut [i32],
     lens: &mut [u32],
 ) -> bool
-    requires { Begun table.now shape costs.old × ValidationSays table.now seen × Cleared {A = ℕ} 0 (decode table.now).states lens.old }
+    requires { Begun table.now shape costs.old × ValidationSays table.now (validated seen) × Cleared {A = ℕ} 0 (decode table.now).states lens.old }
     ensures { DistancesSay (decode table.now) (counted everywhere (decode table.now))
         costs.new lens.new result }
 {
@@ -51,11 +52,10 @@ pub fn distances(
 
 // The facts that hold of all accepted bytes, for bytes that a call made and nobody validated. The sweep is right with them for every table; it spares
 // nothing where states have many arcs.
-pub fn unvalidated() -> Validation
+pub fn unvalidated() -> Facts
     ensures { result ≡ unvalidated }
 {
-    Validation {
-        refusal: 0,
+    Facts {
         least: transducer::MIN_WEIGHT,
         top_sorted: false,
         no_output_epsilon: false,

@@ -9,7 +9,7 @@ use lib.ListN.{length}
 use borrow.Author.Tests.{lt-ltb, le-ltb, le-leb, lt-leb, ne_eqb, not-true, not-false}
 use Rattle.wire.specs.Bytes.{every, filled}
 use Rattle.transducer.specs.Format.{max_arcs, max_states, Transducer, weight_good, weights_good}
-use Rattle.transducer.specs.declared.Written.{Written}
+use Rattle.transducer.specs.Answer.{Written}
 use Rattle.transducer.specs.Entry.{unless}
 use Rattle.explore.specs.Explore.{built_refusal, keeps, left_behind, BuiltSays}
 use Rattle.explore.specs.Walk.{RefusedWith}

@@ -32,3 +32,4 @@ pub mod EncodeStored
 pub mod MovedArcs
 pub mod LentPart
 pub mod WalkTold
+pub mod Refused

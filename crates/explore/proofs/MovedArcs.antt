@@ -1,10 +1,11 @@
--- The arcs' records moved to the front, byte by byte: what is read from a place on is what stood there. Assumes nothing.
+-- The arcs' records moved to the front, one by one: what is read from a place on is what stood there. Assumes nothing.
 use mathlib.Core.Path.{◌≡◌, refl, sym, ap, ◌∙◌}
 use mathlib.Core.List.{List, [], ◌∷◌, ◌++◌, append_assoc}
 use Prim.Native.Nat.{ℕ, suc, ◌+◌, ◌*◌, ◌≤◌, ◌<◌}
 use native.Mathlib.Omega.{arith}
 use lib.ListN.{length, get_or, set, take, drop, length-drop, take-append-drop}
-use lib.Seq.{sets, sets-eq, paste, drop-set-lt, drop-drop, get_or-drop, take-add, take-suc, take-suc-set, length-take-le}
+use lib.Seq.{sets, sets-eq, drop-set-lt, drop-drop, get_or-drop, take-add, take-suc, take-suc-set, length-take-le}
+use borrow.Rule.Slice.PartMut.{put_mid}
 use Rattle.wire.proofs.Places.{sets_append}
 
 -- Stores before a place change nothing from that place on.
@@ -12,7 +13,7 @@ pub drop_sets_before : (n : ℕ) (l : List ℕ) (i : ℕ) (vs : List ℕ) → i 
 drop_sets_before n l i [] h = refl
 drop_sets_before n l i (v ∷ vs) h = drop_sets_before n (set l i v) (suc i) vs (omega arith) ∙ drop-set-lt n l i v (omega arith)
 
--- One byte more is read,
+-- One byte more is read.
 pub read_next : (table bytes : List ℕ) (from k : ℕ) → from + k < length table → k < length bytes → take k bytes ≡ take k (drop from table)
     → take (suc k) (set bytes k (get_or table (from + k) 0)) ≡ take (suc k) (drop from table)
 read_next table bytes from k inside below so_far =
@@ -22,14 +23,12 @@ read_next table bytes from k inside below so_far =
     ∙ ap (λ (v : ℕ). take k (drop from table) ++ (v ∷ [])) (sym (get_or-drop from table k 0))
     ∙ sym (take-suc (drop from table) k 0 long)
 
--- and all that were read are written.
-pub record_moved : (table bytes : List ℕ) (from to n : ℕ) → from + n ≤ length table → to + n ≤ length table → length bytes ≡ n
-    → take n bytes ≡ take n (drop from table) → paste table to bytes n ≡ sets table to (take n (drop from table))
-record_moved table bytes from to n read write long is =
+-- A record that is written as it was read.
+pub record_moved : (table bytes : List ℕ) (from to n k : ℕ) → from + n ≤ length table → to + n ≤ length table → k ≡ n → bytes ≡ take n (drop from table)
+    → put_mid to k table bytes ≡ sets table to (take n (drop from table))
+record_moved table bytes from to n k read write same is =
     let many : length (take n (drop from table)) ≡ n = length-take-le n (drop from table) (omega (arith, length-drop from table)) in
-    ap (λ (l : List ℕ). take to table ++ l ++ drop (to + n) table) is
-    ∙ ap (λ (k : ℕ). take to table ++ take n (drop from table) ++ drop (to + k) table) (sym many)
-    ∙ sym (sets-eq (take n (drop from table)) table to (omega (arith, many)))
+    rw (is, same, sets-eq (take n (drop from table)) table to (omega (arith, many)), many, drop-drop n to table, append_assoc (take to table))
 
 -- One record more is moved.
 pub moved_next : (table₀ table table' : List ℕ) (from first j : ℕ) → first ≤ from → from + 16 * suc j ≤ length table₀

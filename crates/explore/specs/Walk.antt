@@ -5,7 +5,7 @@ use Rattle.std.proofs.lemmas.List.Edits.{sets}
 use Rattle.wire.specs.Bytes.{every, filled}
 use Rattle.transducer.specs.declared.Arc.{Arc}
 use Rattle.transducer.specs.declared.Final.{Final}
-use Rattle.transducer.specs.declared.Written.{Written}
+use Rattle.transducer.specs.Answer.{Written}
 use Rattle.transducer.specs.Format.{max_states, max_arcs, head_bytes, arc_bytes, weight_good}
 use Rattle.transducer.specs.Encode.{final_records, arc_records}
 use Rattle.transducer.specs.Weight.{Weight}
@@ -152,6 +152,12 @@ pub record FinalsStored (fs : List Final) (r : FinalsPut) (table table' : List �
   pub count_is : r.count ≡ length fs
   pub overflow_is : r.overflow ≡ not (every (λ f. weight_good f.weight) fs)
   pub stored : table' ≡ sets table head_bytes (final_records fs)
+
+-- Each of three buffers is all zeros.
+pub record Zeroed (a a' b b' c c' : List ℕ) : Type 0 where
+  pub table : a' ≡ filled (length a) []
+  pub origins : b' ≡ filled (length b) []
+  pub states : c' ≡ filled (length c) []
 
 -- A refusal once the buffers have been written to: each is all zeros.
 pub record RefusedWith (number : ℕ) (r : Written) (a a' b b' c c' : List ℕ) : Type 0 where

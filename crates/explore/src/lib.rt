@@ -6,10 +6,10 @@ ghost use Rattle.std.proofs.lemmas.List.Edits.{sets};
 ghost use Rattle.transducer.specs.Format.{max_states, arc_bytes};
 ghost use Rattle.explore.specs.Explore.{there, place};
 ghost use Rattle.explore.specs.Chain.{buckets, bucket_of, Chained};
-ghost use Rattle.explore.specs.Walk.{with_key, max_arc_bytes, Records, RefusedWith};
+ghost use Rattle.explore.specs.Walk.{with_key, max_arc_bytes, Records, Zeroed};
 
 pub use transducer::MAX_ARCS;
-use transducer::{Arc, MAX_STATES, Written};
+use transducer::{Arc, MAX_STATES};
 
 // Stored states stand in chains by bucket.
 pub const BUCKETS: usize = 2048;
@@ -24,6 +24,7 @@ pub fn bucket(key: u32) -> usize
 }
 
 // Stores a new key under the next number, in front of the chain of its bucket.
+// There is no heap, so that the map of states is chains in arrays: a link is a number and one more, and an array of zeros has none. C lends the array of states.
 pub fn insert(
     states: &mut [u32],
     heads: &mut [u16; BUCKETS],
@@ -43,7 +44,8 @@ pub fn insert(
     heads[b] = (count + 1) as u16;
 }
 
-// The number of a stored key, or `count` where it is not stored.
+// The number of a stored key, or `count` where it is not stored, which is the number that it is then stored under: an Option would have to be told apart from
+// that number again. A chain is followed by links, so there is no index to count.
 pub fn find(
     states: &[u32],
     heads: &[u16; BUCKETS],
@@ -91,6 +93,7 @@ pub fn store_new(
 
 // How far a walk has come: states met, arcs (3,073 stands for more than 3,072), a weight out of range, more than 1,024 states met. Each step copies
 // it, so the two flags are words, 0 or 1: bools would leave padding to copy.
+// A weight out of range does not end the walk, since too many states or arcs are refused before it. One arc more than the limit stands for all that are too many.
 #[derive(Clone, Copy)]
 pub struct Walk {
     pub states: usize,
@@ -112,21 +115,18 @@ pub fn record_arc(table: &mut [u8], w: Walk, arc: Arc) -> Walk
     ensures { Records arc w result table.old table.new }
 {
     let overflow = w.overflow | (!transducer::weight_ok(arc.weight)) as u32;
-    let arcs = w.arcs;
-    if arcs < MAX_ARCS {
-        transducer::put_arc(table, transducer::ARC_BYTES * arcs, arc);
+    if w.arcs < MAX_ARCS {
+        transducer::put_arc(table, transducer::ARC_BYTES * w.arcs, arc);
         return Walk {
-            states: w.states,
-            arcs: arcs + 1,
-            overflow: overflow,
-            full: w.full,
+            arcs: w.arcs + 1,
+            overflow,
+            ..w
         };
     }
     Walk {
-        states: w.states,
         arcs: MAX_ARCS + 1,
-        overflow: overflow,
-        full: w.full,
+        overflow,
+        ..w
     }
 }
 
@@ -136,19 +136,11 @@ fn move_record(table: &mut [u8], from: usize, to: usize)
     ensures { table.new ≡ sets table.old to (take arc_bytes (drop from table.old)) }
 {
     let mut record = [0u8; transducer::ARC_BYTES];
-    let mut k = 0;
-    while k < transducer::ARC_BYTES {
-        record[k] = table[from + k];
-        k += 1;
-    }
-    let mut n = 0;
-    while n < transducer::ARC_BYTES {
-        table[to + n] = record[n];
-        n += 1;
-    }
+    record.copy_from_slice(&table[from..from + transducer::ARC_BYTES]);
+    table[to..to + transducer::ARC_BYTES].copy_from_slice(&record);
 }
 
-// Moves the arcs' records to their place behind the finals; nothing is moved where they stand there.
+// Moves the arcs' records to their place behind the finals; nothing is moved where they stand there. The library's `copy_within` copies byte by byte.
 pub fn move_arcs(table: &mut [u8], from: usize, first: usize, arcs: usize)
     requires { (first ≤ from) × (from + arc_bytes * arcs ≤ length table.old) }
     ensures { table.new ≡ sets table.old first (take (arc_bytes * arcs) (drop from table.old)) }
@@ -156,24 +148,27 @@ pub fn move_arcs(table: &mut [u8], from: usize, first: usize, arcs: usize)
     if first == from {
         return;
     }
-    let mut j = 0;
-    while j < arcs {
+    for j in 0..arcs {
         move_record(
             table,
             from + transducer::ARC_BYTES * j,
             first + transducer::ARC_BYTES * j,
         );
-        j += 1;
     }
 }
 
-// Refuses with 11, 12 or 13: every buffer is all zeros.
-pub fn refuse(table: &mut [u8], origins: &mut [u16], states: &mut [u32], number: u32) -> Written
-    ensures { RefusedWith number result table.old table.new origins.old origins.new
-        states.old states.new }
+// Refuses because of what came of a walk: every buffer is all zeros, and the refusal, whatever it is, is the answer.
+pub fn refuse<E: Copy>(
+    table: &mut [u8],
+    origins: &mut [u16],
+    states: &mut [u32],
+    refusal: E,
+) -> Result<u32, E>
+    ensures answer { result ≡ Err refusal }
+    ensures zeros { Zeroed table.old table.new origins.old origins.new states.old states.new }
 {
-    wire::clear8(table, 0);
-    wire::clear16(origins, 0);
-    wire::clear32(states, 0);
-    transducer::refused(number)
+    wire::clear(table, 0, 0);
+    wire::clear(origins, 0, 0);
+    wire::clear(states, 0, 0);
+    Err(refusal)
 }

@@ -1,11 +1,10 @@
 -- Answers as C gets them: the refusal as the result, the other numbers through references. Assumes nothing: these are definitions.
 use Rattle.std.specs.Prelude.{◌≡◌, List, [], ◌∷◌, ℕ}
-use Rattle.transducer.specs.declared.Header.{Header}
-use Rattle.transducer.specs.declared.Written.{Written}
+use Rattle.transducer.specs.Answer.{Header, Written}
 use Rattle.transducer.specs.Weight.{Weight, amount}
-use Rattle.paths.specs.declared.Counted.{Counted}
-use Rattle.report.specs.declared.Told.{Told}
-use Rattle.listing.specs.declared.Listed.{Listed}
+use Rattle.paths.specs.Answer.{Counted}
+use Rattle.report.specs.Answer.{Told}
+use Rattle.listing.specs.Answer.{Listed}
 
 abbrev pub written : (refusal len : ℕ) → Written
 written r l = record { refusal = r; len = l }

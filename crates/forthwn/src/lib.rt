@@ -15,14 +15,39 @@ ghost use Rattle.claim.specs.Entry.{ReadingsSays};
 ghost use Rattle.cascade.specs.Entry.{CascadeCountSays, CascadeSays, cascade_refusal};
 ghost use Rattle.listing.specs.Entry.{ListingSays, text_room};
 ghost use Rattle.cascade_listing.specs.Entry.{CascadeListingSays};
+ghost use Rattle.transducer.specs.Answer.{refusal_in, value_in};
+ghost use Rattle.report.specs.Answer.{told};
+ghost use Rattle.listing.specs.Answer.{listed as listed_answer};
 ghost use Rattle.forthwn.specs.Answer.{written, counted, listed, head_numbers, path_numbers, HeadIn, ToldIn};
+
+use listing::Listing;
+use report::PathNumbers;
+use transducer::Refusal;
+
+// The number of a refusal, 0 for none.
+fn refusal_number<T: Copy>(answer: Result<T, Refusal>) -> u32
+    ensures { result ≡ refusal_in answer }
+{
+    match answer {
+        Ok(_) => 0,
+        Err(refusal) => refusal.number(),
+    }
+}
+
+// Hands the value of an answer to C, 0 on refusal, and answers the refusal's number, 0 for none.
+fn tell(answer: Result<u32, Refusal>, value: &mut u32) -> u32
+    ensures { (result ≡ refusal_in answer) × (value.new ≡ value_in answer) }
+{
+    *value = answer.unwrap_or(0);
+    refusal_number(answer)
+}
 
 // Refusals 1 to 8 of a transducer's bytes, or 0 where they are accepted. Linear in the bytes.
 #[unsafe(no_mangle)]
 pub extern "C" fn forthwn_refusal(bytes: &[u8]) -> u32
     ensures { result ≡ refusal bytes.now }
 {
-    transducer::refusal(bytes)
+    refusal_number(transducer::ensure_accepted(bytes))
 }
 
 // A head as C gets it: four numbers.
@@ -48,9 +73,16 @@ pub extern "C" fn forthwn_read(
         h final_states.old final_states.new final_weights.old final_weights.new
         fields.old fields.new arc_weights.old arc_weights.new) }
 {
-    let answer = codec::read(bytes, final_states, final_weights, fields, arc_weights);
-    *head = head_numbers(answer.states, answer.arcs, answer.finals, answer.start);
-    answer.refusal
+    match codec::read(bytes, final_states, final_weights, fields, arc_weights) {
+        Ok(read) => {
+            *head = head_numbers(read.states, read.arcs, read.finals, read.start);
+            0
+        }
+        Err(refusal) => {
+            *head = head_numbers(0, 0, 0, 0);
+            refusal.number()
+        }
+    }
 }
 
 // Writes a transducer from its four numbers and four runs into a lent buffer, and the number of bytes into `len`. Linear in the bytes
@@ -74,19 +106,20 @@ pub extern "C" fn forthwn_write(
         (length out.old))
         (written result len.new) out.old out.new }
 {
-    let answer = codec::write(
-        n,
-        m,
-        f,
-        start,
-        final_states,
-        final_weights,
-        fields,
-        arc_weights,
-        out,
-    );
-    *len = answer.len;
-    answer.refusal
+    tell(
+        codec::write(
+            n,
+            m,
+            f,
+            start,
+            final_states,
+            final_weights,
+            fields,
+            arc_weights,
+            out,
+        ),
+        len,
+    )
 }
 
 // Composes two transducers into a lent buffer, with the origins of its arcs, and puts the number of bytes into `len`; the states are
@@ -105,9 +138,7 @@ pub extern "C" fn forthwn_compose(
         (written result len.new) table.old table.new origins.old origins.new
         states.old states.new }
 {
-    let answer = compose::compose(left, right, table, origins, states);
-    *len = answer.len;
-    answer.refusal
+    tell(compose::compose(left, right, table, origins, states), len)
 }
 
 // Applies a string to a transducer: the lattice into a lent buffer, the origins of its arcs, and the number of bytes into `len`; the
@@ -126,9 +157,7 @@ pub extern "C" fn forthwn_apply(
         (written result len.new) lattice.old lattice.new origins.old origins.new
         pairs.old pairs.new }
 {
-    let answer = lattice::apply(string, table, lattice, origins, pairs);
-    *len = answer.len;
-    answer.refusal
+    tell(lattice::apply(string, table, lattice, origins, pairs), len)
 }
 
 // Trims a transducer into a lent buffer, with the number that each kept arc had, and puts the number of bytes into `len`. Linear in states
@@ -143,9 +172,7 @@ pub extern "C" fn forthwn_trim(
     ensures { TrimSays table.now (trim_refusal table.now (length out.old) (length origins.old))
         (written result len.new) out.old out.new origins.old origins.new }
 {
-    let answer = trim::trim(table, out, origins);
-    *len = answer.len;
-    answer.refusal
+    tell(trim::trim(table, out, origins), len)
 }
 
 // Puts the number of accepting paths into `count`, 99 standing for 99 or more. Linear in states and arcs.
@@ -153,9 +180,7 @@ pub extern "C" fn forthwn_trim(
 pub extern "C" fn forthwn_count(table: &[u8], count: &mut u32) -> u32
     ensures { CountSays table.now (count_refusal table.now) (counted result count.new) }
 {
-    let answer = paths::path_count(table);
-    *count = answer.count;
-    answer.refusal
+    tell(paths::path_count(table), count)
 }
 
 // What is told of a path as C gets it: three signed numbers.
@@ -163,6 +188,22 @@ fn path_numbers(cost: i64, arcs: u32, labels: u32) -> [i64; 3]
     ensures { result ≡ path_numbers cost arcs labels }
 {
     [cost, arcs as i64, labels as i64]
+}
+
+// Hands the numbers of a path to C, zeros on refusal, and answers the refusal's number, 0 for none.
+fn tell_path(answer: Result<PathNumbers, Refusal>, numbers: &mut [i64; 3]) -> u32
+    ensures { ToldIn result numbers.new (λ t. t ≡ told answer) }
+{
+    match answer {
+        Ok(path) => {
+            *numbers = path_numbers(path.cost, path.arcs, path.labels);
+            0
+        }
+        Err(refusal) => {
+            *numbers = path_numbers(0, 0, 0);
+            refusal.number()
+        }
+    }
 }
 
 // The k-th path: its arcs and labels into lent buffers, and its cost, number of arcs and number of labels into `numbers`. Linear in states
@@ -180,8 +221,7 @@ pub extern "C" fn forthwn_nth(
         t arcs.old arcs.new labels.old labels.new) }
 {
     let answer = paths::nth_path(table, k, arcs, labels);
-    *numbers = path_numbers(answer.cost, answer.arcs, answer.labels);
-    answer.refusal
+    tell_path(answer, numbers)
 }
 
 // The shortest path, told in the same way. One sweep over the arcs where they lead to higher states, at worst states times arcs (10 ms
@@ -198,8 +238,7 @@ pub extern "C" fn forthwn_shortest(
         t arcs.old arcs.new labels.old labels.new) }
 {
     let answer = shortest::shortest_path(table, arcs, labels);
-    *numbers = path_numbers(answer.cost, answer.arcs, answer.labels);
-    answer.refusal
+    tell_path(answer, numbers)
 }
 
 // The least cost still to come from each state into 1,024 lent cells, 1,000,000,000,001 where no path leads to a final state. Time as for the shortest path.
@@ -208,7 +247,7 @@ pub extern "C" fn forthwn_distance(table: &[u8], cells: &mut [i64]) -> u32
     ensures { CostsSay table.now (costs_refusal table.now (length cells.old)) result
         cells.old cells.new }
 {
-    distance::costs_to_come(table, cells)
+    refusal_number(distance::costs_to_come(table, cells))
 }
 
 // The whole chain in one call: composes two transducers, applies a string and puts the number of accepting paths into `count`. Nothing is
@@ -222,9 +261,7 @@ pub extern "C" fn forthwn_readings(
 ) -> u32
     ensures { ReadingsSays left.now right.now string.now (counted result count.new) }
 {
-    let answer = claim::readings(left, right, string);
-    *count = answer.count;
-    answer.refusal
+    tell(claim::readings(left, right, string), count)
 }
 
 // The cascade in one call: applies a string to the left transducer first, composes the lattice with the right one and puts the number of accepting paths
@@ -238,9 +275,7 @@ pub extern "C" fn forthwn_cascade_readings(
 ) -> u32
     ensures { CascadeCountSays left.now right.now string.now (counted result count.new) }
 {
-    let answer = cascade::readings(left, right, string);
-    *count = answer.count;
-    answer.refusal
+    tell(cascade::readings(left, right, string), count)
 }
 
 // The result of the cascade into a lent buffer, with an arc of the left transducer and one of the right for each of its arcs, and the number of bytes into
@@ -261,9 +296,31 @@ pub extern "C" fn forthwn_cascade(
         (written result len.new) table.old table.new origins.old origins.new
         states.old states.new }
 {
-    let answer = cascade::cascade(left, right, string, table, origins, states);
-    *len = answer.len;
-    answer.refusal
+    tell(
+        cascade::cascade(left, right, string, table, origins, states),
+        len,
+    )
+}
+
+// Hands the length of a listing and the number of the refusal that its text says to C, zeros on refusal, and answers the call's own refusal.
+fn tell_listing(answer: Result<Listing, Refusal>, len: &mut u32, said: &mut u32) -> u32
+    ensures { listed result len.new said.new ≡ listed_answer answer }
+{
+    match answer {
+        Ok(text) => {
+            *len = text.len;
+            *said = match text.said {
+                Some(refusal) => refusal.number(),
+                None => 0,
+            };
+            0
+        }
+        Err(refusal) => {
+            *len = 0;
+            *said = 0;
+            refusal.number()
+        }
+    }
 }
 
 // The listing of two transducers and a code's bytes: the text into a lent buffer, its length into `len`, and into `said` the number of the refusal
@@ -281,9 +338,7 @@ pub extern "C" fn forthwn_list(
         (listed result len.new said.new) out.old out.new }
 {
     let answer = listing::list(left, right, code, out);
-    *len = answer.len;
-    *said = answer.said;
-    answer.refusal
+    tell_listing(answer, len, said)
 }
 
 // The listing of the cascade of two transducers and a code's bytes, told as by `forthwn_list`: 1 to 8 of both transducers come before 9 of the code. The
@@ -301,7 +356,5 @@ pub extern "C" fn forthwn_cascade_list(
         (listed result len.new said.new) out.old out.new }
 {
     let answer = cascade_listing::list(left, right, code, out);
-    *len = answer.len;
-    *said = answer.said;
-    answer.refusal
+    tell_listing(answer, len, said)
 }

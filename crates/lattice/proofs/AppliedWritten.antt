@@ -10,7 +10,7 @@ use Rattle.wire.specs.Bytes.{Bytes, two, low, filled, cleared}
 use Rattle.wire.proofs.Low.{two_low_front}
 use Rattle.wire.proofs.Places.{length_filled}
 use Rattle.transducer.specs.declared.Arc.{Arc}
-use Rattle.transducer.specs.declared.Written.{Written}
+use Rattle.transducer.specs.Answer.{Written}
 use Rattle.transducer.specs.Format.{max_states, max_arcs, max_bytes, arc_bytes, Transducer, Good, refusal, decode}
 use Rattle.transducer.specs.Encode.{head_record, encode}
 use Rattle.transducer.specs.Accepted.{FinalsByState}
@@ -19,7 +19,7 @@ use Rattle.transducer.proofs.RoundTrip.{accepted_good, good_range, refusal_encod
 use Rattle.transducer.proofs.Runs.{good_within}
 use Rattle.explore.specs.declared.Walk.{Walk}
 use Rattle.explore.specs.Explore.{built_refusal}
-use Rattle.explore.specs.Walk.{WalkTold, RefusedWith}
+use Rattle.explore.specs.Walk.{Sofar, WalkTold, RefusedWith}
 use Rattle.explore.proofs.Built.{over_11}
 use Rattle.explore.proofs.EncodeStored.{filled_front}
 use Rattle.explore.proofs.LeftBehind.{built_12, built_0, says_zeroed}
@@ -102,6 +102,22 @@ pub record Made (cs bs : List ℕ) (w : Walk) (table arcs states codes : List �
   pub few_arcs : w.arcs ≤ max_arcs
   pub by_state : FinalsByState (decode bs) codes
   pub closes : Closes (closed codes (length cs) (found cs (decode bs))) from table table'
+
+-- It is made by what the code that writes head and finals leaves of whatever the walk has told.
+pub made : {cs bs : List ℕ} {w : Walk} {table arcs states codes : List ℕ} {from : ℕ} {table' : List ℕ} → Bytes bs → refusal bs ≡ 0 → string_good cs ≡ true
+    → WalkTold 1 (found cs (decode bs)) w (drop arcs_place table) arcs states → w.arcs ≤ max_arcs → FinalsByState (decode bs) codes
+    → ((b : Sofar) (origins : List ℕ) → WalkTold 1 b w (drop arcs_place table) origins states → Closes (closed codes (length cs) b) from table table')
+    → Made cs bs w table arcs states codes from table'
+made bytes accepted string told few_arcs by_state closing =
+    record {
+      bytes = bytes;
+      accepted = accepted;
+      string = string;
+      told = told;
+      few_arcs = few_arcs;
+      by_state = by_state;
+      closes = closing _ _ told;
+    }
 
 module _ {cs bs : List ℕ} {w : Walk} {table arcs states codes : List ℕ} {from : ℕ} {table' : List ℕ} (m : Made cs bs w table arcs states codes from table')
   where

@@ -1,24 +1,22 @@
 -- The answers of applying: which refusal it is, and what is said and left behind; one law for each answer, in the order of the tests.
 -- Assumes nothing.
 use mathlib.Core.Path.{◌≡◌, sym, ◌∙◌}
-use mathlib.Core.Bool.{Bool, true, false}
+use mathlib.Core.Bool.{true, false}
 use mathlib.Core.List.{List, []}
 use Prim.Native.Nat.{ℕ, ◌≤◌, ◌<◌}
 use native.Mathlib.Omega.{arith}
 use lib.ListN.{length}
 use borrow.Author.Tests.{lt-ltb, le-ltb, ne_eqb}
 use Rattle.wire.specs.Bytes.{filled}
-use Rattle.transducer.specs.declared.Written.{Written}
+use Rattle.transducer.specs.Answer.{Written}
 use Rattle.transducer.specs.Format.{max_states, max_arcs, max_bytes, refusal, decode}
 use Rattle.transducer.specs.Encode.{encode}
-use Rattle.transducer.specs.Each.{has_no_any_input}
 use Rattle.transducer.specs.Entry.{or_else, unless}
 use Rattle.transducer.proofs.Most.{refusal_most}
 use Rattle.explore.specs.Explore.{built_refusal}
 use Rattle.explore.proofs.LeftBehind.{early_keeps, says_kept, behind_written}
 use Rattle.lattice.specs.Apply.{string_good, applied}
 use Rattle.lattice.specs.ApplyEntry.{apply_room, apply_refusal, ApplySays}
-use Rattle.lattice.specs.Applying.{ApplyAsks}
 use Rattle.lattice.specs.Lattice.{lattice, lattice_origins}
 
 -- ApplySays on success
@@ -79,17 +77,6 @@ module _ (cs bs a b c : List ℕ) where
       says_pairs p q h = short (rw (le-ltb (length a) max_bytes p, le-ltb (length b) max_arcs q, lt-ltb (length c) max_states h))
 
       module _ (p : max_bytes ≤ length a) (q : max_arcs ≤ length b) (s : max_states ≤ length c) where
-        pub ready : (no_any : Bool) → no_any ≡ has_no_any_input (decode bs) → ApplyAsks cs bs no_any (length a) (length b) (length c)
-        ready no_any told =
-            record {
-              good = sym string;
-              no_any_says = λ e. sym told ∙ e;
-              accepted = accepted;
-              lattice_long = p;
-              origins_long = q;
-              pairs_long = s;
-            }
-
         into : number ≡ built_refusal (applied cs (decode bs)).result
         unfolding apply_refusal or_else apply_room
         into = rw (accepted, ← string, le-ltb (length a) max_bytes p, le-ltb (length b) max_arcs q, le-ltb (length c) max_states s)

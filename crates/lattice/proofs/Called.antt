@@ -6,17 +6,17 @@ use mathlib.Core.List.{List, []}
 use Prim.Native.Nat.{ℕ, ◌≤◌}
 use native.Mathlib.Omega.{arith}
 use borrow.Author.Tests.{le-ltb}
-use lib.ListN.{length, take, length-take}
+use lib.ListN.{length, length-take, replicate, length-replicate}
 use Rattle.wire.specs.Bytes.{filled}
 use Rattle.wire.proofs.Bool.{passed_last}
 use Rattle.wire.proofs.Places.{take_told}
-use Rattle.transducer.specs.declared.Written.{Written}
+use Rattle.transducer.specs.Answer.{Written}
 use Rattle.transducer.specs.Format.{max_states, max_arcs, max_bytes, Transducer, Good, refusal, decode}
 use Rattle.transducer.specs.Encode.{encode}
 use Rattle.transducer.specs.Path.{accepts}
 use Rattle.transducer.specs.Each.{path_fits}
 use Rattle.transducer.specs.Entry.{or_else, unless}
-use Rattle.transducer.proofs.Answers.{or_else_none, none_or_else, unless_none}
+use Rattle.transducer.proofs.Answers.{or_else_none, unless_none}
 use Rattle.transducer.proofs.RoundTrip.{accepted_good}
 use Rattle.explore.specs.Explore.{built_refusal, left_behind}
 use Rattle.explore.proofs.LeftBehind.{behind_written}
@@ -61,6 +61,20 @@ pub record AppliedCall (cs bs : List ℕ) (r : Written) (a a' b b' c c' : List �
   pub origins_room : max_arcs ≤ length b
   pub pairs_room : max_states ≤ length c
   pub says : ApplySays cs bs (apply_refusal cs bs (length a) (length b) (length c)) r a a' b b' c c'
+
+-- Arrays of zeros that are as long as the call asks.
+pub applied_in_arrays : (cs bs : List ℕ) {r : Written} {a' b' c' : List ℕ}
+    → let a : List ℕ = replicate max_bytes 0 in
+    let b : List ℕ = replicate max_arcs 0 in
+    let c : List ℕ = replicate max_states 0 in
+    ApplySays cs bs (apply_refusal cs bs (length a) (length b) (length c)) r a a' b b' c c' → AppliedCall cs bs r a a' b b' c c'
+applied_in_arrays cs bs says =
+    record {
+      lattice_room = omega (arith, length-replicate {A = ℕ} max_bytes 0);
+      origins_room = omega (arith, length-replicate {A = ℕ} max_arcs 0);
+      pairs_room = omega (arith, length-replicate {A = ℕ} max_states 0);
+      says = says;
+    }
 
 module _ {cs bs : List ℕ} {r : Written} {a a' b b' c c' : List ℕ} (x : AppliedCall cs bs r a a' b b' c c') where
   pub applied_number : refusal bs ≡ 0 → r.refusal ≡ application_refusal cs (decode bs)

@@ -2,11 +2,13 @@
 -- lattice's. Assumes nothing.
 use mathlib.Core.Path.{◌≡◌, refl, sym, ap, ◌∙◌}
 use mathlib.Core.Bool.{Bool, true, false, ◌&&◌, not, cond}
-use mathlib.Core.List.{List, [], ◌∷◌, ◌++◌, append-nil}
-use Prim.Native.Nat.{ℕ, ◌+◌, ◌≤◌, ◌<◌}
+use mathlib.Core.List.{List, [], ◌∷◌, ◌++◌}
+use Prim.Native.Nat.{ℕ, suc, ◌+◌, ◌≤◌, ◌<◌}
 use native.Mathlib.Numerals.{add-one}
 use native.Mathlib.Omega.{arith}
 use lib.Dec.{eqb}
+use Rattle.std.specs.List.{count_by, filter}
+use Rattle.std.proofs.lemmas.List.Sums.{length-filter}
 use lib.ListN.{length, get_or, take, drop, length-append, take-append-drop}
 use lib.Seq.{sets, take-suc, length-take-le, take-take}
 use borrow.Author.Tests.{eq-eqb, ne_eqb}
@@ -62,13 +64,30 @@ not_final codes last k code is z = rw (eq-eqb (key_code codes last k) 0 (sym is 
 is_key_final : (codes : List ℕ) (last k code : ℕ) → code ≡ key_code codes last k → (code ≡ 0 → ⊥) → key_final codes last k ≡ true
 is_key_final codes last k code is z = rw (ne_eqb (key_code codes last k) 0 (λ e. z (is ∙ e)))
 
--- The finals of the first s keys are counted.
-pub record FinalsCounted (codes : List ℕ) (last : ℕ) (states : List ℕ) (count finals s : ℕ) : Type 0 where
-  pub within : s ≤ count
-  pub few : finals ≤ s
-  pub count_is : finals ≡ length (key_finals codes last (take s states))
+-- There are as many finals of keys as final keys.
+finals_kept : (codes : List ℕ) (last i : ℕ) (keys : List ℕ)
+    → length (finals_from (key_final codes last) (key_weight codes last) i keys) ≡ length (filter (key_final codes last) keys)
+unfolding finals_from
+finals_kept codes last i [] = refl
+finals_kept codes last i (k ∷ keys) = on (key_final codes last k) (finals_kept codes last (suc i) keys)
+  where
+    more : List Final
+    more = finals_from (key_final codes last) (key_weight codes last) (suc i) keys
 
--- They are written too.
+    kept : List ℕ
+    kept = filter (key_final codes last) keys
+
+    on : (b : Bool) → length more ≡ length kept
+        → length (cond b (record { state = i; weight = key_weight codes last k } ∷ more) more) ≡ length (cond b (k ∷ kept) kept)
+    on true e = ap suc e
+    on false e = e
+
+pub finals_counted : (codes : List ℕ) (last : ℕ) (keys : List ℕ)
+    → length (key_finals codes last keys) ≡ count_by (key_final codes last) keys
+unfolding key_finals
+finals_counted codes last keys = finals_kept codes last 0 keys ∙ length-filter (key_final codes last) keys
+
+-- The finals of the first s keys are written and counted.
 abbrev pub Putting : (codes : List ℕ) → (last : ℕ) → (states : List ℕ) → (count : ℕ) → (table₀ table : List ℕ) → (finals s : ℕ) → Type 0
 Putting codes last states count table₀ table finals s =
     (overflow : Bool) × Finishing (key_final codes last) (key_weight codes last) states count table₀ table finals overflow s
@@ -109,15 +128,6 @@ module _ (codes : List ℕ) (last : ℕ) (states : List ℕ) where
       ap fs (sym (take-append-drop n ks)) ∙ finals_from_append (key_final codes last) (key_weight codes last) 0 (take n ks) (drop n ks) in
       omega (arith, ap length whole, length-append (fs (take n ks)) rest, ap length front)
 
-  pub counting_first : (count : ℕ) → FinalsCounted codes last states count 0 0
-  unfolding key_finals finals_from
-  counting_first count = record { within = omega arith; few = omega arith; count_is = refl }
-
-  pub counting_stop : (count finals s : ℕ) → count ≤ s → FinalsCounted codes last states count finals s
-      → (finals ≡ length (key_finals codes last (take count states))) × (finals ≤ count)
-  counting_stop count finals s stop inv =
-      let all : s ≡ count = omega (arith, inv.within) in (rw all at inv.count_is, omega (arith, inv.few))
-
   pub putting_first : (count : ℕ) (table : List ℕ) → Putting codes last states count table table 0 0
   putting_first count table = (false, finishing_first (key_final codes last) (key_weight codes last) states count table)
 
@@ -128,18 +138,6 @@ module _ (codes : List ℕ) (last : ℕ) (states : List ℕ) where
       (finishing_stop (key_final codes last) (key_weight codes last) states inv.1 stop).stored
 
   module _ (count finals s code : ℕ) (less : s < count) (room : count ≤ length states) (is : code ≡ key_code codes last (get_or states s 0)) where
-    pub counting_none : FinalsCounted codes last states count finals s → code ≡ 0 → FinalsCounted codes last states count finals (s + 1)
-    unfolding finals_from
-    counting_none inv z =
-        let same : key_finals codes last (take (s + 1) states) ≡ key_finals codes last (take s states) =
-        one_more s (omega arith)
-        ∙ (rw (not_final codes last (get_or states s 0) code is z) (append-nil (key_finals codes last (take s states)))) in
-        record { within = omega arith; few = omega (arith, inv.few); count_is = rw same inv.count_is }
-
-    pub counting_more : FinalsCounted codes last states count finals s → (code ≡ 0 → ⊥) → FinalsCounted codes last states count (finals + 1) (s + 1)
-    counting_more inv z =
-        record { within = omega arith; few = omega (arith, inv.few); count_is = omega (arith, inv.count_is, longer s code (omega arith) is z) }
-
     module _ (table₀ table : List ℕ) (inv : Putting codes last states count table₀ table finals s) where
       -- There is room for the final of this key.
       pub putting_room : (code ≡ 0 → ⊥) → arcs_at (length (key_finals codes last (take count states))) ≤ length table₀

@@ -13,12 +13,12 @@ pub mod Plain
 -- The walk by packed states: it finds the lattice before trimming
 pub mod KeyParts
 pub mod FoundBuilt
--- The loops: the test of the string, the arcs of a state, the finals, the origins; the copy that is trimmed
+-- The loops: the test of the string, the arcs of a state, the finals, the origins
 pub mod Symbols
 pub mod ServedArcs
+pub mod Serving
 pub mod KeyFinals
 pub mod Tracing
-pub mod Copied
 -- What the calls leave and answer
 pub mod Closing
 pub mod ApplySays

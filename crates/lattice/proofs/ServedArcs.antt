@@ -14,7 +14,7 @@ use Rattle.transducer.specs.Format.{max_states, max_arcs, any, Transducer, Good}
 use Rattle.transducer.specs.Path.{arc}
 use Rattle.transducer.specs.Each.{fits, passed}
 use Rattle.transducer.specs.Accepted.{arcs_below, Indexed, Leaving}
-use Rattle.transducer.proofs.Fits.{fits_empty, reads_fits, passed_output}
+use Rattle.transducer.proofs.Fits.{fits_empty, fits_other, reads_fits, passed_output}
 use Rattle.transducer.proofs.Good.{good_tests}
 use Rattle.transducer.proofs.Labels.{arc_unbarred}
 use Rattle.transducer.proofs.Leaving.{state_leaving}
@@ -115,6 +115,18 @@ module _ (cs : List ℕ) (t : Transducer) (x : State) (good : Good t) (i : ℕ) 
   reads_itself string e =
       by_test (eqb a.input 0) (λ h. reads_nothing (eqb-true a.input 0 h))
       (λ h. reads_some (eqb-false a.input 0 h) (reads_fits t (symbol_of cs x) a e) (from ∙ e) (own_output (omega (arith, e, symbol_below cs x string))))
+
+-- An arc for any other symbol reads the symbol, and writes it where it passes it on.
+pub reads_other : {cs : List ℕ} {t : Transducer} {x : State} {a : Arc} {symbol read written : ℕ} → symbol ≡ symbol_of cs x
+    → (a.input ≡ symbol → ⊥) → fits t (symbol_of cs x) a ≡ true → read ≡ symbol → written ≡ passed symbol a → Reads cs t x a read written
+reads_other {cs} {t} {x} {a} symbol_is other fit from same =
+    reads_some (fits_other t (symbol_of cs x) a (λ e. other (e ∙ sym symbol_is)) fit) fit (from ∙ symbol_is)
+    (same ∙ ap (λ (symbol : ℕ). passed symbol a) (sym from))
+
+pub symbol_read : (cs : List ℕ) (x : State) {y : State} {symbol : ℕ} → symbol ≡ cond (ltb x.position (length cs)) (get_or cs x.position 0) 0 → x ≡ y
+    → symbol ≡ symbol_of cs y
+unfolding symbol_of
+symbol_read cs x e is = e ∙ ap (symbol_of cs) is
 
 -- An arc as it reads a symbol, 0 for none, with another source.
 abbrev pub reading : (source symbol : ℕ) → Arc → Arc

@@ -1,58 +1,31 @@
 -- Origins traced on: each number of a list becomes what stands there in another. Assumes nothing.
-use mathlib.Core.Path.{◌≡◌, refl, sym, ap, ap₂, ◌∙◌}
-use mathlib.Core.List.{List, [], ◌∷◌, ◌++◌, map, map-append}
-use Prim.Native.Nat.{ℕ, suc, ◌+◌, ◌-◌, ◌≤◌, ◌<◌}
-use native.Mathlib.Nat.{zero-add, add-zero}
-use native.Mathlib.Numerals.{add-one}
-use native.Mathlib.Omega.{arith}
-use lib.ListN.{length, get_or, set, take, drop, replicate, length-map, length-append}
-use lib.Seq.{sets, sets-eq, take-suc, length-take-le, get_or-drop, drop_at}
+use Rattle.std.proofs.Common.{◌≡◌, refl, sym, ap, ap₂, ◌∙◌, List, [], ◌∷◌, ◌++◌, map, ℕ, suc, ◌+◌, ◌-◌, ◌≤◌, ◌<◌, length, get_or, set, take, drop, replicate, length-append, length-take-le, zero-add, arith}
+use Rattle.std.proofs.lemmas.List.{length-map}
+use Rattle.std.proofs.lemmas.List.Edits.{sets, map_over_more}
+use Rattle.std.proofs.lemmas.Grind.{common_steps}
+use lib.Seq.{sets-eq, drop_at}
 use Rattle.wire.specs.Bytes.{filled}
-use Rattle.transducer.proofs.Encode.{sets_then}
-use Rattle.explore.proofs.MovedArcs.{drop_sets_before}
 
--- The first i are traced on.
-pub record Tracing (arcs : List ℕ) (count : ℕ) (origins₀ origins : List ℕ) (i : ℕ) : Type 0 where
-  pub within : i ≤ count
-  pub kept : length origins ≡ length origins₀
-  pub traced : origins ≡ sets origins₀ 0 (map (λ k. get_or arcs k 0) (take i origins₀))
+-- A loop that changes each element in turn: the elements from i on are as they were.
+module _ (f : ℕ → ℕ) (xs ys : List ℕ) (i : ℕ) (so_far : ys ≡ map f (take i xs) ++ drop i xs) where
+  pub still_there : i < length xs → get_or ys i 0 ≡ get_or xs i 0
+  still_there less = grind (arith, common_steps)
 
-pub tracing_first : (arcs : List ℕ) (count : ℕ) (origins : List ℕ) → Tracing arcs count origins origins 0
-tracing_first arcs count origins = record { within = omega arith; kept = refl; traced = refl }
+  pub one_changed : i < length xs → set ys i (f (get_or ys i 0)) ≡ map f (take (i + 1) xs) ++ drop (i + 1) xs
+  one_changed less =
+      let less' : i < length ys = grind (arith, common_steps) in
+      map_over_more f xs ys i (get_or ys i 0) less so_far (grind (arith, common_steps))
 
-module _ (arcs : List ℕ) (count : ℕ) (origins₀ origins : List ℕ) (i : ℕ) (inv : Tracing arcs count origins₀ origins i) (room : count ≤ length origins₀) where
-  pub tracing_stop : count ≤ i → origins ≡ sets origins₀ 0 (map (λ k. get_or arcs k 0) (take count origins₀))
-  tracing_stop stop = let all : i ≡ count = omega (arith, inv.within) in rw all at inv.traced
+  pub all_changed : length xs ≤ i → ys ≡ map f xs
+  all_changed stop = grind (arith, common_steps)
 
-  module _ (less : i < count) where
-    front_long : length (map (λ k. get_or arcs k 0) (take i origins₀)) ≡ i
-    front_long = length-map (take i origins₀) (λ k. get_or arcs k 0) ∙ length-take-le i origins₀ (omega arith)
-
-    -- What stands at i is not yet changed.
-    pub tracing_here : get_or origins i 0 ≡ get_or origins₀ i 0
-    tracing_here =
-        let first : (l : List ℕ) → get_or l i 0 ≡ get_or (drop i l) 0 0 = λ l. ap (λ (n : ℕ). get_or l n 0) (sym (add-zero i)) ∙ sym (get_or-drop i l 0 0) in
-        first origins
-        ∙ ap (λ (l : List ℕ). get_or (drop i l) 0 0) inv.traced
-        ∙ ap (λ (l : List ℕ). get_or l 0 0)
-        (drop_sets_before i origins₀ 0 (map (λ k. get_or arcs k 0) (take i origins₀)) (omega (arith, front_long)))
-        ∙ sym (first origins₀)
-
-    pub tracing_next : (origins' : List ℕ) → origins' ≡ set origins i (get_or arcs (get_or origins i 0) 0) → length origins' ≡ length origins
-        → Tracing arcs count origins₀ origins' (i + 1)
-    tracing_next origins' put long =
-        let v : ℕ = get_or arcs (get_or origins₀ i 0) 0 in
-        let xs : List ℕ = map (λ k. get_or arcs k 0) (take i origins₀) in
-        let here : origins' ≡ set origins i v = put ∙ ap (λ (n : ℕ). set origins i (get_or arcs n 0)) tracing_here in
-        let more : map (λ k. get_or arcs k 0) (take (i + 1) origins₀) ≡ xs ++ (v ∷ []) =
-        ap (λ (n : ℕ). map (λ k. get_or arcs k 0) (take n origins₀)) (add-one i)
-        ∙ ap (λ (l : List ℕ). map (λ k. get_or arcs k 0) l) (take-suc origins₀ i 0 (omega arith))
-        ∙ map-append (λ k. get_or arcs k 0) (take i origins₀) (get_or origins₀ i 0 ∷ []) in
-        record {
-          within = omega arith;
-          kept = long ∙ inv.kept;
-          traced = rw more (sets_then origins₀ 0 i xs (v ∷ []) front_long inv.traced (rw zero-add here));
-        }
+-- A front of some length, changed, stands in place of what was there.
+pub front_changed : (f : ℕ → ℕ) (xs : List ℕ) (count : ℕ) → count ≤ length xs
+    → map f (take count xs) ++ drop count xs ≡ sets xs 0 (map f (take count xs))
+front_changed f xs count room =
+    let long : length (map f (take count xs)) ≡ count = length-map (take count xs) f ∙ length-take-le count xs room in
+    sym (sets-eq (map f (take count xs)) xs 0 (omega arith)
+    ∙ ap (λ (n : ℕ). map f (take count xs) ++ drop n xs) (zero-add _ ∙ long))
 
 -- What is stored over the written part of a buffer, as long as that, takes its place.
 pub refilled : (room : ℕ) (xs ys : List ℕ) → length ys ≡ length xs → sets (filled room xs) 0 ys ≡ filled room ys

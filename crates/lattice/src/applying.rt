@@ -1,8 +1,9 @@
 // Applying an input string: states numbered as first reached, their arcs written in turn, and the whole trimmed.
 ghost use Rattle.std.specs.Prelude.{◌≡◌, cond, List, map, ℕ, ◌≤◌, ◌<◌, ltb, eqb, length, get_or, take, drop};
 ghost use Rattle.std.proofs.lemmas.List.Edits.{sets};
-ghost use Rattle.transducer.specs.Format.{max_states, max_arcs, max_bytes, head_bytes, arcs_at, decode};
+ghost use Rattle.transducer.specs.Format.{max_states, max_arcs, max_bytes, head_bytes, arcs_at, decode, Good};
 ghost use Rattle.transducer.specs.Encode.{final_records};
+ghost use Rattle.transducer.specs.Answer.{written};
 ghost use Rattle.explore.specs.Explore.{built_refusal};
 ghost use Rattle.explore.specs.Walk.{Sofar, taken, state_served, max_arc_bytes, Holds, Takes, WalkSays, WalkTold};
 ghost use Rattle.lattice.specs.Apply.{string_good, applied};
@@ -14,7 +15,7 @@ ghost use Rattle.lattice.specs.Applying.{arcs_place, ApplyAsks};
 use crate::{packing, trimming};
 use explore::{BUCKETS, Walk};
 use transducer::{
-    ARC_BYTES, Arc, BARRED, Final, MAX_ARCS, MAX_BYTES, MAX_STATES, MAX_SYMBOLS, Written,
+    ARC_BYTES, Arc, BARRED, Final, MAX_ARCS, MAX_BYTES, MAX_STATES, MAX_SYMBOLS, Refusal,
 };
 
 // Where the walk writes the arcs: behind room for the head and as many finals as there can be.
@@ -24,41 +25,35 @@ const ARCS_PLACE: usize = MAX_BYTES - ARC_BYTES * MAX_ARCS;
 pub fn string_ok(string: &[u16]) -> bool
     ensures { result ≡ string_good string.now }
 {
-    let n = string.len();
-    if MAX_SYMBOLS < n {
-        return false;
-    }
-    let mut good = true;
-    let mut i = 0;
-    while i < n {
-        let c = string[i];
-        good = good & (1 <= c) & (c < BARRED);
-        i += 1;
-    }
-    good
+    string.len() <= MAX_SYMBOLS && string.iter().all(|c| 1 <= *c && *c < BARRED)
 }
 
 // The symbol at a position, 0 behind the last one: no arc with an input fits that.
 fn symbol_at(string: &[u16], position: usize) -> u16
     ensures { result ≡ cond (ltb position (length string.now)) (get_or string.now position 0) 0 }
 {
-    if position < string.len() {
-        return string[position];
-    }
-    0
+    string.get(position).copied().unwrap_or(0)
 }
 
 // How far a step moves that reads a symbol, 0 standing for none.
 fn moved(symbol: u16) -> u32
     ensures { result ≡ cond (eqb symbol 0) 0 1 }
 {
-    if symbol == 0 {
-        return 0;
-    }
-    1
+    u32::from(symbol != 0)
+}
+
+// A string and the accepted transducer that it is applied to, with what is known of its arcs.
+#[derive(Clone, Copy)]
+struct Operands<'a> {
+    string: &'a [u16],
+    bytes: &'a [u8],
+    no_any_input: bool,
+    first: usize,
+    index: &'a [u16; MAX_STATES + 1],
 }
 
 // Takes the step of an arc to the state of a key.
+// The buffers that a walk writes go one by one, as in composition: of a struct of `&mut` two fields cannot be lent to one call.
 fn take_step(
     a: Arc,
     i: usize,
@@ -89,11 +84,8 @@ fn take_step(
         origins[arcs] = i as u16;
     }
     let made = Arc {
-        source: a.source,
-        input: a.input,
-        output: a.output,
         target: number as u16,
-        weight: a.weight,
+        ..a
     };
     explore::record_arc(table, walk, made)
 }
@@ -101,11 +93,7 @@ fn take_step(
 // Serves the state of number `source`: takes the step of each of its arcs that reads nothing or fits the symbol at its position. What the arcs that fit it
 // read is told before, so that the loop tests one label and calls nothing for it.
 fn expand_state(
-    string: &[u16],
-    bytes: &[u8],
-    no_any_input: bool,
-    first: usize,
-    index: &[u16; MAX_STATES + 1],
+    operands: &Operands,
     source: usize,
     w: Walk,
     table: &mut [u8],
@@ -114,26 +102,31 @@ fn expand_state(
     heads: &mut [u16; BUCKETS],
     links: &mut [u16; MAX_STATES],
 ) -> Walk
-    requires applicable { Applicable string.now bytes.now no_any_input first index.now × (source < w.states)
-        × StateIn string.now (decode bytes.now) (unpacked (get_or states.old source 0)) }
+    requires good { Good (decode operands.now.bytes.now) }
+    requires applicable { Applicable operands.now.string.now operands.now.bytes.now operands.now.no_any_input operands.now.first operands.now.index.now
+        × (source < w.states)
+        × StateIn operands.now.string.now (decode operands.now.bytes.now) (unpacked (get_or states.old source 0)) }
     requires holds { Holds 1 w table.old origins.old states.old heads.old links.old }
-    ensures { Takes 1 (state_served (next string.now (decode bytes.now)) source) w result
+    ensures { Takes 1 (state_served (next operands.now.string.now (decode operands.now.bytes.now)) source) w result
         table.old table.new origins.old origins.new states.old states.new
         heads.old heads.new links.old links.new }
 {
-    let key = states[source];
-    let x = packing::unpack(key);
+    let Operands {
+        string,
+        bytes,
+        no_any_input,
+        first,
+        index,
+    } = *operands;
+    let x = packing::unpack(states[source]);
     let q = x.state as usize;
-    let position = x.position;
-    let symbol = symbol_at(string, position as usize);
+    let symbol = symbol_at(string, x.position as usize);
+    let from = index[q] as usize;
     let end = index[q + 1] as usize;
-    let mut i = index[q] as usize;
-    let label = transducer::label_at(bytes, first, no_any_input, i, end, symbol);
+    let label = transducer::label_at(bytes, first, no_any_input, from, end, symbol);
     let mut walk = w;
-    while i < end {
+    for i in from..end {
         let a = transducer::arc_of(bytes, first, i);
-        let at = i;
-        i += 1;
         let input = a.input;
         let mut read = input;
         let mut output = a.output;
@@ -141,21 +134,18 @@ fn expand_state(
             if input != 0 {
                 continue;
             }
-        } else {
-            if input != symbol {
-                read = symbol;
-                output = transducer::passed(symbol, a);
-            }
+        } else if input != symbol {
+            read = symbol;
+            output = transducer::passed(symbol, a);
         }
         let step = Arc {
             source: source as u16,
             input: read,
-            output: output,
-            target: a.target,
-            weight: a.weight,
+            output,
+            ..a
         };
-        let to = packing::pack(position + moved(read), a.target as u32);
-        walk = take_step(step, at, to, walk, table, origins, states, heads, links);
+        let to = packing::pack(x.position + moved(read), a.target as u32);
+        walk = take_step(step, i, to, walk, table, origins, states, heads, links);
         if walk.full != 0 {
             return walk;
         }
@@ -165,19 +155,17 @@ fn expand_state(
 
 // Walks from the first state, until each state that was met is served or there are too many.
 fn walk_all(
-    string: &[u16],
-    bytes: &[u8],
-    no_any_input: bool,
-    first: usize,
-    index: &[u16; MAX_STATES + 1],
+    operands: &Operands,
     start: u32,
     table: &mut [u8],
     origins: &mut [u16],
     states: &mut [u32],
 ) -> Walk
-    requires applicable { Applicable string.now bytes.now no_any_input first index.now × (start ≡ (decode bytes.now).start) }
+    requires good { Good (decode operands.now.bytes.now) }
+    requires applicable { Applicable operands.now.string.now operands.now.bytes.now operands.now.no_any_input operands.now.first operands.now.index.now
+        × (start ≡ (decode operands.now.bytes.now).start) }
     requires max_arc_bytes_in_bounds { (max_arc_bytes ≤ length table.old) × (max_arcs ≤ length origins.old) × (max_states ≤ length states.old) }
-    ensures { WalkSays 1 (found string.now (decode bytes.now)) result table.old table.new
+    ensures { WalkSays 1 (found operands.now.string.now (decode operands.now.bytes.now)) result table.old table.new
         origins.old origins.new states.old states.new }
 {
     let mut heads = [0u16; BUCKETS];
@@ -191,20 +179,10 @@ fn walk_all(
         full: 0,
     };
     let mut s = 0;
+    // The number of states grows while they are served, so there is no range to count over.
     while s < walk.states {
         walk = expand_state(
-            string,
-            bytes,
-            no_any_input,
-            first,
-            index,
-            s,
-            walk,
-            table,
-            origins,
-            states,
-            &mut heads,
-            &mut links,
+            operands, s, walk, table, origins, states, &mut heads, &mut links,
         );
         if walk.full != 0 {
             return walk;
@@ -216,46 +194,35 @@ fn walk_all(
 
 // The same walk in a buffer that has room for head and finals in front of the arcs.
 fn walk_behind(
-    string: &[u16],
-    bytes: &[u8],
-    no_any_input: bool,
-    first: usize,
-    index: &[u16; MAX_STATES + 1],
+    operands: &Operands,
     start: u32,
     table: &mut [u8],
     origins: &mut [u16],
     states: &mut [u32],
 ) -> Walk
-    requires applicable { Applicable string.now bytes.now no_any_input first index.now × (start ≡ (decode bytes.now).start) }
+    requires good { Good (decode operands.now.bytes.now) }
+    requires applicable { Applicable operands.now.string.now operands.now.bytes.now operands.now.no_any_input operands.now.first operands.now.index.now
+        × (start ≡ (decode operands.now.bytes.now).start) }
     requires max_bytes_in_bounds { (max_bytes ≤ length table.old) × (max_arcs ≤ length origins.old) × (max_states ≤ length states.old) }
-    ensures { WalkSays 1 (found string.now (decode bytes.now)) result
+    ensures { WalkSays 1 (found operands.now.string.now (decode operands.now.bytes.now)) result
         (drop arcs_place table.old) (drop arcs_place table.new)
         origins.old origins.new states.old states.new }
 {
     let part = &mut table[ARCS_PLACE..];
-    walk_all(
-        string,
-        bytes,
-        no_any_input,
-        first,
-        index,
-        start,
-        part,
-        origins,
-        states,
-    )
+    walk_all(operands, start, part, origins, states)
 }
 
 // The final code of the state of a key: that of its state where its position is the last, else 0.
+// A code of 0 is none, as `put_codes` has it.
 fn code_of(codes: &[u32; MAX_STATES], last: u32, key: u32) -> u32
     ensures { result ≡ key_code codes.now last key }
 {
     let x = packing::unpack(key);
     if x.position == last {
-        let q = x.state as usize;
-        return codes[q];
+        codes[x.state as usize]
+    } else {
+        0
     }
-    0
 }
 
 // How many of the first `count` states are final.
@@ -263,16 +230,10 @@ fn final_count(codes: &[u32; MAX_STATES], last: u32, states: &[u32], count: usiz
     requires { (count ≤ length states.now) × (count ≤ max_states) }
     ensures { (result ≡ length (key_finals codes.now last (take count states.now))) × (result ≤ count) }
 {
-    let mut finals = 0;
-    let mut s = 0;
-    while s < count {
-        let code = code_of(codes, last, states[s]);
-        s += 1;
-        if code != 0 {
-            finals += 1;
-        }
-    }
-    finals
+    states[..count]
+        .iter()
+        .filter(|key| code_of(codes, last, **key) != 0)
+        .count()
 }
 
 // Writes the finals of the first `count` states, in order, behind the head.
@@ -283,14 +244,11 @@ fn put_finals(codes: &[u32; MAX_STATES], last: u32, states: &[u32], count: usize
         (final_records (key_finals codes.now last (take count states.now))) }
 {
     let mut finals = 0;
-    let mut s = 0;
-    while s < count {
+    for s in 0..count {
         let code = code_of(codes, last, states[s]);
-        let state = s as u16;
-        s += 1;
         if code != 0 {
             let f = Final {
-                state: state,
+                state: s as u16,
                 weight: transducer::weight_of(code),
             };
             transducer::put_final(table, transducer::arcs_at(finals), f);
@@ -321,17 +279,13 @@ fn trace(origins: &mut [u16], count: usize, arcs: &[u16; MAX_ARCS])
     requires { (count ≤ length origins.old) × ((i : ℕ) → i < count → get_or origins.old i 0 < max_arcs) }
     ensures { origins.new ≡ sets origins.old 0 (map (λ i. get_or arcs.now i 0) (take count origins.old)) }
 {
-    let mut i = 0;
-    while i < count {
-        let j = origins[i] as usize;
-        origins[i] = arcs[j];
-        i += 1;
+    for origin in &mut origins[..count] {
+        *origin = arcs[*origin as usize];
     }
 }
 
 // Applies a good string to an accepted transducer, into buffers that are long enough; `no_any_input` may be true only if no arc is for any symbol. The
-// lattice is
-// written behind room for head and finals, and trimmed from there.
+// lattice is written behind room for head and finals, and trimmed from there.
 pub fn apply_into(
     string: &[u16],
     bytes: &[u8],
@@ -339,10 +293,10 @@ pub fn apply_into(
     lattice: &mut [u8],
     origins: &mut [u16],
     pairs: &mut [u32],
-) -> Written
+) -> Result<u32, Refusal>
     requires { ApplyAsks string.now bytes.now no_any_input (length lattice.old) (length origins.old) (length pairs.old) }
     ensures { ApplySays string.now bytes.now (built_refusal (applied string.now (decode bytes.now)).result)
-        result lattice.old lattice.new origins.old origins.new pairs.old pairs.new }
+        (written result) lattice.old lattice.new origins.old origins.new pairs.old pairs.new }
 {
     let head = transducer::head_of(bytes);
     let f = head.finals as usize;
@@ -356,23 +310,20 @@ pub fn apply_into(
         &mut index,
     );
     let mut arcs = [0u16; MAX_ARCS];
-    let w = walk_behind(
+    let operands = Operands {
         string,
         bytes,
         no_any_input,
         first,
-        &index,
-        head.start,
-        lattice,
-        &mut arcs,
-        pairs,
-    );
+        index: &index,
+    };
+    let w = walk_behind(&operands, head.start, lattice, &mut arcs, pairs);
     if w.full != 0 {
-        return explore::refuse(lattice, origins, pairs, 11);
+        return explore::refuse(lattice, origins, pairs, Refusal::ManyStates);
     }
     let m = w.arcs;
     if MAX_ARCS < m {
-        return explore::refuse(lattice, origins, pairs, 12);
+        return explore::refuse(lattice, origins, pairs, Refusal::ManyArcs);
     }
     let mut codes = [0u32; MAX_STATES];
     transducer::put_codes(bytes, f, &mut codes);
@@ -381,11 +332,8 @@ pub fn apply_into(
     let len = trimming::trim_behind(lattice, from, end - from, origins);
     let kept = wire::u16_at(lattice, 6) as usize;
     trace(origins, kept, &arcs);
-    wire::clear32(pairs, 0);
-    Written {
-        refusal: 0,
-        len: len as u32,
-    }
+    wire::clear(pairs, 0, 0);
+    Ok(len as u32)
 }
 
 // Applies a string to a transducer: the lattice's bytes, trimmed, and for each of its arcs the arc that it came from. Time grows with the arcs
@@ -396,28 +344,24 @@ pub fn apply(
     lattice: &mut [u8],
     origins: &mut [u16],
     pairs: &mut [u32],
-) -> Written
+) -> Result<u32, Refusal>
     ensures { ApplySays string.now table.now
         (apply_refusal string.now table.now (length lattice.old) (length origins.old) (length pairs.old))
-        result lattice.old lattice.new origins.old origins.new pairs.old pairs.new }
+        (written result) lattice.old lattice.new origins.old origins.new pairs.old pairs.new }
 {
-    let looked = transducer::validate(table, false);
-    let number = looked.refusal;
-    if number != 0 {
-        return transducer::refused(number);
-    }
+    let facts = transducer::validate(table, false)?;
     if !string_ok(string) {
-        return transducer::refused(9);
+        return Err(Refusal::Symbols);
     }
     if lattice.len() < MAX_BYTES {
-        return transducer::refused(10);
+        return Err(Refusal::Room);
     }
     if origins.len() < MAX_ARCS {
-        return transducer::refused(10);
+        return Err(Refusal::Room);
     }
     if pairs.len() < MAX_STATES {
-        return transducer::refused(10);
+        return Err(Refusal::Room);
     }
-    let no_any_input = transducer::no_any_input(table, looked.no_any_input);
+    let no_any_input = transducer::no_any_input(table, facts.no_any_input);
     apply_into(string, table, no_any_input, lattice, origins, pairs)
 }

@@ -12,6 +12,7 @@ const STATE_MASK: u32 = STATES - 1;
 const POSITION_SHIFT: u32 = 10;
 
 // A lattice state as one number.
+#[tactic(auto, unfolding(crate::specs::Pack::pack))]
 pub fn pack(position: u32, state: u32) -> u32
     requires { (position < max_states) × (state < max_states) }
     ensures { result ≡ pack (record { position = position; state = state }) }

@@ -9,18 +9,6 @@ use transducer::MAX_BYTES;
 // The largest number of bytes that are copied into a small array: clearing a large one takes longer than everything else that a small lattice asks for.
 const FEW_BYTES: usize = 4096;
 
-// Copies the bytes that stand from a place on to the front of another buffer.
-fn copy_out(bytes: &[u8], from: usize, count: usize, to: &mut [u8])
-    requires { (from + count ≤ length bytes.now) × (count ≤ length to.old) }
-    ensures { take count to.new ≡ take count (drop from bytes.now) }
-{
-    let mut i = 0;
-    while i < count {
-        to[i] = bytes[from + i];
-        i += 1;
-    }
-}
-
 // Trims the lattice of `count` bytes that stands from a place on into the front of its buffer, by way of a copy in `work`.
 fn trim_through(
     lattice: &mut [u8],
@@ -33,8 +21,9 @@ fn trim_through(
     ensures { Trims (decode (take count (drop from lattice.old))) result lattice.old lattice.new
         origins.old origins.new }
 {
-    copy_out(lattice, from, count, work);
-    trim::trim_into(&work[0..count], true, lattice, origins)
+    let copy = &mut work[..count];
+    copy.copy_from_slice(&lattice[from..from + count]);
+    trim::trim_into(copy, true, lattice, origins)
 }
 
 // Trims the lattice of `count` bytes that stands from a place on into the front of its buffer. Answers its length in bytes then.

@@ -3,17 +3,16 @@
 // tests/limits/cases.py writes the cases. They take more steps than the interpreter of `rt try` has, whose compiled runs do them all.
 #![tactic(auto)]
 
-ghost use Rattle.std.specs.Prelude.{◌≡◌, ◌<◌, ◌≤◌, IfOk, length, take};
+ghost use Rattle.std.specs.Prelude.{◌<◌, IfOk, length};
 
 mod telling;
 
 use std::io;
-use std::io::Read;
 
 // The bytes that all cases take at most.
 const INPUT: usize = 655360;
 
-// Makes the call that a case names by number.
+// Makes the call that a case names by number. Nothing else knows these numbers, so that a type for them would be no plainer than the list.
 fn call(rt: &impl Print, number: u8, case: &[u8], room: u8) -> io::Result<()> {
     match number {
         1 => calls::read(rt, case, room),
@@ -39,13 +38,13 @@ fn run_case(rt: &impl Print, cases: &[u8], at: usize) -> io::Result<usize>
     let room = calls::byte(cases, at + 1);
     let name = calls::u16_or_0(cases, at + 2) as usize;
     let size = calls::u32_or_0(cases, at + 4) as usize;
-    calls::word(rt, calls::part(cases, at + 8, name))?;
+    rt.write_all(calls::part(cases, at + 8, name))?;
     call(rt, number, calls::part(cases, at + 8 + name, size), room)?;
-    calls::word(rt, b"\n")?;
+    println!(rt)?;
     Ok(at + 8 + name + size)
 }
 
-// Executes all cases.
+// Executes all cases. The next one stands where the one before ends, so there is no index to count.
 fn run(rt: &impl Print, cases: &[u8]) -> io::Result<()> {
     let mut at = 0;
     while at < cases.len() {
@@ -54,24 +53,9 @@ fn run(rt: &impl Print, cases: &[u8]) -> io::Result<()> {
     Ok(())
 }
 
-// Reads until `bytes` is full, the input ends or a read fails, and answers how many bytes there are.
-fn read_full(input: &mut impl Read, bytes: &mut [u8]) -> usize
-    ensures fits { result ≤ length bytes.new }
-    ensures front { result ≡ length (take result bytes.new) }
-{
-    let mut done = 0;
-    while done < bytes.len() {
-        match input.read(&mut bytes[done..]) {
-            Ok(0) | Err(_) => return done,
-            Ok(n) => done += n,
-        }
-    }
-    done
-}
-
 // Reads the cases that standard input lists into `bytes`, as many as there is room for, and executes them.
 fn run_input(rt: &(impl Print + Input), bytes: &mut [u8]) -> io::Result<()> {
-    let count = read_full(&mut rt.reader(), bytes);
+    let count = files::read_full(&mut rt.reader(), bytes);
     run(rt, &bytes[..count])
 }
 

@@ -1,5 +1,5 @@
 -- A path walked to and told is its line, and the listing in each case. Assumes nothing.
-use mathlib.Core.Path.{◌≡◌, refl, sym, ap, ◌∙◌, subst}
+use mathlib.Core.Path.{◌≡◌, refl, sym, ap, ◌∙◌}
 use mathlib.Core.Bool.{true, false}
 use mathlib.Core.List.{List, ◌∷◌, ◌++◌}
 use Prim.Native.Nat.{ℕ, ◌+◌, ◌*◌, ◌-◌, ◌≤◌, ◌<◌, min}
@@ -14,14 +14,16 @@ use Rattle.wire.proofs.Bool.{by_test}
 use Rattle.transducer.specs.Format.{Transducer, max_path}
 use Rattle.transducer.specs.Path.{written_by}
 use Rattle.transducer.specs.Entry.{unless, cost_unless, left_in}
-use Rattle.transducer.specs.Weight.{Weight}
-use Rattle.report.specs.declared.Told.{Told}
+use Rattle.transducer.specs.Weight.{magnitude}
+use Rattle.std.proofs.Common.{◌^◌, SFits, w64}
+use Rattle.std.proofs.lemmas.Int.{fits_signed_from_abs}
+use Rattle.report.specs.Answer.{Told}
 use Rattle.paths.specs.Count.{endless, path_count, nth_path, most_counted}
 use Rattle.report.specs.Tell.{Tells}
 use Rattle.paths.proofs.Ready.{Sized}
 use Rattle.paths.proofs.NthSays.{Found}
 use Rattle.listing.specs.Text.{decimal, newline, readings_word, endless_word, many_word, line, line_of, lines}
-use Rattle.listing.specs.Text.{counted_text, listing_text, least_room, Wrote}
+use Rattle.listing.specs.Text.{counted_text, listing_text, least_room}
 use Rattle.listing.proofs.Decimal.{two_digits}
 use Rattle.listing.proofs.Short.{Listable, listable, lines_short}
 
@@ -29,6 +31,7 @@ use Rattle.listing.proofs.Short.{Listable, listable, lines_short}
 
 pub record Got (t : Transducer) (k : ℕ) (r : Told) (labels : List ℕ) : Type 0 where
   pub inside : r.labels ≤ length labels
+  pub cost_fits : SFits w64 r.cost
   pub is_line : line k r.cost (take r.labels labels) ≡ line_of t k
 
 pub got : (t : Transducer) → Sized t → {k len : ℕ} {r : Told} {a b b' : List ℕ} → endless t ≡ false → k < path_count t → max_path ≤ length b
@@ -43,12 +46,8 @@ got t z {k} {len} {r} {a} {b} {b'} finite there room path told' =
     let put : b' ≡ filled (length b) w = told.labels in
     let long : length b' ≡ length b = ap length put ∙ length_filled (length b) w (omega arith) in
     let taken : take r.labels b' ≡ w = ap (λ (x : List ℕ). take r.labels x) put ∙ take_at w (replicate (length b - length w) 0) r.labels (sym many) in
-    record { inside = omega arith; is_line = rw (told.cost_is, taken) }
-
--- The line of equal costs.
-pub same_line : {a b : List ℕ} {at end : ℕ} {c d : Weight} (k : ℕ) (labels : List ℕ) → c ≡ d → Wrote a b at end (line k c labels)
-    → Wrote a b at end (line k d labels)
-same_line {a} {b} {at} {end} k labels e w = subst (λ (x : Weight). Wrote a b at end (line k x labels)) e w
+    let low : magnitude r.cost < 2 ^ 63 = rw told.cost_is (omega (arith, known.cost)) in
+    record { inside = omega arith; cost_fits = fits_signed_from_abs w64 r.cost low; is_line = rw (told.cost_is, taken) }
 
 -- The listing in each case.
 

@@ -1,5 +1,5 @@
 -- How long the parts of a listing are at most. Assumes nothing.
-use mathlib.Core.Path.{◌≡◌, refl, ap, ◌∙◌, subst}
+use mathlib.Core.Path.{◌≡◌, refl, ap, ◌∙◌}
 use mathlib.Core.Bool.{Bool, true, false, cond}
 use mathlib.Core.List.{List, [], ◌∷◌, ◌++◌, append_assoc, append-nil}
 use Prim.Native.Nat.{ℕ, zero, suc, ◌+◌, ◌*◌, ◌≤◌, ◌<◌, min}
@@ -52,21 +52,19 @@ labels_text_short (x ∷ xs) h =
     rw (length-append (decimal x) (labels_text xs)) (omega arith)
 
 -- Fewer labels are no longer.
-pub labels_text_mono : (i n : ℕ) (xs : List ℕ) → i ≤ n → length (labels_text (take i xs)) ≤ length (labels_text (take n xs))
+labels_text_take : (i : ℕ) (xs : List ℕ) → length (labels_text (take i xs)) ≤ length (labels_text xs)
 unfolding labels_text
-labels_text_mono zero n xs h = omega arith
-labels_text_mono (suc i) zero xs h = absurd (omega arith)
-labels_text_mono (suc i) (suc n) [] h = omega arith
-labels_text_mono (suc i) (suc n) (x ∷ xs) h =
-    let rest : length (labels_text (take i xs)) ≤ length (labels_text (take n xs)) = labels_text_mono i n xs (omega arith) in
-    rw (length-append (decimal x) (labels_text (take i xs)), length-append (decimal x) (labels_text (take n xs))) (omega arith)
+labels_text_take zero xs = omega arith
+labels_text_take (suc i) [] = omega arith
+labels_text_take (suc i) (x ∷ xs) =
+    rw (length-append (decimal x) (labels_text (take i xs)), length-append (decimal x) (labels_text xs)) (omega (arith, labels_text_take i xs))
 
-pub label_fits : (xs : List ℕ) (i n : ℕ) → i < n → n ≤ length xs
-    → length (labels_text (take i xs)) + (1 + length (decimal (get_or xs i 0))) ≤ length (labels_text (take n xs))
-label_fits xs i n h l =
+pub label_fits : (xs : List ℕ) (i : ℕ) → i < length xs
+    → length (labels_text (take i xs)) + (1 + length (decimal (get_or xs i 0))) ≤ length (labels_text xs)
+label_fits xs i h =
     let one : labels_text (take (i + 1) xs) ≡ labels_text (take i xs) ++ (32 ∷ decimal (get_or xs i 0)) =
-    rw (add-one, take-suc xs i 0 (omega arith)) (labels_text_snoc (take i xs) (get_or xs i 0)) in
-    omega (arith, labels_text_mono (i + 1) n xs (omega arith), ap length one ∙ length-append (labels_text (take i xs)) (32 ∷ decimal (get_or xs i 0)))
+    rw (add-one, take-suc xs i 0 h) (labels_text_snoc (take i xs) (get_or xs i 0)) in
+    omega (arith, labels_text_take (i + 1) xs, ap length one ∙ length-append (labels_text (take i xs)) (32 ∷ decimal (get_or xs i 0)))
 
 -- A cost: one byte more than its digits where it is below 0.
 pub cost_above : (c : Weight) → at_most no_weight c ≡ true → cost_text c ≡ decimal (magnitude c)
@@ -76,10 +74,6 @@ cost_above c e = rw e
 pub cost_below : (c : Weight) → at_most no_weight c ≡ false → cost_text c ≡ minus ∷ decimal (magnitude c)
 unfolding cost_text
 cost_below c e = rw e
-
--- The text of equal costs.
-pub same_cost : {a b : List ℕ} {at end : ℕ} {c d : Weight} → c ≡ d → Wrote a b at end (cost_text c) → Wrote a b at end (cost_text d)
-same_cost {a} {b} {at} {end} e w = subst (λ (x : Weight). Wrote a b at end (cost_text x)) e w
 
 cost_text_short : (c : Weight) → magnitude c < 10000000000 → length (cost_text c) ≤ 11
 cost_text_short c h =

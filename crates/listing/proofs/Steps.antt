@@ -6,23 +6,24 @@ use Prim.Native.Nat.{ℕ, ◌-◌, ◌%◌, ◌≤◌, ◌<◌}
 use native.Mathlib.Omega.{arith}
 use borrow.Author.Tests.{eq-eqb, ne_eqb, lt-ltb, le-ltb, lt-leb, leb-true, leb-false}
 use lib.Dec.{eqb, ltb, leb}
-use lib.ListN.{length, take, replicate, length-append, length-take}
+use lib.ListN.{length, take, get_or, replicate, length-append, length-take, length-replicate}
 use lib.Seq.{take_at, take_all}
+use Rattle.std.proofs.Common.{Fits, w8}
 use Rattle.wire.specs.Bytes.{Bytes, every, filled}
 use Rattle.wire.proofs.Bool.{by_test, and-true}
-use Rattle.transducer.specs.declared.Written.{Written}
-use Rattle.transducer.specs.Format.{Transducer, Good, max_symbols, barred, refusal, decode}
+use Rattle.transducer.specs.Answer.{Written}
+use Rattle.transducer.specs.Format.{Transducer, Good, max_symbols, max_states, max_arcs, max_bytes, max_origins, barred, refusal, decode}
 use Rattle.transducer.specs.Entry.{or_else, unless, left_in}
 use Rattle.transducer.proofs.RoundTrip.{accepted_good}
-use Rattle.compose.specs.Entry.{composition, composition_refusal}
+use Rattle.compose.specs.Entry.{ComposeSays, compose_refusal, composition, composition_refusal}
 use Rattle.compose.specs.Composition.{Composition}
 use Rattle.compose.proofs.Called.{ComposedCall, composed_number, composition_of, composable, composed_fits, composition_read, composition_accepted}
 use Rattle.lattice.specs.Apply.{string_good}
 use Rattle.lattice.specs.Lattice.{lattice}
-use Rattle.lattice.specs.ApplyEntry.{application_refusal}
+use Rattle.lattice.specs.ApplyEntry.{ApplySays, apply_refusal, application_refusal}
 use Rattle.lattice.specs.Application.{Application}
 use Rattle.lattice.proofs.Called.{Appliable, unrefused_appliable, AppliedCall, applied_number, application_of, applied_fits, applied_read, applied_accepted}
-use Rattle.listing.specs.declared.Listed.{Listed}
+use Rattle.listing.specs.Answer.{Listed}
 use Rattle.listing.specs.Code.{labels_in, most_loaded}
 use Rattle.listing.specs.Text.{listing_text, refused_text, least_room, Whole}
 use Rattle.listing.specs.Entry.{applied_refusal, listing_refusal, text_unless, applied_text, text_of, text_room, ListingSays}
@@ -44,6 +45,10 @@ pub text_kept : {out out' : List ℕ} {w : Listed} (number : ℕ) (text : List �
     → Whole out out' w number (text_unless number text)
 unfolding text_unless
 text_kept number text e p = rw e p
+
+-- A buffer as it is lent.
+abbrev zeros : (n : ℕ) → List ℕ
+zeros n = replicate n 0
 
 -- The string
 
@@ -92,6 +97,27 @@ pub record Applying (bs cs s : List ℕ) (r : Written) (a a' b b' c c' : List �
   pub string : s ≡ take most_loaded (labels_in cs)
   pub call : AppliedCall s bs r a a' b b' c c'
 
+-- Each buffer that is lent is long enough.
+pub applying : {bs cs s a b c : List ℕ} {r : Written} → ((i : ℕ) → Fits w8 (get_or bs i 0)) → refusal bs ≡ 0 → length cs % 2 ≡ 0
+    → s ≡ take most_loaded (labels_in cs)
+    → ApplySays s bs (apply_refusal s bs (length (zeros max_bytes)) (length (zeros max_arcs)) (length (zeros max_states))) r
+    (zeros max_bytes) a (zeros max_arcs) b (zeros max_states) c
+    → Applying bs cs s r (zeros max_bytes) a (zeros max_arcs) b (zeros max_states) c
+applying fits ok even string says =
+    record {
+      bytes = λ i. (fits i).fits;
+      accepted = ok;
+      even = even;
+      string = string;
+      call =
+          record {
+            lattice_room = omega (arith, length-replicate {A = ℕ} max_bytes 0);
+            origins_room = omega (arith, length-replicate {A = ℕ} max_arcs 0);
+            pairs_room = omega (arith, length-replicate {A = ℕ} max_states 0);
+            says = says;
+          };
+    }
+
 module _ {bs cs s : List ℕ} {r : Written} {a a' b b' c c' : List ℕ} (x : Applying bs cs s r a a' b b' c c') where
   apply_is : r.refusal ≡ applied_refusal (decode bs) cs
   apply_is = applied_number x.call x.accepted ∙ labels_number (decode bs) cs s x.even x.string
@@ -132,6 +158,23 @@ pub record Composing (xs ys : List ℕ) (r : Written) (a a' b b' c c' : List ℕ
   pub left : Bytes xs
   pub right : Bytes ys
   pub call : ComposedCall xs ys r a a' b b' c c'
+
+pub composing : {xs ys a b c : List ℕ} {r : Written} → ((i : ℕ) → Fits w8 (get_or xs i 0)) → ((i : ℕ) → Fits w8 (get_or ys i 0))
+    → ComposeSays xs ys (compose_refusal xs ys (length (zeros max_bytes)) (length (zeros max_origins)) (length (zeros max_states))) r
+    (zeros max_bytes) a (zeros max_origins) b (zeros max_states) c
+    → Composing xs ys r (zeros max_bytes) a (zeros max_origins) b (zeros max_states) c
+composing left right says =
+    record {
+      left = λ i. (left i).fits;
+      right = λ i. (right i).fits;
+      call =
+          record {
+            table_room = omega (arith, length-replicate {A = ℕ} max_bytes 0);
+            origins_room = omega (arith, length-replicate {A = ℕ} max_origins 0);
+            states_room = omega (arith, length-replicate {A = ℕ} max_states 0);
+            says = says;
+          };
+    }
 
 module _ {xs ys : List ℕ} {r : Written} {a a' b b' c c' : List ℕ} (cs : List ℕ) (x : Composing xs ys r a a' b b' c c') where
   compose_is : r.refusal ≡ composition_refusal xs ys

@@ -1,11 +1,12 @@
 -- Texts written one behind the other. Assumes nothing.
 use mathlib.Core.Path.{◌≡◌, refl, sym, ◌∙◌}
-use mathlib.Core.List.{List, [], ◌∷◌, ◌++◌}
-use Prim.Native.Nat.{ℕ, ◌+◌, ◌≤◌, ◌<◌}
-use native.Mathlib.Numerals.{add-one}
+use mathlib.Core.List.{List, [], ◌++◌, append_assoc}
+use Prim.Native.Nat.{ℕ, ◌+◌, ◌≤◌}
 use native.Mathlib.Omega.{arith}
-use lib.ListN.{length, get_or, take, length-append}
-use lib.Seq.{sets-eq, take-suc}
+use lib.ListN.{length, length-append}
+use lib.Seq.{sets-eq}
+use borrow.Rule.Slice.PartMut.{put_mid}
+use Rattle.std.proofs.lemmas.List.{drop-drop}
 use Rattle.wire.specs.Bytes.{cleared, filled}
 use Rattle.wire.proofs.Places.{sets_append, cleared_front}
 use Rattle.listing.specs.Text.{least_room, Wrote, Whole}
@@ -20,10 +21,10 @@ wrote_then {a} {b} {c} {at} {mid} {end} {xs} {ys} p q =
       bytes = q.bytes ∙ (rw (p.bytes, p.ends) (sym (sets_append a at xs ys)));
     }
 
--- One byte more of a text.
-pub wrote_next : {a b c : List ℕ} {at mid end : ℕ} (text : List ℕ) (i : ℕ) → i < length text → Wrote a b at mid (take i text)
-    → Wrote b c mid end (get_or text i 0 ∷ []) → Wrote a c at end (take (i + 1) text)
-wrote_next text i h p q = rw (add-one, take-suc text i 0 h) (wrote_then p q)
+-- A text copied to a part of what it is written in.
+pub wrote_part : (out text part : List ℕ) (at n : ℕ) → at + length text ≤ length out → part ≡ text → n ≡ length text
+    → Wrote out (put_mid at n out part) at (at + length text) text
+wrote_part out text part at n fits same long = record { ends = refl; bytes = rw (same, long, sets-eq text out at fits, drop-drop (length text) at out, append_assoc) }
 
 -- A text at the front with zeros behind.
 wrote_front : {a b : List ℕ} {end : ℕ} {xs : List ℕ} → Wrote a b 0 end xs → length xs ≤ length a → cleared end b ≡ filled (length a) xs

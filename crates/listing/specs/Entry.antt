@@ -5,7 +5,7 @@ use Rattle.transducer.specs.Entry.{or_else, unless, left_in}
 use Rattle.compose.specs.Entry.{composition, composition_refusal}
 use Rattle.lattice.specs.Lattice.{lattice}
 use Rattle.lattice.specs.ApplyEntry.{application_refusal}
-use Rattle.listing.specs.declared.Listed.{Listed}
+use Rattle.listing.specs.Answer.{Listed}
 use Rattle.listing.specs.Code.{labels_in}
 use Rattle.listing.specs.Text.{listing_text, refused_text, least_room}
 

@@ -6,7 +6,7 @@ use Rattle.transducer.specs.Format.{Transducer}
 use Rattle.transducer.specs.Path.{written_by, path_cost}
 use Rattle.transducer.specs.Weight.{Weight, no_weight, at_most, magnitude}
 use Rattle.paths.specs.Count.{endless, path_count, nth_path, most_counted}
-use Rattle.listing.specs.declared.Listed.{Listed}
+use Rattle.listing.specs.Answer.{Listed}
 
 -- The decimal digits of a number, no zero in front; the fuel is at least the number.
 unfoldable pub digits : (fuel n : ℕ) → List ℕ

@@ -10,13 +10,9 @@ pub fn load_labels(bytes: &[u8], string: &mut [u16; MOST_LOADED]) -> usize
     requires { length string.old ≡ most_loaded }
     ensures { Loaded bytes.now result string.new }
 {
-    let mut i = 0;
-    while i < MOST_LOADED {
-        if bytes.len() <= 2 * i + 1 {
-            return i;
-        }
+    let count = (bytes.len() / 2).min(MOST_LOADED);
+    for i in 0..count {
         string[i] = wire::u16_at(bytes, 2 * i);
-        i += 1;
     }
-    i
+    count
 }

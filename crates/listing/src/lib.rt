@@ -8,12 +8,12 @@ mod text;
 
 pub use code::{MOST_LOADED, load_labels};
 pub use entry::{LEAST_ROOM, listing as list};
-pub use lines::{list_into, refuse_into};
+pub use lines::{list_into, put_refused, refuse_into};
+use transducer::Refusal;
 
-// What the listing answers: 10 or 0, then how long the text is and the number of the refusal that the text says, 0 where it lists. Both are 0 on 10.
-#[derive(Clone, Copy)]
-pub struct Listed {
-    pub refusal: u32,
+// How long the text of a listing is, and the refusal that it says, if it says one and lists nothing.
+#[derive(Clone, Copy, Debug, PartialEq, Eq)]
+pub struct Listing {
     pub len: u32,
-    pub said: u32,
+    pub said: Option<Refusal>,
 }

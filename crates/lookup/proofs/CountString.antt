@@ -8,7 +8,7 @@ use lib.ListN.{length, take, length-take}
 use Rattle.wire.specs.Bytes.{Bytes}
 use Rattle.wire.proofs.Bool.{passed_last, not_raised}
 use Rattle.wire.proofs.Places.{take_told}
-use Rattle.transducer.specs.declared.Written.{Written}
+use Rattle.transducer.specs.Answer.{Written}
 use Rattle.transducer.specs.Format.{Transducer, Good, refusal, decode}
 use Rattle.transducer.specs.Encode.{encode}
 use Rattle.transducer.specs.Entry.{or_else}
@@ -20,10 +20,10 @@ use Rattle.lattice.specs.Apply.{string_good, applied}
 use Rattle.lattice.specs.ApplyEntry.{ApplySays}
 use Rattle.lattice.specs.Lattice.{lattice}
 use Rattle.lattice.proofs.LatticeGood.{refusal_lattice, decode_lattice}
-use Rattle.paths.specs.declared.Counted.{Counted}
+use Rattle.paths.specs.Answer.{Counted}
 use Rattle.paths.specs.Count.{endless, path_count}
 use Rattle.paths.specs.Entry.{accepted_count_refusal, count_refusal, CountSays}
-use Rattle.lookup.specs.declared.StringCount.{StringCount}
+use Rattle.lookup.specs.Answer.{StringCount}
 use Rattle.lookup.specs.Lookup.{count_string_refusal, CountStringSays}
 
 module _ (cs : List ℕ) (t : Transducer) where

@@ -22,15 +22,15 @@ use Rattle.reach.specs.Reach.{coaccessible}
 use Rattle.reach.proofs.Sized.{good_sized}
 use Rattle.paths.specs.Count.{path_count}
 use Rattle.paths.proofs.Endless.{count_some}
+use Rattle.transducer.specs.Answer.{validated}
 use Rattle.distance.specs.Ended.{unvalidated}
 use Rattle.distance.proofs.LeastKnown.{unvalidated_says}
-use Rattle.report.specs.declared.Told.{Told}
+use Rattle.report.specs.Answer.{Told}
 use Rattle.shortest.specs.Shortest.{shortest}
 use Rattle.shortest.specs.Entry.{accepted_shortest_refusal, ShortestSays}
 use Rattle.shortest.proofs.Cheapest.{nothing_accepts, shortest_accepts}
 use Rattle.shortest.proofs.FewPaths.{most_cost, few_bounded, few_rises, bounded_small}
-use Rattle.lookup.specs.declared.LookedUp.{LookedUp}
-use Rattle.lookup.specs.declared.StringCount.{StringCount}
+use Rattle.lookup.specs.Answer.{LookedUp, StringCount}
 use Rattle.lookup.specs.Lookup.{count_string_refusal, lookup_refusal, looked_up, CountStringSays}
 use Rattle.lookup.proofs.CountString.{CountedWell, counted_well}
 
@@ -88,7 +88,7 @@ module _ (cs bs : List ℕ) (bytes : Bytes bs) (ok : refusal bs ≡ 0) (r : Stri
     w_decoded : decode (take r.len a') ≡ w
     w_decoded = ap decode (says.bytes well) ∙ decode_lattice cs t good known.string known.fine
 
-    pub lattice_facts : ValidationSays (take r.len a') unvalidated
+    pub lattice_facts : ValidationSays (take r.len a') (validated unvalidated)
     lattice_facts = unvalidated_says (take r.len a') (rw w_decoded (good_sized w w_good)) w_accepted
 
     module _ (some : r.count ≡ 0 → ⊥) (k : Told) (d d' e e' : List ℕ)
@@ -105,6 +105,10 @@ module _ (cs bs : List ℕ) (bytes : Bytes bs) (ok : refusal bs ≡ 0) (r : Stri
 
       path_number : accepted_shortest_refusal (decode (take r.len a')) ≡ 0
       path_number = rw (w_decoded, reaches, few_rises w w_good known.finite)
+
+      -- A path is told.
+      pub told_well : k.refusal ≡ 0
+      told_well = telling.refusal_is ∙ path_number
 
       told_cost : k.cost ≡ path_cost w (shortest w)
       told_cost =

@@ -11,8 +11,7 @@ use Rattle.lattice.specs.Lattice.{lattice}
 use Rattle.paths.specs.Count.{path_count}
 use Rattle.paths.specs.Entry.{accepted_count_refusal}
 use Rattle.shortest.specs.Shortest.{shortest}
-use Rattle.lookup.specs.declared.LookedUp.{LookedUp}
-use Rattle.lookup.specs.declared.StringCount.{StringCount}
+use Rattle.lookup.specs.Answer.{LookedUp, StringCount}
 
 -- Applying and counting: 9 for a string that is not good, 11 and 12 for a lattice that is too large, then 14 if its accepting paths are infinitely many.
 unfoldable pub count_string_refusal : (string : List ℕ) → Transducer → ℕ

@@ -6,7 +6,7 @@ use Rattle.transducer.specs.Each.{path_fits}
 use Rattle.transducer.specs.Weight.{AtMost, magnitude}
 use Rattle.cycles.specs.Cycles.{negative_cycle}
 use Rattle.lattice.specs.Lattice.{lattice}
-use Rattle.lookup.specs.declared.LookedUp.{LookedUp}
+use Rattle.lookup.specs.Answer.{LookedUp}
 
 -- An accepting path of the transducer that fits the string.
 pub record Reads (cs : List ℕ) (t : Transducer) (x : List ℕ) : Type 0 where

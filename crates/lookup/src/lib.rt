@@ -4,45 +4,23 @@
 
 ghost use Rattle.std.specs.Prelude.{◌≡◌, length};
 ghost use Rattle.transducer.specs.Format.{decode};
-ghost use Rattle.transducer.specs.Weight.{no_weight};
+ghost use Rattle.lookup.specs.Answer.{lookup_of, count_of};
 ghost use Rattle.lookup.specs.Lookup.{TableAsks, LatticeAsks, LookupAsks, CountStringSays, looked_up};
 
-use transducer::{MAX_ARCS, MAX_BYTES, MAX_PATH, MAX_STATES};
+use transducer::{MAX_ARCS, MAX_BYTES, MAX_PATH, MAX_STATES, Refusal};
 
-// What a lookup answers: the refusal or 0, the number of accepting paths, 99 standing for 99 or more, and the least cost; both 0 on refusal.
-#[derive(Clone, Copy)]
-pub struct LookedUp {
-    pub refusal: u32,
+// What is found: the number of accepting paths, 99 standing for 99 or more, and the least cost.
+#[derive(Clone, Copy, Debug, PartialEq, Eq)]
+pub struct Found {
     pub count: u32,
     pub cost: i32,
 }
 
-// What applying and counting answer: the refusal or 0, the number of accepting paths, and the number of bytes of the lattice; both 0 on refusal.
-#[derive(Clone, Copy)]
-pub struct StringCount {
-    pub refusal: u32,
+// What applying and counting tell: the number of accepting paths, and the number of bytes of the lattice.
+#[derive(Clone, Copy, Debug, PartialEq, Eq)]
+pub struct LatticeCount {
     pub count: u32,
     pub len: u32,
-}
-
-fn not_counted(number: u32) -> StringCount
-    ensures { result ≡ record { refusal = number; count = 0; len = 0 } }
-{
-    StringCount {
-        refusal: number,
-        count: 0,
-        len: 0,
-    }
-}
-
-fn refused(number: u32) -> LookedUp
-    ensures { result ≡ record { refusal = number; count = 0; cost = no_weight } }
-{
-    LookedUp {
-        refusal: number,
-        count: 0,
-        cost: 0,
-    }
 }
 
 // Applies a string to an accepted transducer and counts the accepting paths of the lattice, which stays in its buffer. Refuses with 9, 11, 12 and 14.
@@ -53,27 +31,16 @@ pub fn count_string(
     lattice: &mut [u8],
     origins: &mut [u16],
     pairs: &mut [u32],
-) -> StringCount
+) -> Result<LatticeCount, Refusal>
     requires { LatticeAsks table.now no_any_input (length lattice.old) (length origins.old) (length pairs.old) }
-    ensures { CountStringSays string.now (decode table.now) result lattice.new }
+    ensures { CountStringSays string.now (decode table.now) (count_of result) lattice.new }
 {
     if !lattice::string_ok(string) {
-        return not_counted(9);
+        return Err(Refusal::Symbols);
     }
-    let put = lattice::apply_into(string, table, no_any_input, lattice, origins, pairs);
-    if put.refusal != 0 {
-        return not_counted(put.refusal);
-    }
-    let len = put.len as usize;
-    let counted = paths::count_accepted(&lattice[..len]);
-    if counted.refusal != 0 {
-        return not_counted(counted.refusal);
-    }
-    StringCount {
-        refusal: 0,
-        count: counted.count,
-        len: put.len,
-    }
+    let len = lattice::apply_into(string, table, no_any_input, lattice, origins, pairs)?;
+    let count = paths::count_accepted(&lattice[..len as usize])?;
+    Ok(LatticeCount { count, len })
 }
 
 // Looks a string up on an accepted transducer, in buffers lent to work in. Refuses with 9, 11, 12, 14, then 16 if no path reads it.
@@ -86,33 +53,28 @@ pub fn lookup_in(
     pairs: &mut [u32],
     arcs: &mut [u16],
     labels: &mut [u16],
-) -> LookedUp
+) -> Result<Found, Refusal>
     requires { LookupAsks table.now no_any_input (length lattice.old) (length origins.old) (length pairs.old) (length arcs.old) (length
         labels.old) }
-    ensures { result ≡ looked_up string.now (decode table.now) }
+    ensures { lookup_of result ≡ looked_up string.now (decode table.now) }
 {
-    let read = count_string(string, table, no_any_input, lattice, origins, pairs);
-    if read.refusal != 0 {
-        return refused(read.refusal);
-    }
+    let read = count_string(string, table, no_any_input, lattice, origins, pairs)?;
     if read.count == 0 {
-        return refused(16);
+        return Err(Refusal::NoPath);
     }
     let len = read.len as usize;
     let seen = distance::unvalidated();
-    let told = shortest::shortest_accepted(&lattice[..len], seen, arcs, labels);
-    let cost = told.cost as i32;
-    LookedUp {
-        refusal: 0,
+    let told = shortest::shortest_accepted(&lattice[..len], seen, arcs, labels)?;
+    Ok(Found {
         count: read.count,
-        cost,
-    }
+        cost: told.cost as i32,
+    })
 }
 
 // Looks a string up on an accepted transducer, in arrays of its own; `no_any_input` only if no arc is for any symbol.
-pub fn lookup(string: &[u16], table: &[u8], no_any_input: bool) -> LookedUp
+pub fn lookup(string: &[u16], table: &[u8], no_any_input: bool) -> Result<Found, Refusal>
     requires { TableAsks table.now no_any_input }
-    ensures { result ≡ looked_up string.now (decode table.now) }
+    ensures { lookup_of result ≡ looked_up string.now (decode table.now) }
 {
     let mut lattice = [0u8; MAX_BYTES];
     let mut origins = [0u16; MAX_ARCS];

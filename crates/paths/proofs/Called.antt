@@ -14,8 +14,8 @@ use Rattle.transducer.specs.Format.{max_path, Transducer, refusal, decode}
 use Rattle.transducer.specs.Path.{written_by, path_cost}
 use Rattle.transducer.specs.Entry.{unless, cost_unless, left_in}
 use Rattle.transducer.proofs.Answers.{none_or_else, unless_none, left_in_none, cost_unless_none}
-use Rattle.report.specs.declared.Told.{Told}
-use Rattle.paths.specs.declared.Counted.{Counted}
+use Rattle.report.specs.Answer.{Told}
+use Rattle.paths.specs.Answer.{Counted}
 use Rattle.paths.specs.Count.{endless, path_count, nth_path}
 use Rattle.paths.specs.Entry.{count_refusal, CountSays, nth_refusal, NthSays}
 use Rattle.paths.specs.Calls.{Counting, Telling}

@@ -1,6 +1,6 @@
 -- What `count` and `count_accepted` answer, case by case: a refusal of 1 to 8, 14, and success. Assumes nothing.
-use mathlib.Core.Path.{◌≡◌, refl, sym, ap, ◌∙◌}
-use mathlib.Core.Bool.{Bool, true, false}
+use mathlib.Core.Path.{◌≡◌, refl, sym, ◌∙◌}
+use mathlib.Core.Bool.{true, false}
 use mathlib.Core.List.{List}
 use Prim.Native.Nat.{ℕ}
 use borrow.Author.Tests.{ne_eqb}
@@ -9,11 +9,11 @@ use Rattle.transducer.specs.Format.{decode, refusal}
 use Rattle.transducer.specs.Entry.{or_else, unless}
 use Rattle.transducer.proofs.Answers.{none_or_else}
 use Rattle.capped.specs.declared.Count.{Count}
-use Rattle.paths.specs.declared.Counted.{Counted}
+use Rattle.paths.specs.Answer.{Counted}
 use Rattle.paths.specs.Count.{endless, path_count}
-use Rattle.paths.specs.Sweep.{at_state, PathCounts}
+use Rattle.paths.specs.Sweep.{at_state, Totalled}
 use Rattle.paths.specs.Entry.{accepted_count_refusal, count_refusal, CountSays}
-use Rattle.paths.proofs.Sweep.{settled_path_count}
+use Rattle.paths.proofs.NthSays.{start_count}
 use Rattle.paths.proofs.Ready.{Sized}
 
 -- 1 to 8
@@ -30,22 +30,16 @@ unfolding count_refusal
 count_passed {bs} e h says = rw (none_or_else (refusal bs) (accepted_count_refusal (decode bs)) (sym e ∙ h)) says
 
 -- 14
-pub count_endless : {bs : List ℕ} {b : Bool} → b ≡ endless (decode bs) → b ≡ true
-    → CountSays bs (accepted_count_refusal (decode bs)) (record { refusal = 14; count = 0 })
+pub count_endless : {bs : List ℕ} → endless (decode bs) ≡ true → CountSays bs (accepted_count_refusal (decode bs)) (record { refusal = 14; count = 0 })
 unfolding unless
-count_endless {bs} l q =
-    let ends : endless (decode bs) ≡ true = sym l ∙ q in
-    rw ends (record { refusal_is = refl; count_is = refl })
+count_endless ends = rw ends (record { refusal_is = refl; count_is = refl })
 
 -- The count
 pub count_known : {bs : List ℕ} {c : ℕ} → endless (decode bs) ≡ false → c ≡ path_count (decode bs)
     → CountSays bs (accepted_count_refusal (decode bs)) (record { refusal = 0; count = c })
 unfolding unless
-count_known ends k = rw ends (record { refusal_is = refl; count_is = k })
+count_known finite k = rw finite (record { refusal_is = refl; count_is = k })
 
-pub count_found : {bs : List ℕ} {b : Bool} {cs : List Count} {start : ℕ}
-    → Sized (decode bs) → b ≡ endless (decode bs) → b ≡ false → PathCounts (decode bs) cs → start ≡ (decode bs).start
+pub count_found : {bs : List ℕ} {cs : List Count} {start : ℕ} → Sized (decode bs) → Totalled (decode bs) cs → start ≡ (decode bs).start
     → CountSays bs (accepted_count_refusal (decode bs)) (record { refusal = 0; count = at_state cs start })
-count_found {bs} {b} {cs} {start} z l q k s =
-    let ends : endless (decode bs) ≡ false = sym l ∙ q in
-    count_known ends (ap (at_state cs) s ∙ settled_path_count (decode bs) z.within cs k ends)
+count_found {bs} {cs} {start} z k s = count_known k.finite (start_count (decode bs) z cs start k s)

@@ -1,6 +1,6 @@
 -- The counts of the marked states (`Tallied`), and the counts in the end. Assumes nothing.
 use mathlib.Core.Path.{◌≡◌, refl, sym, ap, ◌∙◌}
-use mathlib.Core.Bool.{Bool, true, false, not}
+use mathlib.Core.Bool.{Bool, true, false, not, cond}
 use mathlib.Core.Logic.{◌⊎◌, inl, inr}
 use mathlib.Core.List.{List}
 use Prim.Native.Nat.{ℕ, zero, suc, ◌+◌, ◌≤◌, ◌<◌, min}
@@ -12,10 +12,11 @@ use Rattle.transducer.specs.Format.{Transducer}
 use Rattle.transducer.specs.Path.{arc}
 use Rattle.reach.specs.Reach.{coaccessible}
 use Rattle.capped.specs.declared.Count.{Count}
-use Rattle.paths.specs.Count.{paths_from, goes_on, most_counted}
+use Rattle.paths.specs.Count.{paths_from, goes_on, endless, most_counted}
 use Rattle.paths.specs.Tally.{add_all, tally}
 use Rattle.capped.specs.Marks.{marked}
-use Rattle.paths.specs.Sweep.{at_state, leads_on, Tallied, TotalsSay}
+use Rattle.paths.specs.declared.Totals.TheVariants.{Finite, Endless}
+use Rattle.paths.specs.Sweep.{at_state, leads_on, Tallied, PathCounts, TotalsSay}
 use Rattle.paths.specs.Counting.{Rested}
 use Rattle.paths.proofs.GoesOn.{dead_none}
 use Rattle.paths.proofs.Tally.{add_all_same}
@@ -73,13 +74,10 @@ tallied_dead t z ms ms' cs w from = record { long = w.long; rounds = w.rounds; t
 -- The counts stand where none waits and each unmarked state is live.
 pub totals_say : (t : Transducer) → Sized t → (ms : List Bool) (start : ℕ) (cs : List Count) → Rested t ms cs
     → ((s : ℕ) → s < t.states → marked ms s ≡ false → coaccessible t.states t s ≡ true) → start ≡ t.start
-    → TotalsSay t (record { counts = cs; endless = not (marked ms start) })
+    → TotalsSay t (cond (marked ms start) (Finite cs) (Endless cs))
 unfolding leads_on
 totals_say t z ms start cs r alive e =
-    record {
-      endless_is = rw e (unmarked_endless t z.within (marked ms) r.rest alive r.stopping);
-      settled = record { long = r.tallied.long; counts = λ s b f. on s b f (marked ms s) refl };
-    }
+    told (marked ms start) (rw e (unmarked_endless t z.within (marked ms) r.rest alive r.stopping))
   where
     on : (s : ℕ) → s < t.states → goes_on t.states t s ≡ false → (c : Bool) → marked ms s ≡ c
         → at_state cs s ≡ min most_counted (length (paths_from t.states t s))
@@ -87,3 +85,10 @@ totals_say t z ms start cs r alive e =
         let k : ℕ = r.tallied.rounds + t.states in
         r.tallied.tallied s b q k (omega arith) ∙ finite_tally t z.within s (record { below = b; stops = f }) k (omega arith)
     on s b f false q = clash (unmarked_goes_on t z.within (marked ms) r.rest alive t.states s b q) f
+
+    settled : PathCounts t cs
+    settled = record { long = r.tallied.long; counts = λ s b f. on s b f (marked ms s) refl }
+
+    told : (c : Bool) → not c ≡ endless t → TotalsSay t (cond c (Finite cs) (Endless cs))
+    told true h = record { finite = sym h; settled = settled }
+    told false h = (sym h, settled)

@@ -1,11 +1,11 @@
 -- What `nth` and `nth_accepted` answer, case by case: a refusal of 1 to 8, a buffer that is too short, 14, 15, and success. Assumes nothing.
 use mathlib.Core.Path.{◌≡◌, sym, ap, ◌∙◌}
-use mathlib.Core.Bool.{Bool, true, false, ◌||◌, cond}
+use mathlib.Core.Bool.{true, false, ◌||◌, cond}
 use mathlib.Core.List.{List}
 use Prim.Native.Nat.{ℕ, ◌-◌, ◌≤◌, ◌<◌}
 use native.Mathlib.Omega.{arith}
 use borrow.Author.Tests.{ne_eqb, lt-ltb, le-ltb, le-leb, lt-leb}
-use lib.Dec.{eqb, ltb, leb}
+use lib.Dec.{eqb, ltb}
 use lib.ListN.{length, take, replicate}
 use lib.Seq.{take_at}
 use Rattle.wire.specs.Bytes.{filled}
@@ -14,9 +14,9 @@ use Rattle.transducer.specs.Format.{Transducer, max_path, decode, refusal}
 use Rattle.transducer.specs.Path.{accepts}
 use Rattle.transducer.specs.Entry.{or_else}
 use Rattle.capped.specs.declared.Count.{Count}
-use Rattle.report.specs.declared.Told.{Told}
+use Rattle.report.specs.Answer.{Told}
 use Rattle.paths.specs.Count.{endless, path_count, nth_path}
-use Rattle.paths.specs.Sweep.{at_state, PathCounts}
+use Rattle.paths.specs.Sweep.{at_state, Totalled}
 use Rattle.report.specs.Tell.{Tells}
 use Rattle.paths.specs.Entry.{accepted_nth_refusal, nth_refusal, NthSays}
 use Rattle.paths.proofs.Sweep.{settled_path_count}
@@ -66,33 +66,28 @@ module _ (bs : List ℕ) (k : ℕ) {a b : List ℕ} {r : Told} where
       rw (ok, le-ltb (length a) max_path la, le-ltb (length b) max_path lb) says
 
   -- 14
-  pub nth_endless : {is : Bool} → is ≡ endless (decode bs) → is ≡ true → r ≡ refused_told 14
-      → NthSays bs k (accepted_nth_refusal (decode bs) k) r a a b b
-  nth_endless l q h =
-      let on : endless (decode bs) ≡ true = sym l ∙ q in
-      told_refused (decode bs) (nth_path (decode bs) k) (accepted_nth_refusal (decode bs) k) 14 r a b (rw on) (λ q'. omega arith) h
+  pub nth_endless : endless (decode bs) ≡ true → r ≡ refused_told 14 → NthSays bs k (accepted_nth_refusal (decode bs) k) r a a b b
+  nth_endless ends h =
+      told_refused (decode bs) (nth_path (decode bs) k) (accepted_nth_refusal (decode bs) k) 14 r a b (rw ends) (λ q. omega arith) h
 
   -- 15
-  pub nth_none : {is : Bool} → is ≡ endless (decode bs) → is ≡ false → path_count (decode bs) ≤ k → r ≡ refused_told 15
+  pub nth_none : endless (decode bs) ≡ false → path_count (decode bs) ≤ k → r ≡ refused_told 15
       → NthSays bs k (accepted_nth_refusal (decode bs) k) r a a b b
-  nth_none l q many h =
-      let off : endless (decode bs) ≡ false = sym l ∙ q in
+  nth_none finite many h =
       told_refused (decode bs) (nth_path (decode bs) k) (accepted_nth_refusal (decode bs) k) 15 r a b
-      (rw (off, le-leb (path_count (decode bs)) k many)) (λ q'. omega arith) h
+      (rw (finite, le-leb (path_count (decode bs)) k many)) (λ q. omega arith) h
 
-  pub nth_found : {is : Bool} {len : ℕ} {a' b' : List ℕ} → is ≡ endless (decode bs) → is ≡ false → k < path_count (decode bs)
+  pub nth_found : {len : ℕ} {a' b' : List ℕ} → endless (decode bs) ≡ false → k < path_count (decode bs)
       → a' ≡ filled (length a) (nth_path (decode bs) k) → Found (decode bs) k len a' → Tells (decode bs) (take len a') r b b'
       → NthSays bs k (accepted_nth_refusal (decode bs) k) r a a' b b'
-  nth_found {a' = a'} {b' = b'} l q there put path told' =
+  nth_found {a' = a'} {b' = b'} finite there put path told' =
       let told : Tells (decode bs) (nth_path (decode bs) k) r b b' = rw path.taken at told' in
-      let off : endless (decode bs) ≡ false = sym l ∙ q in
       told_found (decode bs) (nth_path (decode bs) k) (accepted_nth_refusal (decode bs) k) r a a' b b'
-      (rw (off, lt-leb (path_count (decode bs)) k there)) put told
+      (rw (finite, lt-leb (path_count (decode bs)) k there)) put told
 
 -- The count that was found at the start.
-pub start_count : (t : Transducer) → Sized t → (cs : List Count) (start : ℕ) {is : Bool} → PathCounts t cs → start ≡ t.start → is ≡ endless t → is ≡ false
-    → at_state cs start ≡ path_count t
-start_count t z cs start k e l q = rw e (settled_path_count t z.within cs k (sym l ∙ q))
+pub start_count : (t : Transducer) → Sized t → (cs : List Count) (start : ℕ) → Totalled t cs → start ≡ t.start → at_state cs start ≡ path_count t
+start_count t z cs start k e = rw e (settled_path_count t z.within cs k.settled k.finite)
 
 pub found : (t : Transducer) → Sized t → (k len : ℕ) (a a' : List ℕ) → endless t ≡ false → k < path_count t → 1023 ≤ length a
     → a' ≡ filled (length a) (nth_path t k) → len ≡ length (nth_path t k) → Found t k len a'

@@ -6,7 +6,8 @@ use Prim.Native.Nat.{ℕ, ◌+◌, ◌≤◌, ◌<◌}
 use native.Mathlib.Omega.{arith}
 use lib.Dec.{eqb}
 use lib.ListN.{length, get_or}
-use Rattle.transducer.specs.Format.{Transducer}
+use Rattle.std.proofs.Common.{Fits, w8}
+use Rattle.transducer.specs.Format.{Transducer, decode, refusal}
 use Rattle.transducer.specs.Path.{arc, is_final}
 use Rattle.transducer.specs.Accepted.{arcs_below, Indexed, FinalsByState}
 use Rattle.transducer.proofs.Finals.{final_code_some}
@@ -17,6 +18,19 @@ use Rattle.transducer.specs.declared.preparing.Shape.{Shape}
 use Rattle.transducer.specs.Prepare.{Prepared}
 use Rattle.paths.specs.Sweep.{Ready}
 use Rattle.paths.specs.Tally.{own}
+
+-- Accepted bytes that were read: few states and arcs, and the start among the states.
+pub sized_read : (bs : List ℕ) → ((i : ℕ) → Fits w8 (get_or bs i 0)) → refusal bs ≡ 0 → Sized (decode bs)
+sized_read bs h ok = sized bs (λ i. omega (arith, h i)) ok
+
+pub few_states : (bs : List ℕ) → ((i : ℕ) → Fits w8 (get_or bs i 0)) → refusal bs ≡ 0 → (decode bs).states ≤ 1024
+few_states bs h ok = (sized_read bs h ok).states
+
+pub few_arcs : (bs : List ℕ) → ((i : ℕ) → Fits w8 (get_or bs i 0)) → refusal bs ≡ 0 → length (decode bs).arcs ≤ 3072
+few_arcs bs h ok = (sized_read bs h ok).arcs
+
+pub start_low : (bs : List ℕ) → ((i : ℕ) → Fits w8 (get_or bs i 0)) → refusal bs ≡ 0 → (decode bs).start < 1024
+start_low bs h ok = let z = sized_read bs h ok in omega (arith, z.within.starts, z.states)
 
 -- What is prepared has where the arcs begin, the states and the index.
 pub prepared_ready : {bs index codes : List ℕ} {shape : Shape} → Prepared bs shape index codes → Ready bs shape.first shape.states index

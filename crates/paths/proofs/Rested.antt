@@ -19,7 +19,8 @@ use Rattle.reach.proofs.Closure.{get_or_none}
 use Rattle.capped.specs.declared.Count.{Count}
 use Rattle.paths.specs.Tally.{own, tally}
 use Rattle.capped.specs.Marks.{marked}
-use Rattle.paths.specs.Sweep.{leads_on, at_state, TotalsSay}
+use Rattle.paths.specs.declared.Totals.TheVariants.{Finite, Endless}
+use Rattle.paths.specs.Sweep.{leads_on, at_state, Totalled, TotalsSay}
 use Rattle.paths.specs.TopSorted.{EmptyPaths}
 use Rattle.capped.specs.Marks.{WithDead}
 use Rattle.paths.specs.Counting.{by_marks, OpenedArcs, Stacked, sum_done, Underway, Rested, Grown}
@@ -69,7 +70,7 @@ underway_rested t z ms left stack top cs e w =
     }
 
 pub rested_all : (t : Transducer) → Sized t → (ms : List Bool) (cs : List Count) → Rested t ms cs → ((s : ℕ) → s < t.states → marked ms s ≡ true)
-    → TotalsSay t (record { counts = cs; endless = false })
+    → Totalled t cs
 rested_all t z ms cs r all =
     let found = totals_say t z ms t.start cs r (λ s b q. clash (all s b) q) refl in
     rw (all t.start z.within.starts) at found
@@ -77,7 +78,7 @@ rested_all t z ms cs r all =
 -- No unmarked state is dead.
 pub rested_live : (t : Transducer) → Sized t → (live ms : List Bool) (start : ℕ) (cs : List Count) → Marked (coaccessible t.states t) live → Rested t ms cs
     → ((s : ℕ) → s < t.states → marked live s ≡ false → marked ms s ≡ true) → start ≡ t.start
-    → TotalsSay t (record { counts = cs; endless = not (marked ms start) })
+    → TotalsSay t (cond (marked ms start) (Finite cs) (Endless cs))
 unfolding marked
 rested_live t z live ms start cs l r none e = totals_say t z ms start cs r (λ s b q. on s b q (marked live s) refl) e
   where
@@ -187,7 +188,7 @@ module _ (t : Transducer) (z : Sized t) (live ms ms' : List Bool) (cs : List Cou
 
   -- In the end each unmarked state is live.
   pub rested_dead : (ms'' : List Bool) (start : ℕ) (cs' : List Count) → Rested t ms'' cs' → Grown ms' ms'' → start ≡ t.start
-      → TotalsSay t (record { counts = cs'; endless = not (marked ms'' start) })
+      → TotalsSay t (cond (marked ms'' start) (Finite cs') (Endless cs'))
   rested_dead ms'' start cs' r' more e = totals_say t z ms'' start cs' r' (λ s b q. on s b q (coaccessible t.states t s) refl) e
     where
       on : (s : ℕ) → s < t.states → marked ms'' s ≡ false → (c : Bool) → coaccessible t.states t s ≡ c → coaccessible t.states t s ≡ true

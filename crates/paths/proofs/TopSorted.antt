@@ -27,7 +27,7 @@ use Rattle.reach.proofs.Reach.{SomeAt, some_arc_at}
 use Rattle.paths.specs.Count.{goes_on, endless}
 use Rattle.capped.specs.Capped.{add}
 use Rattle.paths.specs.Tally.{own, tally}
-use Rattle.paths.specs.Sweep.{at_state, TotalsSay}
+use Rattle.paths.specs.Sweep.{at_state, Totalled}
 use Rattle.paths.specs.TopSorted.{TopSorted, EmptyPaths}
 use Rattle.paths.proofs.Tally.{sum_arcs, sum_arcs_monotone, add_all_sum, add_all_same, own_small}
 use Rattle.paths.proofs.Sweep.{finite_tally}
@@ -230,11 +230,11 @@ module _ (t : Transducer) (z : Sized t) (cs : List Count) (p : Passed t 0 cs) wh
       p.sums s b ∙ (sym (add_all_sum t (at_state cs) s) ∙ add_all_same t (at_state cs) (tally k t) s
       (λ i l e. is_tally k (arc t i).target (z.within.arrives i l) (omega (arith, higher i l, e))))
 
-  pub passed_all : TotalsSay t (record { counts = cs; endless = false })
+  pub passed_all : Totalled t cs
   unfolding endless
   passed_all =
       record {
-        endless_is = sym (stops t.states t.start z.within.starts (omega arith));
+        finite = stops t.states t.start z.within.starts (omega arith);
         settled = record {
           long = p.long;
           counts = λ s b f. is_tally t.states s b (omega arith) ∙ finite_tally t z.within s (record { below = b; stops = f }) t.states (omega arith);

@@ -1,8 +1,8 @@
 -- Calls of `path_count` and `nth_path` on some bytes, answered as their contracts say; any of them may be refused. Assumes nothing: these are definitions.
 use Rattle.std.specs.Prelude.{List, ℕ, ◌≤◌, ◌<◌, length, take}
 use Rattle.transducer.specs.Format.{max_path}
-use Rattle.report.specs.declared.Told.{Told}
-use Rattle.paths.specs.declared.Counted.{Counted}
+use Rattle.report.specs.Answer.{Told}
+use Rattle.paths.specs.Answer.{Counted}
 use Rattle.paths.specs.Entry.{count_refusal, CountSays, nth_refusal, NthSays}
 
 -- The path count.

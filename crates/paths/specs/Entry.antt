@@ -2,8 +2,8 @@
 use Rattle.std.specs.Prelude.{◌≡◌, ◌||◌, cond, List, ℕ, ltb, leb}
 use Rattle.transducer.specs.Format.{Transducer, max_path, refusal, decode}
 use Rattle.transducer.specs.Entry.{or_else, unless}
-use Rattle.paths.specs.declared.Counted.{Counted}
-use Rattle.report.specs.declared.Told.{Told}
+use Rattle.paths.specs.Answer.{Counted}
+use Rattle.report.specs.Answer.{Told}
 use Rattle.report.specs.Tell.{PathTold}
 use Rattle.paths.specs.Count.{endless, path_count, nth_path}
 

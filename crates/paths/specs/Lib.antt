@@ -1,5 +1,6 @@
 -- What a caller must believe
 pub mod Count
+pub mod Answer
 pub mod Entry
 -- What is claimed of
 pub mod Calls

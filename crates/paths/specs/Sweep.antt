@@ -4,6 +4,7 @@ use Rattle.transducer.specs.Format.{max_states, Transducer, decode}
 use Rattle.transducer.specs.Accepted.{AcceptedAt, Indexed}
 use Rattle.capped.specs.declared.Count.{Count}
 use Rattle.paths.specs.declared.Totals.{Totals}
+use Rattle.paths.specs.declared.Totals.TheVariants.{Finite, Endless}
 use Rattle.reach.specs.Reach.{some_arc}
 use Rattle.capped.specs.Marks.{marked}
 use Rattle.paths.specs.Count.{paths_from, goes_on, endless, most_counted}
@@ -43,6 +44,11 @@ pub record PathCounts (t : Transducer) (cs : List Count) : Type 0 where
   pub long : length cs ≡ max_states
   pub counts : (s : ℕ) → s < t.states → goes_on t.states t s ≡ false → at_state cs s ≡ min most_counted (length (paths_from t.states t s))
 
-pub record TotalsSay (t : Transducer) (r : Totals) : Type 0 where
-  pub endless_is : r.endless ≡ endless t
-  pub settled : PathCounts t r.counts
+pub record Totalled (t : Transducer) (cs : List Count) : Type 0 where
+  pub finite : endless t ≡ false
+  pub settled : PathCounts t cs
+
+-- The counts, by whether accepting paths are infinitely many.
+abbrev pub TotalsSay : Transducer → Totals → Type 0
+TotalsSay t (Finite cs) = Totalled t cs
+TotalsSay t (Endless cs) = (endless t ≡ true) × PathCounts t cs

@@ -1,13 +1,11 @@
 -- Counts where states are topologically sorted. Assumes nothing: these are definitions.
-use Rattle.std.specs.Prelude.{◌≡◌, true, false, List, ℕ, ◌≤◌, ◌<◌, length}
+use Rattle.std.specs.Prelude.{◌≡◌, Bool, false, List, ℕ, ◌≤◌, ◌<◌, length, Option, IfSome, IsTrue}
 use Rattle.transducer.specs.Format.{max_states, Transducer}
 use Rattle.transducer.specs.Path.{arc}
 use Rattle.capped.specs.declared.Count.{Count}
-use Rattle.paths.specs.declared.FromStart.{FromStart}
-use Rattle.paths.specs.declared.Pass.{Pass}
 use Rattle.paths.specs.Count.{endless, path_count}
 use Rattle.paths.specs.Tally.{own}
-use Rattle.paths.specs.Sweep.{at_state, TotalsSay}
+use Rattle.paths.specs.Sweep.{at_state, Totalled}
 
 -- From arc i on states are topologically sorted: each arc leads to a higher number.
 abbrev pub TopSorted : Transducer → (i : ℕ) → Type 0
@@ -19,9 +17,12 @@ pub record EmptyPaths (t : Transducer) (states : ℕ) (cs : List Count) : Type 0
   pub counts : (s : ℕ) → s < states → at_state cs s ≡ own t s
 
 -- Topologically sorted, a transducer has no cycle.
-pub record PassSays (t : Transducer) (r : Pass) : Type 0 where
-  pub complete : r.sorted ≡ true → TotalsSay t (record { counts = r.counts; endless = false })
+abbrev pub PassSays : Transducer → (sorted : Bool) → List Count → Type 0
+PassSays t sorted cs = IsTrue sorted → Totalled t cs
 
-pub record FromStartSays (t : Transducer) (r : FromStart) : Type 0 where
-  pub finite : r.sorted ≡ true → endless t ≡ false
-  pub complete : r.sorted ≡ true → r.count.value ≡ path_count t
+pub record FromStart (t : Transducer) (c : Count) : Type 0 where
+  pub finite : endless t ≡ false
+  pub complete : c.value ≡ path_count t
+
+abbrev pub FromStartSays : Transducer → Option Count → Type 0
+FromStartSays t r = IfSome r (λ c. FromStart t c)

@@ -1,8 +1,9 @@
 // One running count for each state, complete once all its arcs lead to states whose counts are.
-ghost use Rattle.std.specs.Prelude.{◌≡◌, true, false, ◌-◌, ◌≤◌, ◌<◌, length, get_or, replicate};
+ghost use Rattle.std.specs.Prelude.{◌≡◌, true, false, cond, ◌-◌, ◌≤◌, ◌<◌, length, get_or, replicate};
 ghost use Rattle.transducer.specs.Format.{max_arcs, max_states, refusal, decode};
 ghost use Rattle.transducer.specs.Accepted.{AcceptedAt};
 ghost use Rattle.reach.specs.Stack.{Chained};
+ghost use Rattle.paths.specs.declared.Totals.TheVariants.{Finite, Endless};
 ghost use Rattle.paths.specs.Sweep.{TotalsSay};
 ghost use Rattle.paths.specs.TopSorted.{EmptyPaths};
 ghost use Rattle.paths.specs.Counting.{by_marks, OpenedArcs, Stacked, ClosedArc, Underway, Rested, Grown};
@@ -12,6 +13,8 @@ use capped::Count;
 use transducer::{FINAL_BYTES, HEAD_BYTES, MAX_ARCS, MAX_STATES};
 
 // Puts the arcs in chains by their targets and counts those of each state, `heads` and `pending` being zeros.
+// The chains are those of `reach`, whose cell 0 is none.
+#[tactic(auto, using(crate::proofs::Ready::few_states, crate::proofs::Ready::few_arcs))]
 fn link_arcs(
     table: &[u8],
     first: usize,
@@ -26,18 +29,17 @@ fn link_arcs(
     ensures { Chained (decode table.now) true heads.new next.new
         × OpenedArcs (decode table.now) (by_marks (decode table.now) (replicate max_states false)) arcs pending.new }
 {
-    let mut i = 0;
-    while i < arcs {
+    for i in 0..arcs {
         let s = reach::source(table, first, i);
         let to = reach::target(table, first, i);
         next[i] = heads[to];
-        pending[s] = pending[s] + 1;
-        i += 1;
-        heads[to] = reach::cell_of(s, i);
+        pending[s] += 1;
+        heads[to] = reach::cell_of(s, i + 1);
     }
 }
 
 // Counts the open arcs of each state, those to states that are not marked, in an array of zeros.
+#[tactic(auto, using(crate::proofs::Ready::few_states, crate::proofs::Ready::few_arcs))]
 fn count_open(
     table: &[u8],
     first: usize,
@@ -48,15 +50,12 @@ fn count_open(
     requires { AcceptedAt table.now first × (arcs ≡ length (decode table.now).arcs) × (pending.old ≡ replicate max_states 0) }
     ensures { OpenedArcs (decode table.now) (by_marks (decode table.now) marks.now) arcs pending.new }
 {
-    let mut i = 0;
-    while i < arcs {
+    for i in 0..arcs {
         let s = reach::source(table, first, i);
         let to = reach::target(table, first, i);
-        i += 1;
-        if marks[to] {
-            continue;
+        if !marks[to] {
+            pending[s] += 1;
         }
-        pending[s] = pending[s] + 1;
     }
 }
 
@@ -70,19 +69,12 @@ fn push_ready(
     requires { (states ≤ max_states) × (length stack.old ≡ max_states) }
     ensures { Stacked states marks.now pending.now stack.new result }
 {
-    let mut s = 0;
     let mut top = 0;
-    while s < states {
-        let state = s;
-        s += 1;
-        if marks[state] {
-            continue;
+    for s in 0..states {
+        if !marks[s] && pending[s] == 0 {
+            stack[top] = s as u16;
+            top += 1;
         }
-        if pending[state] != 0 {
-            continue;
-        }
-        stack[top] = state as u16;
-        top += 1;
     }
     top
 }
@@ -125,12 +117,14 @@ fn count_all(
 {
     let mut counts = parts;
     let mut top = waiting;
+    // The stack also grows while it is emptied, so there is no index to count.
     while 0 < top {
         top -= 1;
         let s = stack[top] as usize;
         marks[s] = true;
         let whole = counts[s];
         let mut cell = heads[s];
+        // A chain is followed by its links, so there is no index to count.
         while cell != 0 {
             let u = reach::state_of(cell);
             let link = reach::link_of(cell);
@@ -142,7 +136,19 @@ fn count_all(
     counts
 }
 
+// The counts: where the start is not counted, accepting paths are infinitely many.
+fn totals(counted: bool, counts: [Count; MAX_STATES]) -> Totals
+    ensures { result ≡ cond counted (Finite counts) (Endless counts) }
+{
+    if counted {
+        Totals::Finite(counts)
+    } else {
+        Totals::Endless(counts)
+    }
+}
+
 // What is left to count where there are cycles: the dead states count 0, and those that led only to them and to counted ones are counted then.
+#[tactic(auto, using(crate::proofs::Ready::few_states, crate::proofs::Ready::start_low))]
 fn counts_with_cycles(
     table: &[u8],
     first: usize,
@@ -161,11 +167,7 @@ fn counts_with_cycles(
     let finals = (first - HEAD_BYTES) / FINAL_BYTES;
     let live = reach::coaccessible_chained(table, first, states, arcs, finals, heads, next);
     if !capped::dead_unmarked(states, &live, marks) {
-        let counted = marks[start];
-        return Totals {
-            counts: parts,
-            endless: !counted,
-        };
+        return totals(marks[start], parts);
     }
     capped::mark_dead(states, &live, marks);
     let mut pending = [0u16; MAX_STATES];
@@ -182,15 +184,12 @@ fn counts_with_cycles(
         &mut pending,
         &mut stack,
     );
-    let counted = marks[start];
-    Totals {
-        counts,
-        endless: !counted,
-    }
+    totals(marks[start], counts)
 }
 
 // The counts of the accepting paths from each state, and whether those from the start are infinitely many: each state is counted once all its arcs
 // lead to counted ones, which takes time in proportion to states and arcs. Where no cycle keeps a state waiting, nothing else is to be known.
+#[tactic(auto, using(crate::proofs::Ready::few_states))]
 pub fn counts_of(
     table: &[u8],
     first: usize,
@@ -221,10 +220,7 @@ pub fn counts_of(
         &mut stack,
     );
     if capped::all_marked(states, &marks) {
-        return Totals {
-            counts,
-            endless: false,
-        };
+        return Totals::Finite(counts);
     }
     counts_with_cycles(
         table, first, states, arcs, start, &heads, &next, counts, &mut marks,

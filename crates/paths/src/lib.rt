@@ -13,30 +13,11 @@ pub use entry::{
 pub use path::nth_arcs;
 use transducer::MAX_STATES;
 
-// What the path count answers: the refusal or 0, then the count, 0 on refusal.
+// The counts of the accepting paths from each state; where infinitely many go from a state, its count says nothing. The variant says whether those from
+// the start are infinitely many.
+// Both variants have the counts: they are promised of the other states too where paths are infinitely many.
 #[derive(Clone, Copy)]
-pub struct Counted {
-    pub refusal: u32,
-    pub count: u32,
-}
-
-// The counts that one pass over the arcs comes to, and whether the states are topologically sorted: else the counts say nothing.
-#[derive(Clone, Copy)]
-pub struct Pass {
-    pub counts: [Count; MAX_STATES],
-    pub sorted: bool,
-}
-
-// The count that such a pass comes to at the start, and the same.
-#[derive(Clone, Copy)]
-pub struct FromStart {
-    pub count: Count,
-    pub sorted: bool,
-}
-
-// The counts from each state, and whether accepting paths are infinitely many.
-#[derive(Clone, Copy)]
-pub struct Totals {
-    pub counts: [Count; MAX_STATES],
-    pub endless: bool,
+pub enum Totals {
+    Finite([Count; MAX_STATES]),
+    Endless([Count; MAX_STATES]),
 }

@@ -29,6 +29,7 @@ pub fn nth_arcs(
 {
     let mut s = start;
     let mut left = k;
+    // A path ends where its number is used up, so there is no index to count.
     let mut n: usize = 0;
     loop {
         let mine = capped::own(codes[s]);
@@ -38,6 +39,7 @@ pub fn nth_arcs(
         }
         left -= own;
         let mut i = index[s] as usize;
+        // The arc is always found, so no end is tested: a `for` over the arcs of the state was tried, and listing was a tenth slower.
         let next = loop {
             let to = reach::target(table, first, i);
             let count = all[to];
@@ -52,6 +54,6 @@ pub fn nth_arcs(
         n += 1;
         s = next;
     }
-    wire::clear16(arcs, n);
+    wire::clear(arcs, n, 0);
     n
 }

@@ -9,7 +9,7 @@ use Rattle.compose.specs.Entry.{composition, origin_pairs}
 use Rattle.lattice.specs.Lattice.{lattice_origins}
 use Rattle.claim.specs.Entry.{composition_lattice}
 use Rattle.claim.specs.Claim.{Pairs, to_pair}
-use Rattle.listing.specs.declared.Listed.{Listed}
+use Rattle.listing.specs.Answer.{Listed}
 use Rattle.listing.specs.Code.{labels_in}
 use Rattle.listing.specs.Entry.{listing_refusal, text_room, ListingSays}
 use Rattle.printed.specs.PrintedText.{PrintedText}

@@ -1,8 +1,8 @@
 -- The loop that marks the final states: the marks are those of the finals so far. Assumes nothing.
-use mathlib.Core.Path.{◌≡◌, refl, sym, ap, ◌∙◌}
+use mathlib.Core.Path.{◌≡◌, refl, sym, ◌∙◌}
 use mathlib.Core.Bool.{Bool, true, false, ◌||◌}
 use mathlib.Core.List.{List, [], ◌∷◌, ◌++◌}
-use Prim.Native.Nat.{ℕ, ◌+◌, ◌*◌, ◌≤◌, ◌<◌}
+use Prim.Native.Nat.{ℕ, ◌+◌, ◌*◌, ◌<◌}
 use native.Mathlib.Numerals.{add-one}
 use native.Mathlib.Decide.{ℕ_discrete}
 use native.Mathlib.Omega.{arith}
@@ -22,16 +22,14 @@ use Rattle.reach.specs.Marks.{Marked}
 use Rattle.reach.proofs.Ends.{final_state}
 use Rattle.reach.proofs.Closure.{get_or_none}
 
-pub record Marking (bs : List ℕ) (i place : ℕ) (ms : List Bool) : Type 0 where
-  pub within : i ≤ head_finals bs
-  pub there : place ≡ 12 + 10 * i
+-- The marks are those of the first i finals.
+pub record Marking (bs : List ℕ) (i : ℕ) (ms : List Bool) : Type 0 where
   pub long : length ms ≡ max_states
   pub so_far : (s : ℕ) → get_or ms s false ≡ is_final (places i 12 10 (final_at bs)) s
 
-pub marking_first : (bs : List ℕ) → Marking bs 0 12 (replicate max_states false)
+pub marking_first : (bs : List ℕ) → Marking bs 0 (replicate max_states false)
 unfolding places is_final
-marking_first bs =
-    record { within = omega arith; there = refl; long = length-replicate {A = Bool} max_states false; so_far = λ s. get_or_none max_states s }
+marking_first bs = record { long = length-replicate {A = Bool} max_states false; so_far = λ s. get_or_none max_states s }
 
 or_false : (a : Bool) → a || false ≡ a
 or_false true = refl
@@ -51,22 +49,18 @@ marked_final ms old f s room is (no n) =
     get_or-set_other ms f.state s true false n ∙ is ∙ sym (rw (ne_eqb f.state s (λ e. n (sym e))) (or_false (is_final old s)))
 
 module _ (bs : List ℕ) (bytes : Bytes bs) (ok : refusal bs ≡ 0) where
-  pub marking_next : {i place : ℕ} {ms : List Bool} (f : Final) → i < head_finals bs → f ≡ final_at bs place → Marking bs i place ms
-      → Marking bs (i + 1) (place + 10) (set ms f.state true)
-  marking_next {i} {place} {ms} f h e m =
+  pub marking_next : {i : ℕ} {ms : List Bool} (f : Final) → i < head_finals bs → f ≡ final_at bs (12 + 10 * i) → Marking bs i ms
+      → Marking bs (i + 1) (set ms f.state true)
+  marking_next {i} {ms} f h e m =
       let old : List Final = places i 12 10 (final_at bs) in
-      let is : f ≡ final_at bs (12 + 10 * i) = e ∙ ap (final_at bs) m.there in
-      let more : places (i + 1) 12 10 (final_at bs) ≡ old ++ (f ∷ []) = rw (add-one, is) (places_snoc i 12 10 (final_at bs)) in
-      let room : f.state < length ms = omega (arith, (final_state bs bytes ok i f h m.there e).1, m.long) in
+      let more : places (i + 1) 12 10 (final_at bs) ≡ old ++ (f ∷ []) = rw (add-one, e) (places_snoc i 12 10 (final_at bs)) in
+      let room : f.state < length ms = omega (arith, (final_state bs bytes ok i f h refl e).1, m.long) in
       record {
-        within = omega arith;
-        there = omega (arith, m.there);
         long = length-set ms f.state true ∙ m.long;
         so_far = λ s. rw (more, is_final_append old (f ∷ []) s, one_final f s) (marked_final ms old f s room (m.so_far s) (ℕ_discrete s f.state));
       }
 
-  pub marking_stop : {i place : ℕ} {ms : List Bool} → head_finals bs ≤ i → Marking bs i place ms → Marked (is_final (decode bs).finals) ms
-  marking_stop {i} h m =
-      let e : i ≡ head_finals bs = omega (arith, m.within) in
+  pub marking_stop : {i : ℕ} {ms : List Bool} → i ≡ head_finals bs → Marking bs i ms → Marked (is_final (decode bs).finals) ms
+  marking_stop {i} e m =
       let all : (decode bs).finals ≡ places i 12 10 (final_at bs) = rw e (decode_finals bs bytes ok) in
       record { long = m.long; at_state = λ s. rw all (m.so_far s) }

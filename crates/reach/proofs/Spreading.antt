@@ -11,7 +11,7 @@ use Rattle.wire.proofs.Bool.{clash}
 use Rattle.transducer.specs.Format.{Transducer}
 use Rattle.transducer.specs.Path.{arc}
 use Rattle.reach.specs.Counted.{count}
-use Rattle.reach.specs.Marks.{number, Spread, from_end, to_end, Passes, Widened}
+use Rattle.reach.specs.Marks.{number, Spread, from_end, to_end, Passes, Widened, Closure}
 use Rattle.reach.proofs.Counted.{count_most, count_rises, count_one_more}
 
 pub number_most : (ms : List Bool) → number ms ≤ length ms
@@ -68,6 +68,10 @@ widened_twice v w =
       grows = λ s h. w.grows s (v.grows s h);
       sound = λ p pass old. w.sound p pass (v.sound p pass old);
     }
+
+-- Marks that settle after more were set settle the first ones.
+pub closure_after : {t : Transducer} {back : Bool} {ms mid last : List Bool} → Widened t back ms mid → Closure t back mid last → Closure t back ms last
+closure_after v c = record { wider = widened_twice v c.wider; closed = c.closed }
 
 pub widened_one : {t : Transducer} {back : Bool} {ms ms' : List Bool} (i : ℕ) → i < length t.arcs
     → Spread ms (from_end back (arc t i)) (to_end back (arc t i)) ms' → Widened t back ms ms'

@@ -9,6 +9,8 @@ const STATE_SHIFT: u32 = 12;
 const LINK_MASK: u32 = 4095;
 
 // The cell of a state and a link.
+// State and link stand in one word, so that one load gives both; the cell 0 is none.
+#[tactic(auto, unfolding(crate::specs::Cell::cell_of))]
 pub fn cell_of(state: usize, link: usize) -> u32
     requires { (state < max_states) × (link ≤ max_arcs) }
     ensures { result ≡ cell_of state link }
@@ -17,6 +19,7 @@ pub fn cell_of(state: usize, link: usize) -> u32
 }
 
 // The state of a cell.
+#[tactic(auto, unfolding(crate::specs::Cell::state_of))]
 pub fn state_of(cell: u32) -> usize
     ensures { result ≡ state_of cell }
 {
@@ -24,6 +27,7 @@ pub fn state_of(cell: u32) -> usize
 }
 
 // The link of a cell.
+#[tactic(auto, unfolding(crate::specs::Cell::link_of))]
 pub fn link_of(cell: u32) -> usize
     ensures { result ≡ link_of cell }
 {

@@ -1,5 +1,5 @@
 // The accessible and the coaccessible states: marks from the start, and back from the final states.
-ghost use Rattle.std.specs.Prelude.{◌≡◌, true, length};
+ghost use Rattle.std.specs.Prelude.{◌≡◌, true, length, MatchOption};
 ghost use Rattle.transducer.specs.Format.{max_states, refusal, decode, head_finals};
 ghost use Rattle.transducer.specs.Path.{is_final};
 ghost use Rattle.transducer.specs.Accepted.{AcceptedAt};
@@ -10,24 +10,28 @@ ghost use Rattle.reach.specs.Stack.{Chained};
 use crate::{stack, sweep};
 use transducer::{FINAL_BYTES, HEAD_BYTES, MAX_ARCS, MAX_STATES};
 
-// Spreads marks until no more are to come: one sweep is enough where few arcs lead to lower states, and needs no chains.
+// Spreads marks until no more are to come: one sweep is enough where few arcs lead to lower states, and needs no chains. What a sweep leaves is spread
+// along `chains`, or along chains made for it where none are given.
 fn settle(
     table: &[u8],
     first: usize,
     states: usize,
     arcs: usize,
     back: bool,
+    chains: Option<(&[u32; MAX_STATES], &[u32; MAX_ARCS])>,
     marks: &mut [bool; MAX_STATES],
 )
     requires { AcceptedAt table.now first × (states ≡ (decode table.now).states) × (arcs ≡ length (decode table.now).arcs)
-        × (length marks.old ≡ max_states) }
+        × MatchOption chains (Unit {0}) (λ c. Chained (decode table.now) back c.0.now c.1.now) × (length marks.old ≡ max_states) }
     ensures { Closure (decode table.now) back marks.old marks.new }
 {
-    let again = sweep::sweep(table, first, arcs, back, marks);
-    if !again {
+    if !sweep::sweep(table, first, arcs, back, marks) {
         return;
     }
-    stack::spread_all(table, first, states, arcs, back, marks);
+    match chains {
+        Some((heads, next)) => stack::spread_chained(table, states, back, heads, next, marks),
+        None => stack::spread_all(table, first, states, arcs, back, marks),
+    }
 }
 
 // The accessible states.
@@ -44,7 +48,7 @@ pub fn accessible(
 {
     let mut marks = [false; MAX_STATES];
     marks[start] = true;
-    settle(table, first, states, arcs, false, &mut marks);
+    settle(table, first, states, arcs, false, None, &mut marks);
     marks
 }
 
@@ -54,14 +58,9 @@ fn final_marks(table: &[u8], finals: usize) -> [bool; MAX_STATES]
     ensures { Marked (is_final (decode table.now).finals) result }
 {
     let mut marks = [false; MAX_STATES];
-    let mut i = 0;
-    let mut place = HEAD_BYTES;
-    while i < finals {
-        let f = transducer::load_final(table, place);
-        let state = f.state as usize;
-        marks[state] = true;
-        place += FINAL_BYTES;
-        i += 1;
+    for i in 0..finals {
+        let f = transducer::load_final(table, HEAD_BYTES + FINAL_BYTES * i);
+        marks[f.state as usize] = true;
     }
     marks
 }
@@ -79,32 +78,12 @@ pub fn coaccessible(
     ensures { Marked (coaccessible (decode table.now).states (decode table.now)) result }
 {
     let mut marks = final_marks(table, finals);
-    settle(table, first, states, arcs, true, &mut marks);
+    settle(table, first, states, arcs, true, None, &mut marks);
     marks
 }
 
-// The same where the arcs stand in chains by their targets.
-fn settle_chained(
-    table: &[u8],
-    first: usize,
-    states: usize,
-    arcs: usize,
-    heads: &[u32; MAX_STATES],
-    next: &[u32; MAX_ARCS],
-    marks: &mut [bool; MAX_STATES],
-)
-    requires { AcceptedAt table.now first × (states ≡ (decode table.now).states) × (arcs ≡ length (decode table.now).arcs)
-        × Chained (decode table.now) true heads.now next.now × (length marks.old ≡ max_states) }
-    ensures { Closure (decode table.now) true marks.old marks.new }
-{
-    let again = sweep::sweep(table, first, arcs, true, marks);
-    if !again {
-        return;
-    }
-    stack::spread_chained(table, states, true, heads, next, marks);
-}
-
 // The coaccessible states, the arcs standing in chains by their targets.
+// Counting has chains to give, and trimming has none.
 pub fn coaccessible_chained(
     table: &[u8],
     first: usize,
@@ -119,6 +98,14 @@ pub fn coaccessible_chained(
     ensures { Marked (coaccessible (decode table.now).states (decode table.now)) result }
 {
     let mut marks = final_marks(table, finals);
-    settle_chained(table, first, states, arcs, heads, next, &mut marks);
+    settle(
+        table,
+        first,
+        states,
+        arcs,
+        true,
+        Some((heads, next)),
+        &mut marks,
+    );
     marks
 }

@@ -23,31 +23,26 @@ fn chain(
         × (heads.old ≡ replicate max_states 0) × (length next.old ≡ max_arcs) }
     ensures { Chained (decode table.now) back heads.new next.new }
 {
-    let mut i = 0;
-    while i < arcs {
+    for i in 0..arcs {
         let from = arcs::from_end(table, first, i, back);
         let to = arcs::to_end(table, first, i, back);
         next[i] = heads[from];
-        i += 1;
-        heads[from] = cells::cell_of(to, i);
+        heads[from] = cells::cell_of(to, i + 1);
     }
 }
 
 // Puts each marked state on the stack. Answers how many there are.
+// There is no heap, so that a stack is an array and the place where it ends.
 fn push_marked(states: usize, marks: &[bool; MAX_STATES], stack: &mut [u16; MAX_STATES]) -> usize
     requires { (states ≤ max_states) × (length marks.now ≡ max_states) × (length stack.old ≡ max_states) }
     ensures { Pushed states marks.now stack.new result }
 {
-    let mut s = 0;
     let mut top = 0;
-    while s < states {
-        let state = s;
-        s += 1;
-        if !marks[state] {
-            continue;
+    for state in 0..states {
+        if marks[state] {
+            stack[top] = state as u16;
+            top += 1;
         }
-        stack[top] = state as u16;
-        top += 1;
     }
     top
 }
@@ -70,6 +65,7 @@ fn pop_state(
     let mut s = stack[top] as usize;
     let mut cell = heads[s];
     let mut end = top;
+    // A chain is followed by its links, so there is no index to count.
     while cell != 0 {
         let to = cells::state_of(cell);
         let link = cells::link_of(cell);
@@ -104,6 +100,7 @@ fn drain_stack(
     ensures { Closure (decode table.now) back marks.old marks.new }
 {
     let mut top = count;
+    // The stack also grows while it is emptied, so there is no index to count.
     while 0 < top {
         top = pop_state(table, back, heads, next, top - 1, marks, stack);
     }

@@ -2,17 +2,16 @@
 use mathlib.Core.Path.{◌≡◌, refl, sym, ap, ◌∙◌}
 use mathlib.Core.Bool.{Bool, true, false, cond}
 use mathlib.Core.List.{List, [], ◌∷◌, ◌++◌}
-use Prim.Native.Nat.{ℕ, zero, suc, ◌+◌, ◌≤◌, ◌<◌}
+use Prim.Native.Nat.{ℕ, zero, suc, ◌+◌, ◌*◌, ◌≤◌, ◌<◌}
 use native.Mathlib.Omega.{arith}
 use native.Mathlib.Decide.{ℕ_discrete}
-use native.Mathlib.Nat.{not-suc-le-zero}
 use lib.ListN.{length, get_or, set, replicate, length-append, length-set, length-replicate}
 use lib.Seq.{get_or-set_same, get_or-set_other}
 use borrow.Author.Tests.{ne_eqb}
 use Rattle.wire.specs.Bytes.{Bytes}
 use Rattle.wire.proofs.Bool.{by_test}
 use Rattle.transducer.specs.declared.Final.{Final}
-use Rattle.transducer.specs.declared.Validation.{Validation}
+use Rattle.transducer.specs.Answer.{Validation}
 use Rattle.transducer.specs.declared.preparing.Shape.{Shape}
 use Rattle.transducer.specs.Format.{Transducer, max_states, weight_good, refusal, decode, head_finals, final_at}
 use Rattle.transducer.specs.Path.{arc, is_final, final_weight, ends}
@@ -98,17 +97,6 @@ cleared none n k h = record { long = omega (arith, length-replicate k none); bla
 none_yet : {n : ℕ} {ls : Sizes} → Cleared {A = ℕ} 0 n ls → (s : ℕ) → by_state ls s ≡ no_size
 none_yet k s = ap unpacked (k.blank s) ∙ unpack_none
 
--- No path is known yet
-
-pub no_costs_first : (n : ℕ) (cs : List Weight) → Cleared no_weight n cs → NoCosts n 0 cs
-no_costs_first n cs k =
-    record {
-      long = k.long;
-      none = λ u h. absurd (not-suc-le-zero h);
-      low = λ u. rw (k.blank u) (omega (arith, sums));
-      high = λ u. rw (k.blank u) (omega (arith, sums));
-    }
-
 -- One more cost is put.
 module _ (cs : List Weight) (s : ℕ) (x : Weight) (b : s < length cs) (low : AtMost least_cost x) (high : AtMost x unreached) where
   put_here : cost_at (set cs s x) s ≡ x
@@ -128,26 +116,10 @@ module _ (cs : List Weight) (s : ℕ) (x : Weight) (b : s < length cs) (low : At
       on (yes q) = rw (q, put_here) high
       on (no n) = rw (get_or-set_other cs s u x no_weight n) (old u)
 
-pub no_costs_next : (n s : ℕ) (cs : List Weight) → NoCosts n s cs → s < n → NoCosts n (s + 1) (set cs s unreached)
-no_costs_next n s cs k h =
-    record {
-      long = omega (arith, length-set cs s unreached, k.long);
-      none = λ u l. none u l (ℕ_discrete u s);
-      low = put_low cs s unreached room (omega (arith, sums)) (omega (arith, sums)) k.low;
-      high = put_high cs s unreached room (omega (arith, sums)) (omega (arith, sums)) k.high;
-    }
-  where
-    room : s < length cs
-    room = omega (arith, k.long)
-
-    none : (u : ℕ) → u < s + 1 → Dec (u ≡ s) → cost_at (set cs s unreached) u ≡ unreached
-    none u l (yes q) = rw q (get_or-set_same cs s unreached no_weight room)
-    none u l (no n) = get_or-set_other cs s u unreached no_weight n ∙ k.none u (omega arith)
-
 -- The costs of the empty paths by the first i finals, beside the codes of these.
-pub record Owned (bs : List ℕ) (i place : ℕ) (cs : List Weight) : Type 0 where
+pub record Owned (bs : List ℕ) (i : ℕ) (cs : List Weight) : Type 0 where
   pub codes : List ℕ
-  pub coded : Coded bs i place codes
+  pub coded : Coded bs i codes
   pub long : (decode bs).states ≤ length cs
   pub made : (s : ℕ) → s < (decode bs).states → cost_at cs s ≡ code_cost (get_or codes s 0)
   pub low : (s : ℕ) → AtMost least_cost (cost_at cs s)
@@ -161,7 +133,7 @@ some_code : (w : Weight) → weight_good w ≡ true → code_cost (code_of w) �
 unfolding code_cost
 some_code w good = rw (ne_eqb (code_of w) 0 (code_some w)) (weight_code w good)
 
-pub owned_first : (bs : List ℕ) (cs : List Weight) → NoCosts (decode bs).states (decode bs).states cs → Owned bs 0 12 cs
+pub owned_first : (bs : List ℕ) (cs : List Weight) → NoCosts (decode bs).states (decode bs).states cs → Owned bs 0 cs
 owned_first bs cs n =
     record {
       codes = replicate 1024 0;
@@ -173,16 +145,16 @@ owned_first bs cs n =
     }
 
 module _ (bs : List ℕ) (b : Bytes bs) (ok : refusal bs ≡ 0) where
-  pub owned_state : {i place : ℕ} {cs : List Weight} (f : Final) → i < head_finals bs → f ≡ final_at bs place → Owned bs i place cs
+  pub owned_state : {i : ℕ} {cs : List Weight} (f : Final) → i < head_finals bs → f ≡ final_at bs (12 + 10 * i) → Owned bs i cs
       → f.state < (decode bs).states
   owned_state {i} f h e k =
       let there : i < length (decode bs).finals = omega (arith, length_finals bs b ok) in
-      let is : get_or (decode bs).finals i f ≡ f = final_offset bs b ok i f there ∙ sym (e ∙ ap (final_at bs) k.coded.there) in
+      let is : get_or (decode bs).finals i f ≡ f = final_offset bs b ok i f there ∙ sym e in
       rw is at (final_state_below (decode bs) (accepted_good bs b ok) i f there)
 
-  pub owned_next : {i place : ℕ} {cs : List Weight} (f : Final) → i < head_finals bs → f ≡ final_at bs place → Owned bs i place cs
-      → Owned bs (i + 1) (place + 10) (set cs f.state f.weight)
-  owned_next {i} {place} {cs} f h e k =
+  pub owned_next : {i : ℕ} {cs : List Weight} (f : Final) → i < head_finals bs → f ≡ final_at bs (12 + 10 * i) → Owned bs i cs
+      → Owned bs (i + 1) (set cs f.state f.weight)
+  owned_next {i} {cs} f h e k =
       record {
         codes = set k.codes u (code_of w);
         coded = coded_next bs b ok f h e k.coded;
@@ -199,7 +171,7 @@ module _ (bs : List ℕ) (b : Bytes bs) (ok : refusal bs ≡ 0) where
       w = f.weight
 
       good : weight_good f.weight ≡ true
-      good = coded_weight bs b ok f h e k.coded
+      good = coded_weight bs b ok f h e
 
       range : InRange f.weight
       range = good_range f.weight good
@@ -208,7 +180,7 @@ module _ (bs : List ℕ) (b : Bytes bs) (ok : refusal bs ≡ 0) where
       room = omega (arith, owned_state f h e k, k.long)
 
       code_room : f.state < length k.codes
-      code_room = omega (arith, coded_state bs b ok f h e k.coded, k.coded.long)
+      code_room = omega (arith, coded_state bs b ok f h e, k.coded.long)
 
       made : (s : ℕ) → s < (decode bs).states → Dec (s ≡ f.state)
           → cost_at (set cs f.state f.weight) s ≡ code_cost (get_or (set k.codes f.state (code_of f.weight)) s 0)
@@ -220,7 +192,7 @@ module _ (bs : List ℕ) (b : Bytes bs) (ok : refusal bs ≡ 0) where
           get_or-set_other cs f.state s f.weight no_weight n
           ∙ (k.made s l ∙ sym (ap code_cost (get_or-set_other k.codes f.state s (code_of f.weight) 0 n)))
 
-  pub owned_stop : {i place : ℕ} {cs : List Weight} → head_finals bs ≤ i → Owned bs i place cs → OwnCosts bs cs
+  pub owned_stop : {i : ℕ} {cs : List Weight} → head_finals bs ≤ i → Owned bs i cs → OwnCosts bs cs
   owned_stop h k =
       record { codes = k.codes; finals = coded_stop bs b ok h k.coded; long = k.long; made = k.made; low = k.low; high = k.high }
 

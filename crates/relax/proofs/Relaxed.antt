@@ -15,7 +15,7 @@ use Rattle.wire.proofs.Ints.{size}
 use Rattle.transducer.specs.declared.Arc.{Arc}
 use Rattle.transducer.specs.Format.{Transducer, max_states}
 use Rattle.transducer.specs.Path.{arc, ends, arcs_cost}
-use Rattle.transducer.specs.Weight.{Weight, no_weight, amount, plus, AtMost, Below, at_most, below, magnitude}
+use Rattle.transducer.specs.Weight.{Weight, no_weight, amount, plus, AtMost, Below, at_most, magnitude}
 use Rattle.transducer.proofs.Weights.{sums, sum, either, magnitude_is}
 use Rattle.transducer.proofs.Runs.{Accepting, AcceptingBy, accepting_nil, accepting_cons, cons_accepting, Within}
 use Rattle.transducer.proofs.Cycles.{Cycle, long_has_cycle}
@@ -29,7 +29,8 @@ use Rattle.cycles.proofs.Cycles.{cycle_falling}
 use Rattle.relax.specs.Size.{Size, size_of, nearer}
 use Rattle.relax.specs.Tentative.{packed, unpacked, Sizes, unreached, cost_at, by_state, no_size, labels_of, longer, NoWorse, Nearer, onward, cost_by}
 use Rattle.relax.specs.Tentative.{size_by, own_cost, Rising, is_nearest, Reached, Tentative}
-use Rattle.relax.specs.Tentative.{least_cost, height, Cells, NoBetter, kept, better, too_long, Relaxed}
+use Rattle.relax.specs.Tentative.{least_cost, height, Cells, NoBetter, Relaxed}
+use Rattle.relax.specs.declared.relaxing.Change.TheVariants.{Kept, Better, TooLong}
 use Rattle.relax.proofs.Nearer.{nearer_true, nearer_false, nearer_not, nearer_no_worse, nearer_through, no_worse_through, no_worse_same}
 use Rattle.relax.proofs.Nearer.{size_cons, size_few, size_behind}
 use Rattle.relax.proofs.Bounds.{Bounded, reached_bounded, cost_by_some, cost_by_none, cost_by_there, own_most}
@@ -331,9 +332,9 @@ module _ (t : Transducer) (z : Sized t) (c : ℕ → Weight) (l : ℕ → Size) 
 
 -- What is left in each case, by the comparison of the arc's cost and size with those of its source.
 pub record Relaxes (t : Transducer) (i : ℕ) (cs : List Weight) (ls : Sizes) (s : ℕ) (cost : Weight) (len : ℕ) (r : Bool) : Type 0 where
-  pub same : r ≡ false → Relaxed t i cs ls cs ls kept
-  pub long : r ≡ true → t.states ≤ (unpacked len).arcs → Relaxed t i cs ls cs ls too_long
-  pub put : r ≡ true → (unpacked len).arcs < t.states → Relaxed t i cs ls (set cs s cost) (set ls s len) better
+  pub same : r ≡ false → Relaxed t i cs ls cs ls Kept
+  pub long : r ≡ true → t.states ≤ (unpacked len).arcs → Relaxed t i cs ls cs ls TooLong
+  pub put : r ≡ true → (unpacked len).arcs < t.states → Relaxed t i cs ls (set cs s cost) (set ls s len) Better
 
 -- Relaxing an arc, as it was read and with the sums as they were made.
 module _ (t : Transducer) (z : Sized t) (cs : List Weight) (ls : Sizes) (cells : Cells t.states cs ls) (n : Tentative t (cost_at cs) (by_state ls)) (i : ℕ)
@@ -350,27 +351,25 @@ module _ (t : Transducer) (z : Sized t) (cs : List Weight) (ls : Sizes) (cells :
   pub relaxed_states : (a.source < t.states) × (a.target < t.states)
   relaxed_states = rw is (z.within.leaves i b, z.within.arrives i b)
 
-  same : NoBetter t cs ls i → Relaxed t i cs ls cs ls kept
+  same : NoBetter t cs ls i → Relaxed t i cs ls cs ls Kept
   same w =
       record {
-        known = omega arith;
         cells = cells;
         nearing = n;
         nearest = λ r u e. e;
         others = λ u o. refl;
         settles = λ x old short free. on x old;
         falls = omega arith;
-        negative_cycle = λ e. absurd (omega arith);
+        negative_cycle = λ e. cc;
       }
     where
       on : (x : ℕ) → (x ≡ i) ⊎ NoBetter t cs ls x → NoBetter t cs ls x
       on x (inl e) = rw e w
       on x (inr o) = o
 
-  long : Nearer (cost_by t c i) (size_by t l i) (c s) (l s) → t.states ≤ (size_by t l i).arcs → Relaxed t i cs ls cs ls too_long
+  long : Nearer (cost_by t c i) (size_by t l i) (c s) (l s) → t.states ≤ (size_by t l i).arcs → Relaxed t i cs ls cs ls TooLong
   long w h =
       record {
-        known = omega arith;
         cells = cells;
         nearing = n;
         nearest = λ r u e. e;
@@ -381,10 +380,9 @@ module _ (t : Transducer) (z : Sized t) (cs : List Weight) (ls : Sizes) (cells :
       }
 
   put : (len : ℕ) → unpacked len ≡ size_by t l i → Nearer (cost_by t c i) (size_by t l i) (c s) (l s) → (size_by t l i).arcs < t.states
-      → Relaxed t i cs ls (set cs s (cost_by t c i)) (set ls s len) better
+      → Relaxed t i cs ls (set cs s (cost_by t c i)) (set ls s len) Better
   put len el w few =
       record {
-        known = omega arith;
         cells =
             record {
               costs = omega (arith, length-set cs s (cost_by t c i), cells.costs);
@@ -399,7 +397,7 @@ module _ (t : Transducer) (z : Sized t) (cs : List Weight) (ls : Sizes) (cells :
         others = put_cost.others;
         settles = λ x old short free. put_settles t z c l n i b w few c' l' put_cost put_arcs x old (free refl);
         falls = omega (arith, put_falls t z c l n i b w few c' l' put_cost put_arcs cells.low);
-        negative_cycle = λ e. absurd (omega arith);
+        negative_cycle = λ e. cc;
       }
     where
       c' : ℕ → Weight
@@ -439,7 +437,7 @@ module _ (t : Transducer) (z : Sized t) (cs : List Weight) (ls : Sizes) (cells :
 
   -- An arc that is dearer, whatever its size.
   pub relaxed_dearer : (cost : Weight) → cost ≡ onward a.weight (cost_at cs a.target) → Below (cost_at cs a.source) cost
-      → Relaxed t i cs ls cs ls kept
+      → Relaxed t i cs ls cs ls Kept
   unfolding cost_by
   relaxed_dearer cost ec h =
       let e : cost ≡ cost_by t c i = rw is at ec in

@@ -7,6 +7,8 @@ use Rattle.transducer.specs.Weight.{Weight, no_weight, amount, rebate, plus, AtM
 use Rattle.reach.specs.Marks.{Passes}
 use Rattle.cycles.specs.Costs.{cost_from}
 use Rattle.cycles.specs.Cycles.{NegativeCycleFrom}
+use Rattle.relax.specs.declared.relaxing.Change.{Change}
+use Rattle.relax.specs.declared.relaxing.Change.TheVariants.{Kept, Better, TooLong}
 use Rattle.relax.specs.Size.{Size, size_of}
 
 -- The cost of a state from which no path is known, in an array: above that of every path of fewer arcs than there are states.
@@ -145,29 +147,24 @@ abbrev pub NoBetter : Transducer → (cs : List Weight) → (ls : Sizes) → (i 
 NoBetter t cs ls i =
     NoWorse (cost_at cs (arc t i).source) (by_state ls (arc t i).source) (cost_by t (cost_at cs) i) (size_by t (by_state ls) i)
 
--- What relaxing an arc comes to: its source is kept as it is, gets better, or would get better by a path of too many arcs and is kept.
-abbrev pub kept : ℕ
-kept = 0
-
-abbrev pub better : ℕ
-better = 1
-
-abbrev pub too_long : ℕ
-too_long = 2
+-- How many sources get better by it.
+abbrev pub gained : Change → ℕ
+gained Kept = 0
+gained Better = 1
+gained TooLong = 0
 
 -- What relaxing arc i leaves: neither it nor an arc that did not before makes its source better now, unless it leads to what got better. A path of as many
 -- arcs as states comes back to a state, and only round cycles below zero.
-pub record Relaxed (t : Transducer) (i : ℕ) (cs : List Weight) (ls : Sizes) (cs' : List Weight) (ls' : Sizes) (change : ℕ) : Type 0 where
-  pub known : change ≤ too_long
+pub record Relaxed (t : Transducer) (i : ℕ) (cs : List Weight) (ls : Sizes) (cs' : List Weight) (ls' : Sizes) (change : Change) : Type 0 where
   pub cells : Cells t.states cs' ls'
   pub nearing : Tentative t (cost_at cs') (by_state ls')
   pub nearest : Rising t → (s : ℕ) → is_nearest no_weight (cost_at cs s) (by_state ls s) ≡ true
       → is_nearest no_weight (cost_at cs' s) (by_state ls' s) ≡ true
   pub others : (u : ℕ) → (u ≡ (arc t i).source → ⊥) → cost_at cs' u ≡ cost_at cs u
-  pub settles : (x : ℕ) → (x ≡ i) ⊎ NoBetter t cs ls x → (change ≡ too_long → ⊥) → (change ≡ better → (arc t x).target ≡ (arc t i).source → ⊥)
+  pub settles : (x : ℕ) → (x ≡ i) ⊎ NoBetter t cs ls x → (change ≡ TooLong → ⊥) → (change ≡ Better → (arc t x).target ≡ (arc t i).source → ⊥)
       → NoBetter t cs' ls' x
-  pub falls : total t.states (height (cost_at cs') (by_state ls')) + cond (eqb change better) 1 0 ≤ total t.states (height (cost_at cs) (by_state ls))
-  pub negative_cycle : change ≡ too_long → NegativeCycleFrom t (arc t i).source
+  pub falls : total t.states (height (cost_at cs') (by_state ls')) + gained change ≤ total t.states (height (cost_at cs) (by_state ls))
+  pub negative_cycle : change ≡ TooLong → NegativeCycleFrom t (arc t i).source
 
 -- A weight that none of the arcs is below.
 abbrev pub Light : Transducer → (least : Weight) → Type 0

@@ -24,11 +24,7 @@ fn no_costs(states: usize, costs: &mut [i32])
     requires { Cleared no_weight states costs.old }
     ensures { NoCosts states states costs.new }
 {
-    let mut s = 0;
-    while s < states {
-        costs[s] = UNREACHED;
-        s += 1;
-    }
+    costs[..states].fill(UNREACHED);
 }
 
 // Puts the final weights, the costs of the empty paths.
@@ -37,15 +33,9 @@ fn own_costs(table: &[u8], finals: usize, costs: &mut [i32])
         × NoCosts (decode table.now).states (decode table.now).states costs.old }
     ensures { OwnCosts table.now costs.new }
 {
-    let mut i = 0;
-    let mut place = transducer::HEAD_BYTES;
-    while i < finals {
-        let f = transducer::load_final(table, place);
-        let state = f.state as usize;
-        let weight = f.weight;
-        costs[state] = weight;
-        place += transducer::FINAL_BYTES;
-        i += 1;
+    for i in 0..finals {
+        let f = transducer::load_final(table, transducer::HEAD_BYTES + transducer::FINAL_BYTES * i);
+        costs[f.state as usize] = f.weight;
     }
 }
 

@@ -6,5 +6,5 @@ mod relaxing;
 mod sizes;
 
 pub use begun::{FEW_STATES, begin, is_small};
-pub use relaxing::{KEPT, TOO_LONG, relax};
+pub use relaxing::{Change, relax};
 pub use sizes::{UNREACHED, arc_size, arcs_of, comes_first, sum};

@@ -6,6 +6,7 @@ ghost use Rattle.relax.specs.Size.{nearer};
 ghost use Rattle.relax.specs.Tentative.{unpacked, labels_of, onward, least_cost};
 
 // The cost of a state from which no path is known. A path costs at most 1,024,000,000, of either sign, so that sums with a weight are exact in 32 bits.
+// It is a number and no Option, which would double the arrays of costs: memory is fixed.
 pub const UNREACHED: i32 = 2000000000;
 
 // A weight and the cost to come behind it.
@@ -20,6 +21,7 @@ pub fn sum(weight: i32, cost: i32) -> i32
 }
 
 // Whether a cost and a size come before another. A size is 65,536 for each label and 1 for each arc, so that one comparison does for both.
+// A comparison of pairs would say the same, but was slower.
 pub fn comes_first(cost: i32, size: u32, other: i32, most: u32) -> bool
     ensures { result ≡ nearer cost (unpacked size) other (unpacked most) }
 {

@@ -18,7 +18,9 @@ use Rattle.transducer.proofs.Weights.{sums, sum, either}
 use Rattle.transducer.proofs.Index.{arcs_of_state, arcs_below_mono}
 use Rattle.reach.proofs.Sized.{Sized}
 use Rattle.paths.proofs.Ready.{Range, range_leaves}
-use Rattle.relax.specs.Tentative.{Sizes, unreached, cost_at, by_state, onward, cost_by, is_nearest, Tentative, Cells, NoBetter, too_long, Relaxed}
+use Rattle.relax.specs.Tentative.{Sizes, unreached, cost_at, by_state, onward, cost_by, is_nearest, Tentative, Cells, NoBetter, Relaxed}
+use Rattle.relax.specs.declared.relaxing.Change.{Change}
+use Rattle.relax.specs.declared.relaxing.Change.TheVariants.{TooLong}
 use Rattle.relax.specs.Tentative.{least_cost, Writes, Forward, LeadsUp}
 use Rattle.relaxation.specs.Swept.{SweptSays, Leave, Barred, SweptFrom, StateSwept}
 use Rattle.relax.proofs.Bounds.{cost_by_some, cost_by_none}
@@ -31,22 +33,8 @@ pub record Going (t : Transducer) (s from to : ℕ) (bar : Weight) (cs₀ : List
   pub others : (u : ℕ) → (u ≡ s → ⊥) → cost_at cs u ≡ cost_at cs₀ u
   pub barred : Barred t from to bar cs
 
-pub going_first : (t : Transducer) (s from to : ℕ) (bar : Weight) (cs : List Weight) (ls : Sizes) → Barred t from to bar cs → SweptFrom t to cs ls
-    → Going t s from to bar cs to cs ls
-going_first t s from to bar cs ls b w = record { place = omega arith; swept = w; others = λ u o. refl; barred = b }
-
 module _ (t : Transducer) (up : LeadsUp t) (writes : Writes t) (s from to : ℕ) (own : Leave t s from to) (bar : Weight) (cs₀ : List Weight) (i : ℕ)
     (cs : List Weight) (ls : Sizes) (k : Going t s from to bar cs₀ i cs ls) where
-  pub going_stop : i ≤ from → StateSwept t s from cs₀ cs ls false
-  going_stop h =
-      record {
-        cells = k.swept.cells;
-        nearing = k.swept.nearing;
-        others = k.others;
-        settled = λ _.
-            record { cells = k.swept.cells; nearing = k.swept.nearing; settled = λ x a b. k.swept.settled x (omega arith) b };
-      }
-
   -- The rest of the arcs is passed over.
   pub going_passed : is_nearest bar (cost_at cs s) (by_state ls s) ≡ true → StateSwept t s from cs₀ cs ls false
   going_passed e =
@@ -67,10 +55,7 @@ module _ (t : Transducer) (up : LeadsUp t) (writes : Writes t) (s from to : ℕ)
           (none_nearer t (cost_at cs) (by_state ls) x (writes x b) bar (k.barred x a inside) (cost_at cs s) (by_state ls s) e)
 
   module _ (h : from < i) where
-    pub going_arc : i - 1 < length t.arcs
-    going_arc = omega (arith, k.place, own.inside)
-
-    module _ (cs' : List Weight) (ls' : Sizes) (change : ℕ) (r : Relaxed t (i - 1) cs ls cs' ls' change) where
+    module _ (cs' : List Weight) (ls' : Sizes) (change : Change) (r : Relaxed t (i - 1) cs ls cs' ls' change) where
       src : (arc t (i - 1)).source ≡ s
       src = own.here (i - 1) (omega arith) (omega (arith, k.place))
 
@@ -80,7 +65,7 @@ module _ (t : Transducer) (up : LeadsUp t) (writes : Writes t) (s from to : ℕ)
       pub going_long : StateSwept t s from cs₀ cs' ls' true
       going_long = record { cells = r.cells; nearing = r.nearing; others = others; settled = λ e. never (sym e) }
 
-      pub going_next : (change ≡ too_long → ⊥) → Going t s from to bar cs₀ (i - 1) cs' ls'
+      pub going_next : (change ≡ TooLong → ⊥) → Going t s from to bar cs₀ (i - 1) cs' ls'
       going_next short =
           record {
             place = omega (arith, k.place);
@@ -222,6 +207,3 @@ module _ (t : Transducer) (z : Sized t) (s : ℕ) (floor : Weight) (cs : List We
         floors u a b (no e) =
             let old : AtMost floor (cost_at cs u) = k.floors u (omega arith) b in
             rw (w.others u e) (omega (arith, sums))
-
-  pub swept_again : (cs' : List Weight) (ls' : Sizes) (v from : ℕ) {r' : Bool} → StateSwept t v from cs cs' ls' r' → SweptSays t cs' ls' true
-  swept_again cs' ls' v from w = record { cells = w.cells; nearing = w.nearing; settled = λ e. never (sym e) }

@@ -1,49 +1,41 @@
 -- Draining the queue: all arcs from marked states are relaxed once, then those that lead to a state that comes off, until all is settled or a path has as many
 -- arcs as there are states. These laws know of relaxing an arc only what `Relaxed` says. Assumes nothing.
-use mathlib.Core.Path.{◌≡◌, refl, ap, ◌∙◌}
-use mathlib.Core.Bool.{Bool, true, false, ◌&&◌, cond}
+use mathlib.Core.Path.{◌≡◌, refl, sym, ap, ◌∙◌}
+use mathlib.Core.Bool.{Bool, true, false, ◌&&◌}
 use mathlib.Core.Logic.{◌⊎◌, inl, inr}
 use mathlib.Core.List.{List}
-use Prim.Native.Nat.{ℕ, ◌+◌, ◌-◌, ◌≤◌, ◌<◌}
+use Prim.Native.Nat.{ℕ, ◌+◌, ◌≤◌, ◌<◌}
 use native.Mathlib.Omega.{arith}
 use native.Mathlib.Decide.{ℕ_discrete}
-use lib.Dec.{eqb, leb, ltb}
-use lib.ListN.{length, get_or, set}
+use lib.Dec.{leb, ltb}
+use lib.ListN.{length, get_or, set, replicate}
 use borrow.Author.Tests.{eqb-true, eq-eqb, leb-true, le-leb, ltb-true, lt-ltb}
+use Rattle.std.proofs.Common.{Ok}
 use Rattle.wire.proofs.Bool.{clash, never, and-true, true_and}
-use Rattle.transducer.specs.Format.{Transducer}
+use Rattle.transducer.specs.Format.{Transducer, max_states}
 use Rattle.transducer.specs.Path.{arc}
 use Rattle.transducer.specs.Weight.{Weight}
 use Rattle.reach.proofs.Sized.{Sized}
 use Rattle.reach.specs.Index.{leads_to, ByTarget}
-use Rattle.reach.proofs.Counted.{count_most}
 use Rattle.reach.proofs.ByTarget.{Linked, ArcThere, link_first, link_all, link_next, link_rest}
-use Rattle.cycles.specs.Cycles.{SomeNegativeCycle}
-use Rattle.relax.specs.Tentative.{Sizes, cost_at, by_state, Tentative, Cells, NoBetter, kept, better, too_long, Relaxed}
-use Rattle.relaxation.specs.Queue.{cell, waiting, Queue, stuck, Joined, Joins, Draining, none, to_do, Drains, Drained}
-use Rattle.relaxation.proofs.Waiting.{mark_other, queue_empty, queue_push, push_here, push_stays, queue_room, queue_pop}
+use Rattle.relax.specs.Tentative.{Sizes, cost_at, by_state, Tentative, Cells, NoBetter, gained, Relaxed}
+use Rattle.relax.specs.declared.relaxing.Change.{Change}
+use Rattle.relax.specs.declared.relaxing.Change.TheVariants.{Kept, Better, TooLong}
+use Rattle.relax.proofs.EmptyPaths.{cleared}
+use Rattle.relaxation.specs.Queue.{waiting, NoneWaits, Inside, Joined, Joins, Draining, none, to_do, Drains, Drained}
+use Rattle.relaxation.proofs.Waiting.{mark_here, mark_other}
 
 -- An arc is relaxed, and its source joins the queue where it gets better.
 
--- An arc from a state that is not marked is passed over.
-pub joined_passed : {t : Transducer} {m : ℕ → Bool} {i : ℕ} {cs : List Weight} {ls : Sizes} {ring : List ℕ} {waits : List Bool} {head many : ℕ}
-    → Queue t.states ring waits head many → m (arc t i).source ≡ false → Joined t m i cs ls waits many cs ls ring waits head many
-joined_passed {t} {m} {i} {cs} {ls} {ring} {waits} q off = record { queue = q; settles = λ x on old. settles x on old; falls = omega arith }
-  where
-    settles : (x : ℕ) → m (arc t x).source ≡ true → (x ≡ i) ⊎ ((waiting waits (arc t x).target ≡ true) ⊎ NoBetter t cs ls x)
-        → (waiting waits (arc t x).target ≡ true) ⊎ NoBetter t cs ls x
-    settles x on (inl e) = clash {b = m (arc t i).source} (rw e at on) off
-    settles x on (inr w) = w
-
-module _ {t : Transducer} (m : ℕ → Bool) (z : Sized t) {cs : List Weight} {ls : Sizes} {ring : List ℕ} {waits : List Bool} {head many : ℕ} (i : ℕ)
-    (b : i < length t.arcs) (q : Queue t.states ring waits head many) {cs' : List Weight} {ls' : Sizes} {change : ℕ}
-    (r : Relaxed t i cs ls cs' ls' change) (short : change ≡ too_long → ⊥) where
-  step : {ring' : List ℕ} {waits' : List Bool} {many' : ℕ} → Queue t.states ring' waits' head many'
-      → ((u : ℕ) → waiting waits u ≡ true → waiting waits' u ≡ true) → (change ≡ better → waiting waits' (arc t i).source ≡ true)
-      → many' ≤ many + cond (eqb change better) 1 0 → Joined t m i cs ls waits many cs' ls' ring' waits' head many'
+module _ {t : Transducer} (m : ℕ → Bool) (z : Sized t) {cs : List Weight} {ls : Sizes} {waits : List Bool} {many : ℕ} (i : ℕ)
+    (b : i < length t.arcs) (q : Inside t waits) {cs' : List Weight} {ls' : Sizes} {change : Change}
+    (r : Relaxed t i cs ls cs' ls' change) (short : change ≡ TooLong → ⊥) where
+  step : {waits' : List Bool} {many' : ℕ} → Inside t waits'
+      → ((u : ℕ) → waiting waits u ≡ true → waiting waits' u ≡ true) → (change ≡ Better → waiting waits' (arc t i).source ≡ true)
+      → many' ≤ many + gained change → Joined t m i cs ls waits many cs' ls' waits' many'
   unfolding to_do
-  step {ring'} {waits'} {many'} q' stays joins most =
-      record { queue = q'; settles = λ x on old. settles x old; falls = omega (arith, r.falls, most) }
+  step {waits'} {many'} q' stays joins most =
+      record { inside = q'; settles = λ x on old. settles x old; falls = omega (arith, r.falls, most) }
     where
       Now : ℕ → Type 0
       Now x = (waiting waits' (arc t x).target ≡ true) ⊎ NoBetter t cs' ls' x
@@ -58,35 +50,42 @@ module _ {t : Transducer} (m : ℕ → Bool) (z : Sized t) {cs : List Weight} {l
       settles x (inr (inl w)) = inl (stays (arc t x).target w)
       settles x (inr (inr w)) = on x (inr w) (waiting waits' (arc t x).target) refl
 
-  pub joined_kept : change ≡ kept → Joined t m i cs ls waits many cs' ls' ring waits head many
-  joined_kept e = step q (λ u w. w) (λ v. absurd (omega arith)) (omega arith)
+  pub joined_kept : change ≡ Kept → Joined t m i cs ls waits many cs' ls' waits many
+  joined_kept e = step q (λ u w. w) (λ v. cc) (omega arith)
 
   -- The source as it was read.
   module _ (u : ℕ) (is : u ≡ (arc t i).source) where
-    is_state : u < t.states
-    is_state = omega (arith, is, z.within.leaves i b)
-
-    pub joined_waits : waiting waits u ≡ true → Joined t m i cs ls waits many cs' ls' ring waits head many
+    pub joined_waits : waiting waits u ≡ true → Joined t m i cs ls waits many cs' ls' waits many
     joined_waits w = step q (λ x v. v) (λ _. rw is at w) (omega arith)
 
-    pub joined_room : waiting waits u ≡ false → many < t.states
-    joined_room w = queue_room z.states q u is_state w
+    pub joined_pushed : {waits' : List Bool} {many' : ℕ} → change ≡ Better → u < length waits → waits' ≡ set waits u true → many' ≡ many + 1
+        → Joined t m i cs ls waits many cs' ls' waits' many'
+    joined_pushed v long f more =
+        let here : waiting (set waits u true) u ≡ true = mark_here waits u true long in
+        rw f (step inside stays (λ _. rw (← is) here) (rw v (omega (arith, more))))
+      where
+        inside : Inside t (set waits u true)
+        inside x w = on (ℕ_discrete x u)
+          where
+            on : Dec (x ≡ u) → x < t.states
+            on (yes e) = omega (arith, e, is, z.within.leaves i b)
+            on (no n) = q x (sym (mark_other waits u x true n) ∙ w)
 
-    pub joined_pushed : {ring' : List ℕ} {waits' : List Bool} → change ≡ better → waiting waits u ≡ false → ring' ≡ set ring (cell head many) u
-        → waits' ≡ set waits u true → Joined t m i cs ls waits many cs' ls' ring' waits' head (many + 1)
-    joined_pushed v w e f =
-        let here : waiting (set waits u true) u ≡ true = push_here z.states q u is_state w in
-        rw (e, f)
-        (step (queue_push z.states q u is_state w) (push_stays z.states q u is_state w) (λ _. rw (← is) here) (rw v (omega arith)))
+        stays : (x : ℕ) → waiting waits x ≡ true → waiting (set waits u true) x ≡ true
+        stays x w = on (ℕ_discrete x u)
+          where
+            on : Dec (x ≡ u) → waiting (set waits u true) x ≡ true
+            on (yes e) = rw e (mark_here waits u true long)
+            on (no n) = mark_other waits u x true n ∙ w
 
 -- What is left to relax is less by that arc.
-pub draining_joined : {t : Transducer} {m left left' : ℕ → Bool} {cs : List Weight} {ls : Sizes} {ring : List ℕ} {waits : List Bool} {head many : ℕ}
-    → Draining t m left cs ls ring waits head many → (i : ℕ) {cs' : List Weight} {ls' : Sizes} {ring' : List ℕ} {waits' : List Bool} {many' : ℕ}
-    → Cells t.states cs' ls' → Tentative t (cost_at cs') (by_state ls') → Joined t m i cs ls waits many cs' ls' ring' waits' head many'
+pub draining_joined : {t : Transducer} {m left left' : ℕ → Bool} {cs : List Weight} {ls : Sizes} {waits : List Bool} {many : ℕ}
+    → Draining t m left cs ls waits → (i : ℕ) {cs' : List Weight} {ls' : Sizes} {waits' : List Bool} {many' : ℕ}
+    → Cells t.states cs' ls' → Tentative t (cost_at cs') (by_state ls') → Joined t m i cs ls waits many cs' ls' waits' many'
     → ((x : ℕ) → x < length t.arcs → left x ≡ true → (x ≡ i) ⊎ (left' x ≡ true))
-    → Draining t m left' cs' ls' ring' waits' head many'
+    → Draining t m left' cs' ls' waits'
 draining_joined {t} {m} {left} {left'} {cs} {ls} {waits = waits} k i {cs'} {ls'} {waits' = waits'} cells near j less =
-    record { cells = cells; nearing = near; queue = j.queue; by_arc = λ x h o. on x h o (k.by_arc x h o) }
+    record { cells = cells; nearing = near; inside = j.inside; by_arc = λ x h o. on x h o (k.by_arc x h o) }
   where
     Now : ℕ → Type 0
     Now x = (left' x ≡ true) ⊎ ((waiting waits' (arc t x).target ≡ true) ⊎ NoBetter t cs' ls' x)
@@ -105,10 +104,14 @@ draining_joined {t} {m} {left} {left'} {cs} {ls} {waits = waits} k i {cs'} {ls'}
 unfoldable pub from_on : (i : ℕ) → ℕ → Bool
 from_on i x = leb i x
 
-pub ordered_first : {t : Transducer} {m : ℕ → Bool} {cs : List Weight} {ls : Sizes} {ring : List ℕ} {waits : List Bool} → Cells t.states cs ls
-    → Tentative t (cost_at cs) (by_state ls) → Queue t.states ring waits 0 0 → Draining t m (from_on 0) cs ls ring waits 0 0
+pub ordered_first : {t : Transducer} {m : ℕ → Bool} {cs : List Weight} {ls : Sizes} {waits : List Bool} → Cells t.states cs ls
+    → Tentative t (cost_at cs) (by_state ls) → Inside t waits → Draining t m (from_on 0) cs ls waits
 unfolding from_on
-ordered_first cells near q = record { cells = cells; nearing = near; queue = q; by_arc = λ x h o. inl (le-leb 0 x (omega arith)) }
+ordered_first cells near q = record { cells = cells; nearing = near; inside = q; by_arc = λ x h o. inl (le-leb 0 x (omega arith)) }
+
+-- Nothing waits.
+pub inside_none : (t : Transducer) {waits : List Bool} → waits ≡ replicate max_states false → Inside t waits
+inside_none t e = λ s w. clash w (ap (λ (xs : List Bool). waiting xs s) e ∙ (cleared false 0 max_states (omega arith)).blank s)
 
 pub ordered_next : (i x : ℕ) → from_on i x ≡ true → (x ≡ i) ⊎ (from_on (i + 1) x ≡ true)
 unfolding from_on
@@ -118,11 +121,11 @@ ordered_next i x e = on (ℕ_discrete x i)
     on (yes q) = inl q
     on (no q) = inr (le-leb (i + 1) x (omega (arith, leb-true i x e)))
 
-pub ordered_stop : {t : Transducer} {m : ℕ → Bool} {cs : List Weight} {ls : Sizes} {ring : List ℕ} {waits : List Bool} {head many i : ℕ}
-    → Draining t m (from_on i) cs ls ring waits head many → length t.arcs ≤ i → Draining t m none cs ls ring waits head many
+pub ordered_stop : {t : Transducer} {m : ℕ → Bool} {cs : List Weight} {ls : Sizes} {waits : List Bool} {i : ℕ}
+    → Draining t m (from_on i) cs ls waits → length t.arcs ≤ i → Draining t m none cs ls waits
 unfolding from_on
 ordered_stop {t} {m} {cs} {ls} {waits = waits} {i = i} k e =
-    record { cells = k.cells; nearing = k.nearing; queue = k.queue; by_arc = λ x h o. on x h (k.by_arc x h o) }
+    record { cells = k.cells; nearing = k.nearing; inside = k.inside; by_arc = λ x h o. on x h (k.by_arc x h o) }
   where
     on : (x : ℕ) → x < length t.arcs → (leb i x ≡ true) ⊎ ((waiting waits (arc t x).target ≡ true) ⊎ NoBetter t cs ls x)
         → (none x ≡ true) ⊎ ((waiting waits (arc t x).target ≡ true) ⊎ NoBetter t cs ls x)
@@ -131,15 +134,14 @@ ordered_stop {t} {m} {cs} {ls} {waits = waits} {i = i} k e =
 
 -- A state comes off.
 
-pub draining_popped : {t : Transducer} {m : ℕ → Bool} {cs : List Weight} {ls : Sizes} {ring : List ℕ} {waits waits' : List Bool} {head head' many : ℕ} → Sized t
-    → Draining t m none cs ls ring waits head many → 0 < many → (s : ℕ) → s ≡ get_or ring head 0 → waits' ≡ set waits s false → head' ≡ cell head 1
-    → Draining t m (leads_to t s) cs ls ring waits' head' (many - 1)
+pub draining_popped : {t : Transducer} {m : ℕ → Bool} {cs : List Weight} {ls : Sizes} {waits waits' : List Bool} → Draining t m none cs ls waits → (s : ℕ)
+    → waits' ≡ set waits s false → s < length waits → Draining t m (leads_to t s) cs ls waits'
 unfolding leads_to
-draining_popped {t} {m} {cs} {ls} {ring} {waits} z k some s is e f =
-    rw (e, f) (record {
+draining_popped {t} {m} {cs} {ls} {waits} k s e long =
+    rw e (record {
       cells = k.cells;
       nearing = k.nearing;
-      queue = rw is (queue_pop z.states k.queue some);
+      inside = λ u w. inside u w (ℕ_discrete u s);
       by_arc = λ i b o. on i (k.by_arc i b o) (ℕ_discrete (arc t i).target s);
     })
   where
@@ -150,25 +152,23 @@ draining_popped {t} {m} {cs} {ls} {ring} {waits} z k some s is e f =
     on i (inr (inl w)) (no q) = inr (inl (mark_other waits s (arc t i).target false q ∙ w))
     on i (inr (inr w)) d = inr (inr w)
 
-pub popped_less : (t : Transducer) (cs : List Weight) (ls : Sizes) (many : ℕ) {next : ℕ} → 0 < many → next ≤ to_do t cs ls (many - 1)
+    inside : (u : ℕ) → waiting (set waits s false) u ≡ true → Dec (u ≡ s) → u < t.states
+    inside u w (yes q) = clash {b = waiting (set waits s false) s} (rw q at w) (mark_here waits s false long)
+    inside u w (no q) = k.inside u (sym (mark_other waits s u false q) ∙ w)
+
+pub popped_less : (t : Transducer) (cs : List Weight) (ls : Sizes) (many left : ℕ) {next : ℕ} → left + 1 ≡ many → next ≤ to_do t cs ls left
     → next < to_do t cs ls many
 unfolding to_do
-popped_less t cs ls many some le = omega arith
+popped_less t cs ls many left one le = omega arith
 
-pub draining_stop : {t : Transducer} {m : ℕ → Bool} {cs : List Weight} {ls : Sizes} {ring : List ℕ} {waits : List Bool} {head many : ℕ} → Sized t
-    → Draining t m none cs ls ring waits head many → many ≤ 0 → Drained t m cs ls true
+pub draining_stop : {t : Transducer} {m : ℕ → Bool} {cs : List Weight} {ls : Sizes} {waits : List Bool} → Sized t → Draining t m none cs ls waits → NoneWaits waits → Drained t m cs ls true
 draining_stop {t} {m} {cs} {ls} {waits = waits} z k e =
     record { cells = k.cells; nearing = k.nearing; relaxed = λ _ i b o. on i b (k.by_arc i b o); stays = λ q. clash refl q }
   where
     on : (i : ℕ) → i < length t.arcs → (none i ≡ true) ⊎ ((waiting waits (arc t i).target ≡ true) ⊎ NoBetter t cs ls i) → NoBetter t cs ls i
     on i b (inl q) = never q
-    on i b (inr (inl w)) = clash w (queue_empty k.queue e (arc t i).target (z.within.arrives i b))
+    on i b (inr (inl w)) = clash w (e (arc t i).target (omega (arith, z.within.arrives i b, z.states)))
     on i b (inr (inr w)) = w
-
--- A path had too many arcs.
-pub draining_stuck : {t : Transducer} {m : ℕ → Bool} {cs : List Weight} {ls : Sizes} → Cells t.states cs ls → Tentative t (cost_at cs) (by_state ls)
-    → SomeNegativeCycle t m → Drained t m cs ls false
-draining_stuck cells near f = record { cells = cells; nearing = near; relaxed = λ q. never q; stays = λ _. f }
 
 -- The arcs that lead to a state, below a link of its chain.
 
@@ -176,20 +176,20 @@ unfoldable pub left_below : Transducer → (s link : ℕ) → (i : ℕ) → Bool
 left_below t s link i = leads_to t s i && ltb i link
 
 -- Those from the link on are relaxed.
-pub record Relaxing (t : Transducer) (m : ℕ → Bool) (s link todo : ℕ) (cs : List Weight) (ls : Sizes) (ring : List ℕ) (waits : List Bool)
-    (head many : ℕ) : Type 0 where
+pub record Relaxing (t : Transducer) (m : ℕ → Bool) (s link todo : ℕ) (cs : List Weight) (ls : Sizes) (waits : List Bool)
+    (many : ℕ) : Type 0 where
   pub linked : Linked t s link
-  pub settling : Draining t m (left_below t s link) cs ls ring waits head many
+  pub settling : Draining t m (left_below t s link) cs ls waits
   pub falls : to_do t cs ls many ≤ todo
 
-pub relaxing_stop : {t : Transducer} {m : ℕ → Bool} {s link todo : ℕ} {cs : List Weight} {ls : Sizes} {ring : List ℕ} {waits : List Bool} {head many : ℕ}
-    → Relaxing t m s link todo cs ls ring waits head many → link ≤ 0 → Draining t m none cs ls ring waits head many
+pub relaxing_stop : {t : Transducer} {m : ℕ → Bool} {s link todo : ℕ} {cs : List Weight} {ls : Sizes} {waits : List Bool} {many : ℕ}
+    → Relaxing t m s link todo cs ls waits many → link ≤ 0 → Draining t m none cs ls waits
 unfolding left_below
 relaxing_stop {t} {m} {s} {link} {cs = cs} {ls = ls} {waits = waits} r e =
     record {
       cells = r.settling.cells;
       nearing = r.settling.nearing;
-      queue = r.settling.queue;
+      inside = r.settling.inside;
       by_arc = λ i h o. on i (r.settling.by_arc i h o);
     }
   where
@@ -199,13 +199,13 @@ relaxing_stop {t} {m} {s} {link} {cs = cs} {ls = ls} {waits = waits} r e =
     on i (inr w) = inr w
 
 module _ {t : Transducer} {heads links : List ℕ} (by : ByTarget t heads links) (s : ℕ) where
-  pub relaxing_first : s < 1024 → {m : ℕ → Bool} {cs : List Weight} {ls : Sizes} {ring : List ℕ} {waits : List Bool} {head many : ℕ}
-      → Draining t m (leads_to t s) cs ls ring waits head many → Relaxing t m s (get_or heads s 0) (to_do t cs ls many) cs ls ring waits head many
+  pub relaxing_first : s < 1024 → {m : ℕ → Bool} {cs : List Weight} {ls : Sizes} {waits : List Bool} (many : ℕ)
+      → Draining t m (leads_to t s) cs ls waits → Relaxing t m s (get_or heads s 0) (to_do t cs ls many) cs ls waits many
   unfolding left_below leads_to
-  relaxing_first b {m} {cs} {ls} {ring} {waits} k =
+  relaxing_first b {m} {cs} {ls} {waits} many k =
       record {
         linked = link_first by s b;
-        settling = record { cells = k.cells; nearing = k.nearing; queue = k.queue; by_arc = λ i h o. on i h (k.by_arc i h o) };
+        settling = record { cells = k.cells; nearing = k.nearing; inside = k.inside; by_arc = λ i h o. on i h (k.by_arc i h o) };
         falls = omega arith;
       }
     where
@@ -216,11 +216,11 @@ module _ {t : Transducer} {heads links : List ℕ} (by : ByTarget t heads links)
           (lt-ltb i (get_or heads s 0) (link_all by s b i h (eqb-true (arc t i).target s q))))
       on i h (inr w) = inr w
 
-  pub relaxing_next : {m : ℕ → Bool} {link todo : ℕ} {cs : List Weight} {ls : Sizes} {ring : List ℕ} {waits : List Bool} {head many : ℕ}
-      → Relaxing t m s link todo cs ls ring waits head many → (i : ℕ) → ArcThere t s link i
-      → {cs' : List Weight} {ls' : Sizes} {ring' : List ℕ} {waits' : List Bool} {many' : ℕ} → Cells t.states cs' ls'
+  pub relaxing_next : {m : ℕ → Bool} {link todo : ℕ} {cs : List Weight} {ls : Sizes} {waits : List Bool} {many : ℕ}
+      → Relaxing t m s link todo cs ls waits many → (i : ℕ) → ArcThere t s link i
+      → {cs' : List Weight} {ls' : Sizes} {waits' : List Bool} {many' : ℕ} → Cells t.states cs' ls'
       → Tentative t (cost_at cs') (by_state ls')
-      → Joined t m i cs ls waits many cs' ls' ring' waits' head many' → Relaxing t m s (get_or links i 0) todo cs' ls' ring' waits' head many'
+      → Joined t m i cs ls waits many cs' ls' waits' many' → Relaxing t m s (get_or links i 0) todo cs' ls' waits' many'
   unfolding left_below leads_to
   relaxing_next {m} {link} k i here cells near j =
       record {
@@ -240,35 +240,13 @@ module _ {t : Transducer} {heads links : List ℕ} (by : ByTarget t heads links)
           let both = and-true (leads_to t s x) (ltb x link) e in
           on x both.0 (ltb-true x link both.1) (ℕ_discrete x i)
 
--- What a call answers: how many wait, or that a path had too many arcs.
+-- What a call answers where it is done.
 
-queue_few : {n head many : ℕ} {ring : List ℕ} {waits : List Bool} → Queue n ring waits head many → many ≤ n
-queue_few {n} {waits = waits} q = omega (arith, q.counted, count_most n (waiting waits))
+pub joins : {A E : Type 0} {v : A} {t : Transducer} {m : ℕ → Bool} {i : ℕ} {cs : List Weight} {ls : Sizes} {waits : List Bool} {many : ℕ} {cs' : List Weight}
+    {ls' : Sizes} {waits' : List Bool} {many' : ℕ} → Cells t.states cs' ls' → Tentative t (cost_at cs') (by_state ls')
+    → Joined t m i cs ls waits many cs' ls' waits' many' → Joins {A = A} {E = E} t m i cs ls waits many cs' ls' waits' many' (Ok v)
+joins cells near j = record { cells = cells; nearing = near; joined = λ _. j; stays = λ e. never e }
 
-pub joins : {t : Transducer} {m : ℕ → Bool} {i : ℕ} {cs : List Weight} {ls : Sizes} {waits : List Bool} {many : ℕ} {cs' : List Weight}
-    {ls' : Sizes} {ring' : List ℕ} {waits' : List Bool} {head r : ℕ} → Sized t → Cells t.states cs' ls' → Tentative t (cost_at cs') (by_state ls')
-    → Joined t m i cs ls waits many cs' ls' ring' waits' head r → Joins t m i cs ls waits many cs' ls' ring' waits' head r
-joins z cells near j =
-    record { cells = cells; nearing = near; joined = λ _. j; stays = λ e. absurd (omega (arith, e, queue_few j.queue, z.states)) }
-
-pub joins_stuck : {t : Transducer} {m : ℕ → Bool} {i : ℕ} {cs : List Weight} {ls : Sizes} {waits : List Bool} {many : ℕ} {cs' : List Weight}
-    {ls' : Sizes} {ring' : List ℕ} {waits' : List Bool} {head : ℕ} → Cells t.states cs' ls' → Tentative t (cost_at cs') (by_state ls')
-    → SomeNegativeCycle t m
-    → Joins t m i cs ls waits many cs' ls' ring' waits' head stuck
-joins_stuck cells near f = record { cells = cells; nearing = near; joined = λ no. absurd (no refl); stays = λ _. f }
-
-pub drains : {t : Transducer} {m : ℕ → Bool} {todo : ℕ} {cs : List Weight} {ls : Sizes} {ring : List ℕ} {waits : List Bool} {head r : ℕ} → Sized t
-    → Draining t m none cs ls ring waits head r → to_do t cs ls r ≤ todo → Drains t m todo cs ls ring waits head r
-drains z d le =
-    record {
-      cells = d.cells;
-      nearing = d.nearing;
-      draining = λ _. d;
-      falls = λ _. le;
-      stays = λ e. absurd (omega (arith, e, queue_few d.queue, z.states));
-    }
-
-pub drains_stuck : {t : Transducer} {m : ℕ → Bool} {todo : ℕ} {cs : List Weight} {ls : Sizes} {ring : List ℕ} {waits : List Bool} {head : ℕ}
-    → Cells t.states cs ls → Tentative t (cost_at cs) (by_state ls) → SomeNegativeCycle t m → Drains t m todo cs ls ring waits head stuck
-drains_stuck cells near f =
-    record { cells = cells; nearing = near; draining = λ no. absurd (no refl); falls = λ no. absurd (no refl); stays = λ _. f }
+pub drains : {A E : Type 0} {v : A} {t : Transducer} {m : ℕ → Bool} {todo : ℕ} {cs : List Weight} {ls : Sizes} {waits : List Bool} {many : ℕ}
+    → Draining t m none cs ls waits → to_do t cs ls many ≤ todo → Drains {A = A} {E = E} t m todo cs ls waits many (Ok v)
+drains d le = record { cells = d.cells; nearing = d.nearing; draining = λ _. d; falls = λ _. le; stays = λ e. never e }

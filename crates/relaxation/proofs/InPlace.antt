@@ -1,15 +1,15 @@
 -- A sweep over the arcs in place, last arc first: `Sweeping` says what holds of the arcs that are swept, one law for each way a turn goes. Assumes nothing.
 use mathlib.Core.Path.{◌≡◌, refl, sym, ◌∙◌}
-use mathlib.Core.Bool.{Bool, true, false, ◌&&◌, ◌||◌}
+use mathlib.Core.Bool.{Bool, true, false, ◌&&◌}
 use mathlib.Core.Logic.{◌⊎◌, inl, inr}
 use mathlib.Core.List.{List}
 use Prim.Native.Nat.{ℕ, ◌+◌, ◌-◌, ◌≤◌, ◌<◌}
 use native.Mathlib.Omega.{arith}
 use native.Mathlib.Decide.{ℕ_discrete}
-use lib.Dec.{eqb, ltb, leb}
+use lib.Dec.{ltb}
 use lib.ListN.{length}
-use borrow.Author.Tests.{eqb-false, ltb-true, ltb-false, leb-false}
-use Rattle.wire.proofs.Bool.{and-true, or_false}
+use borrow.Author.Tests.{ltb-true, ltb-false}
+use Rattle.wire.proofs.Bool.{and-true}
 use Rattle.transducer.specs.declared.Arc.{Arc}
 use Rattle.transducer.specs.Format.{Transducer}
 use Rattle.transducer.specs.Path.{arc}
@@ -17,8 +17,9 @@ use Rattle.transducer.specs.Weight.{Weight, no_weight}
 use Rattle.transducer.specs.Accepted.{arcs_below}
 use Rattle.transducer.proofs.Index.{arcs_of_state, state_of_arcs}
 use Rattle.reach.proofs.Sized.{Sized}
-use Rattle.relax.specs.Tentative.{Sizes, cost_at, by_state, Rising, is_nearest, Tentative, Cells, NoBetter, kept, better, too_long, Relaxed}
-use Rattle.relaxation.specs.Swept.{SweptSays}
+use Rattle.relax.specs.Tentative.{Sizes, cost_at, by_state, Rising, is_nearest, Tentative, Cells, NoBetter, Relaxed}
+use Rattle.relax.specs.declared.relaxing.Change.{Change}
+use Rattle.relax.specs.declared.relaxing.Change.TheVariants.{Kept, Better, TooLong}
 use Rattle.relax.proofs.Relaxed.{nothing_nearer}
 
 -- A state that no arc makes better where no weight is below zero and each arc writes a label.
@@ -34,36 +35,6 @@ pub record Sweeping (t : Transducer) (plain : Bool) (low i : ℕ) (cs : List Wei
   pub rising : plain ≡ true → Rising t
   pub ahead : (x : ℕ) → i ≤ x → x < length t.arcs → (low ≤ (arc t x).target) ⊎ ((plain ≡ true) × AtBest cs ls (arc t x).source)
   pub settled : again ≡ false → (x : ℕ) → i ≤ x → x < length t.arcs → NoBetter t cs ls x
-
-pub sweeping_first : (t : Transducer) (plain : Bool) (cs : List Weight) (ls : Sizes) (low m : ℕ) → m ≡ length t.arcs → Cells t.states cs ls
-    → Tentative t (cost_at cs) (by_state ls) → (plain ≡ true → Rising t) → Sweeping t plain low m cs ls false
-sweeping_first t plain cs ls low m e cells n rising =
-    record {
-      below = omega arith;
-      cells = cells;
-      nearing = n;
-      rising = rising;
-      ahead = λ x a b. absurd (omega arith);
-      settled = λ _ x a b. absurd (omega arith);
-    }
-
-pub sweeping_stop : (t : Transducer) (plain : Bool) (low i : ℕ) (cs : List Weight) (ls : Sizes) (again : Bool) → Sweeping t plain low i cs ls again → i ≤ 0
-    → SweptSays t cs ls again
-sweeping_stop t plain low i cs ls again k h =
-    record {
-      cells = k.cells;
-      nearing = k.nearing;
-      settled = λ q.
-          record { nearing = k.nearing; onwards = λ x b m. refl; by_arc = λ x b m. k.settled q x (omega arith) b };
-    }
-
--- Whether more may change, after a change at state s.
-pub not_again : (again : Bool) (change s low : ℕ) → again || (eqb change too_long || leb low s) ≡ false
-    → (again ≡ false) × (change ≡ too_long → ⊥) × (s < low)
-not_again again change s low h =
-    let one = or_false again (eqb change too_long || leb low s) h in
-    let two = or_false (eqb change too_long) (leb low s) one.1 in
-    (one.0, eqb-false change too_long two.0, leb-false low s two.1)
 
 -- One arc
 
@@ -82,8 +53,8 @@ module _ (t : Transducer) (z : Sized t) (plain : Bool) (low i : ℕ) (cs : List 
   sweeping_state = (z.within.leaves (i - 1) sweeping_arc, z.within.arrives (i - 1) sweeping_arc)
 
   -- The arc is relaxed.
-  relaxed : (low' : ℕ) (cs' : List Weight) (ls' : Sizes) (change : ℕ) (again' : Bool) → low' ≤ low → low' ≤ (arc t j).target
-      → (again' ≡ false → (again ≡ false) × (change ≡ too_long → ⊥) × (change ≡ better → s < low')) → Relaxed t j cs ls cs' ls' change
+  relaxed : (low' : ℕ) (cs' : List Weight) (ls' : Sizes) (change : Change) (again' : Bool) → low' ≤ low → low' ≤ (arc t j).target
+      → (again' ≡ false → (again ≡ false) × (change ≡ TooLong → ⊥) × (change ≡ Better → s < low')) → Relaxed t j cs ls cs' ls' change
       → Sweeping t plain low' j cs' ls' again'
   relaxed low' cs' ls' change again' f g asked r =
       record {
@@ -160,14 +131,14 @@ module _ (t : Transducer) (z : Sized t) (plain : Bool) (low i : ℕ) (cs : List 
         let n : is_nearest no_weight (cost_at cs a.source) (by_state ls a.source) ≡ true = sym e ∙ both.1 in
         passed both.0 (rw is at n) to (rw is at f)
 
-    module _ (low' : ℕ) (cs' : List Weight) (ls' : Sizes) (change : ℕ) (f : low' ≤ low) (g : low' ≤ a.target)
+    module _ (low' : ℕ) (cs' : List Weight) (ls' : Sizes) (change : Change) (f : low' ≤ low) (g : low' ≤ a.target)
         (r : Relaxed t (i - 1) cs ls cs' ls' change) where
-      pub sweeping_kept : change ≡ kept → Sweeping t plain low' (i - 1) cs' ls' again
+      pub sweeping_kept : change ≡ Kept → Sweeping t plain low' (i - 1) cs' ls' again
       sweeping_kept q =
-          relaxed low' cs' ls' change again f (rw is at g) (λ e. (e, (λ v. absurd (omega arith)), (λ v. absurd (omega arith)))) r
+          relaxed low' cs' ls' change again f (rw is at g) (λ e. (e, (λ v. cc), (λ v. cc))) r
 
-      pub sweeping_changed : (again' : Bool) → (again' ≡ false → (again ≡ false) × (change ≡ too_long → ⊥) × (a.source < low'))
+      pub sweeping_changed : (again' : Bool) → (again' ≡ false → (again ≡ false) × (change ≡ TooLong → ⊥) × (a.source < low'))
           → Sweeping t plain low' (i - 1) cs' ls' again'
       sweeping_changed again' asked =
-          let asked' : again' ≡ false → (again ≡ false) × (change ≡ too_long → ⊥) × ((arc t (i - 1)).source < low') = rw is at asked in
+          let asked' : again' ≡ false → (again ≡ false) × (change ≡ TooLong → ⊥) × ((arc t (i - 1)).source < low') = rw is at asked in
           relaxed low' cs' ls' change again' f (rw is at g) (λ e. ((asked' e).0, (asked' e).1, λ v. (asked' e).2)) r

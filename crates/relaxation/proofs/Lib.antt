@@ -1,4 +1,6 @@
 -- In reading order.
+-- What the bytes tell.
+pub mod Opened
 -- A sweep over the arcs, and one by states; where the arcs of a state begin.
 pub mod InPlace
 pub mod ByStates

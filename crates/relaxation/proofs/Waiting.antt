@@ -44,11 +44,14 @@ cell_below head k = omega arith
 
 -- What changes of the marks.
 
-mark_here : (waits : List Bool) (s : ℕ) (v : Bool) → s < length waits → waiting (set waits s v) s ≡ v
+pub mark_here : (waits : List Bool) (s : ℕ) (v : Bool) → s < length waits → waiting (set waits s v) s ≡ v
 mark_here waits s v b = get_or-set_same waits s v false b
 
 pub mark_other : (waits : List Bool) (s u : ℕ) (v : Bool) → (u ≡ s → ⊥) → waiting (set waits s v) u ≡ waiting waits u
 mark_other waits s u v n = get_or-set_other waits s u v false n
+
+pub queue_few : {n head many : ℕ} {ring : List ℕ} {waits : List Bool} → Queue n ring waits head many → many ≤ n
+queue_few {n} {waits = waits} q = omega (arith, q.counted, count_most n (waiting waits))
 
 pub queue_empty : {n head many : ℕ} {ring : List ℕ} {waits : List Bool} → Queue n ring waits head many → many ≤ 0 → (s : ℕ) → s < n → waiting waits s ≡ false
 queue_empty {n} {waits = waits} q e s b = on (waiting waits s) refl
@@ -137,6 +140,9 @@ module _ {n head many : ℕ} {ring : List ℕ} {waits : List Bool} (few : n ≤ 
   first_is : get_or ring (cell head 0) 0 ≡ first
   first_is = ap (λ (k : ℕ). get_or ring k 0) (cell_first head q.head_below)
 
+  pub pop_waits : waiting waits (get_or ring head 0) ≡ true
+  pop_waits = ap (waiting waits) (sym first_is) ∙ q.waits_there 0 some
+
   pub pop_state : get_or ring head 0 < n
   pop_state = omega (arith, q.state 0 some, first_is)
 
@@ -154,13 +160,10 @@ module _ {n head many : ℕ} {ring : List ℕ} {waits : List Bool} (few : n ≤ 
         once = λ j k c d e. once j k c d e;
       }
     where
-      here : waiting waits first ≡ true
-      here = ap (waiting waits) (sym first_is) ∙ q.waits_there 0 some
-
       one_less : count n (waiting waits) ≡ count n (waiting (set waits first false)) + 1
       one_less =
           count_more n (waiting (set waits first false)) (waiting waits) first pop_state (λ u o. sym (mark_other waits first u false o))
-          (mark_here waits first false (omega (arith, q.waits_long, pop_state))) here
+          (mark_here waits first false (omega (arith, q.waits_long, pop_state))) pop_waits
 
       other : (k : ℕ) → k < many - 1 → get_or ring (cell head (k + 1)) 0 ≡ first → ⊥
       other k c e = omega (arith, q.once (k + 1) 0 (omega arith) some (e ∙ sym first_is))

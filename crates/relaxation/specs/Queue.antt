@@ -1,5 +1,5 @@
 -- A queue of states, and costs and sizes on their way to be settled by it. Assumes nothing: these are definitions.
-use Rattle.std.specs.Prelude.{◌≡◌, Bool, true, false, ◌⊎◌, List, ℕ, ◌+◌, ◌%◌, ◌≤◌, ◌<◌, length, get_or}
+use Rattle.std.specs.Prelude.{◌≡◌, Bool, true, false, ◌⊎◌, List, ℕ, ◌+◌, ◌%◌, ◌≤◌, ◌<◌, length, get_or, Result, IsOk, IsErr}
 use Rattle.transducer.specs.Format.{Transducer, max_states}
 use Rattle.transducer.specs.Path.{arc}
 use Rattle.transducer.specs.Weight.{Weight}
@@ -29,35 +29,40 @@ pub record Queue (n : ℕ) (ring : List ℕ) (waits : List Bool) (head many : �
   pub waits_there : (k : ℕ) → k < many → waiting waits (get_or ring (cell head k) 0) ≡ true
   pub once : (j k : ℕ) → j < many → k < many → get_or ring (cell head j) 0 ≡ get_or ring (cell head k) 0 → j ≡ k
 
+-- No state waits.
+abbrev pub NoneWaits : List Bool → Type 0
+NoneWaits waits = (s : ℕ) → s < max_states → waiting waits s ≡ false
+
+-- What waits is a state of the transducer.
+abbrev pub Inside : Transducer → (waits : List Bool) → Type 0
+Inside t waits = (s : ℕ) → waiting waits s ≡ true → s < t.states
+
 -- What falls with each state that comes off the queue: a state comes on only when its cost or size falls.
 unfoldable pub to_do : Transducer → (cs : List Weight) → (ls : Sizes) → (many : ℕ) → ℕ
 to_do t cs ls many = total t.states (height (cost_at cs) (by_state ls)) + many
 
--- What stands for a number of states that wait where a path had too many arcs: from a marked state a cycle below zero lies on an accepting path.
-abbrev pub stuck : ℕ
-stuck = 65535
-
 -- What relaxing arc i leaves where its source joins the queue when it gets better: an arc from a marked state makes that better only where it leads to a
 -- state that waits, if that held before or it is arc i.
 pub record Joined (t : Transducer) (m : ℕ → Bool) (i : ℕ) (cs : List Weight) (ls : Sizes) (waits : List Bool) (many : ℕ) (cs' : List Weight)
-    (ls' : Sizes) (ring' : List ℕ) (waits' : List Bool) (head many' : ℕ) : Type 0 where
-  pub queue : Queue t.states ring' waits' head many'
+    (ls' : Sizes) (waits' : List Bool) (many' : ℕ) : Type 0 where
+  pub inside : Inside t waits'
   pub settles : (x : ℕ) → m (arc t x).source ≡ true → (x ≡ i) ⊎ ((waiting waits (arc t x).target ≡ true) ⊎ NoBetter t cs ls x)
       → (waiting waits' (arc t x).target ≡ true) ⊎ NoBetter t cs' ls' x
   pub falls : to_do t cs' ls' many' ≤ to_do t cs ls many
 
-pub record Joins (t : Transducer) (m : ℕ → Bool) (i : ℕ) (cs : List Weight) (ls : Sizes) (waits : List Bool) (many : ℕ) (cs' : List Weight)
-    (ls' : Sizes) (ring' : List ℕ) (waits' : List Bool) (head r : ℕ) : Type 0 where
+-- The same, unless a path had too many arcs: from a marked state a cycle below zero lies on an accepting path.
+pub record Joins {A E : Type 0} (t : Transducer) (m : ℕ → Bool) (i : ℕ) (cs : List Weight) (ls : Sizes) (waits : List Bool) (many : ℕ) (cs' : List Weight)
+    (ls' : Sizes) (waits' : List Bool) (many' : ℕ) (r : Result A E) : Type 0 where
   pub cells : Cells t.states cs' ls'
   pub nearing : Tentative t (cost_at cs') (by_state ls')
-  pub joined : (r ≡ stuck → ⊥) → Joined t m i cs ls waits many cs' ls' ring' waits' head r
-  pub stays : r ≡ stuck → SomeNegativeCycle t m
+  pub joined : IsOk r → Joined t m i cs ls waits many cs' ls' waits' many'
+  pub stays : IsErr r → SomeNegativeCycle t m
 
 -- Costs and sizes on their way: an arc from a marked state that makes that better leads to a state that waits, or is one of those left to relax.
-pub record Draining (t : Transducer) (m left : ℕ → Bool) (cs : List Weight) (ls : Sizes) (ring : List ℕ) (waits : List Bool) (head many : ℕ) : Type 0 where
+pub record Draining (t : Transducer) (m left : ℕ → Bool) (cs : List Weight) (ls : Sizes) (waits : List Bool) : Type 0 where
   pub cells : Cells t.states cs ls
   pub nearing : Tentative t (cost_at cs) (by_state ls)
-  pub queue : Queue t.states ring waits head many
+  pub inside : Inside t waits
   pub by_arc : (i : ℕ) → i < length t.arcs → m (arc t i).source ≡ true
       → (left i ≡ true) ⊎ ((waiting waits (arc t i).target ≡ true) ⊎ NoBetter t cs ls i)
 
@@ -66,12 +71,13 @@ abbrev pub none : (i : ℕ) → Bool
 none i = false
 
 -- What relaxing a run of arcs leaves, from costs and sizes with so much to do.
-pub record Drains (t : Transducer) (m : ℕ → Bool) (todo : ℕ) (cs : List Weight) (ls : Sizes) (ring : List ℕ) (waits : List Bool) (head r : ℕ) : Type 0 where
+pub record Drains {A E : Type 0} (t : Transducer) (m : ℕ → Bool) (todo : ℕ) (cs : List Weight) (ls : Sizes) (waits : List Bool) (many : ℕ) (r : Result A E)
+    : Type 0 where
   pub cells : Cells t.states cs ls
   pub nearing : Tentative t (cost_at cs) (by_state ls)
-  pub draining : (r ≡ stuck → ⊥) → Draining t m none cs ls ring waits head r
-  pub falls : (r ≡ stuck → ⊥) → to_do t cs ls r ≤ todo
-  pub stays : r ≡ stuck → SomeNegativeCycle t m
+  pub draining : IsOk r → Draining t m none cs ls waits
+  pub falls : IsOk r → to_do t cs ls many ≤ todo
+  pub stays : IsErr r → SomeNegativeCycle t m
 
 -- What the queue leaves in the end.
 pub record Drained (t : Transducer) (m : ℕ → Bool) (cs : List Weight) (ls : Sizes) (r : Bool) : Type 0 where

@@ -6,7 +6,7 @@ ghost use Rattle.transducer.specs.Accepted.{AcceptedAt, arcs_below};
 // So many arcs are passed over at once while that is not too far.
 const STRIDE: usize = 32;
 
-// Goes back by strides while that passes over arcs of state `s` or higher ones only.
+// Goes back by strides while that passes over arcs of state `s` or higher ones only. Where it stops is what is sought, so that a range by steps is no plainer.
 fn strides_back(table: &[u8], first: usize, s: usize, near: usize) -> usize
     requires { AcceptedAt table.now first × (near ≤ length (decode table.now).arcs) × (arcs_below s (decode table.now).arcs ≤ near) }
     ensures { (arcs_below s (decode table.now).arcs ≤ result) × (result ≤ near) }
@@ -22,21 +22,20 @@ fn strides_back(table: &[u8], first: usize, s: usize, near: usize) -> usize
 }
 
 // The first arc of state `s` or a higher one, where from `near` on all are such.
+// Back and on differ in order, bound and what is known, so that one function with a flag would be no plainer.
 pub fn first_back(table: &[u8], first: usize, s: usize, near: usize) -> usize
     requires { AcceptedAt table.now first × (near ≤ length (decode table.now).arcs) × (arcs_below s (decode table.now).arcs ≤ near) }
     ensures { result ≡ arcs_below s (decode table.now).arcs }
 {
-    let mut i = strides_back(table, first, s, near);
-    while 0 < i {
-        if reach::source(table, first, i - 1) < s {
-            return i;
+    for i in (0..strides_back(table, first, s, near)).rev() {
+        if reach::source(table, first, i) < s {
+            return i + 1;
         }
-        i -= 1;
     }
-    i
+    0
 }
 
-// Goes on by strides while that passes over arcs of states below `s` only.
+// Goes on by strides while that passes over arcs of states below `s` only. Where it stops is what is sought, so that a range by steps is no plainer.
 fn strides_on(table: &[u8], first: usize, arcs: usize, s: usize, near: usize) -> usize
     requires { AcceptedAt table.now first × (arcs ≡ length (decode table.now).arcs) × (near ≤ arcs) }
     ensures { result ≤ arcs }
@@ -56,14 +55,12 @@ fn some_on(table: &[u8], first: usize, arcs: usize, s: usize, near: usize) -> us
     requires { AcceptedAt table.now first × (arcs ≡ length (decode table.now).arcs) × (near ≤ arcs) }
     ensures { (arcs_below s (decode table.now).arcs ≤ result) × (result ≤ arcs) }
 {
-    let mut i = strides_on(table, first, arcs, s, near);
-    while i < arcs {
+    for i in strides_on(table, first, arcs, s, near)..arcs {
         if s <= reach::source(table, first, i) {
             return i;
         }
-        i += 1;
     }
-    i
+    arcs
 }
 
 // The first arc of state `s` or a higher one, on or back from `near`.

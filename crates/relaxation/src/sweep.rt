@@ -1,5 +1,5 @@
 // A sweep over the arcs, the last one first. Arcs most often lead to higher numbers, so that one most often settles all.
-ghost use Rattle.std.specs.Prelude.{◌≡◌, ℕ, ◌≤◌, ◌<◌, min, true, length};
+ghost use Rattle.std.specs.Prelude.{◌≡◌, ℕ, ◌≤◌, ◌<◌, true, length};
 ghost use Rattle.transducer.specs.Format.{decode, weight_good};
 ghost use Rattle.transducer.specs.Accepted.{AcceptedAt};
 ghost use Rattle.transducer.specs.Weight.{Weight, AtMost, no_weight};
@@ -7,19 +7,10 @@ ghost use Rattle.relax.specs.Tentative.{unpacked, cost_at, by_state, Rising, is_
 ghost use Rattle.relaxation.specs.Swept.{Leave, Barred, SweptFrom, StateSwept, SweptSays};
 
 use crate::seek;
+use relax::Change;
 
 // No state has a higher number.
 const LAST: u16 = 65535;
-
-// The lower of two numbers.
-fn lower(a: u16, b: u16) -> u16
-    ensures { result ≡ min a b }
-{
-    if b < a {
-        return b;
-    }
-    a
-}
 
 // Whether no arc makes a cost and a size better where each arc writes a label and none gives a cost below `bar`.
 fn is_nearest(bar: i32, cost: i32, size: u32) -> bool
@@ -33,19 +24,13 @@ fn costs_rise(states: usize, costs: &[i32]) -> bool
     requires { states ≤ length costs.now }
     ensures { result ≡ true → (s : ℕ) → s < states → AtMost no_weight (cost_at costs.now s) }
 {
-    let mut s = 0;
-    while s < states {
-        if costs[s] < 0 {
-            return false;
-        }
-        s += 1;
-    }
-    true
+    costs[..states].iter().all(|cost| 0 <= *cost)
 }
 
 // Whether it is plain that no weight is below zero and each arc writes a label, by what validation told: whether each is known to write one (`writing`),
 // which is
 // so only where states have many arcs, and a weight that none is below. Only there is it worth going through the costs of the empty paths.
+// These flags are facts that validation tells, and no choice of a step.
 pub fn is_plain(states: usize, writing: bool, least: i32, costs: &[i32]) -> bool
     requires { states ≤ length costs.now }
     ensures { result ≡ true → (writing ≡ true) × PlainCosts least states costs.now }
@@ -92,31 +77,18 @@ fn sweep_state(
     ensures { StateSwept (decode table.now) s from costs.old costs.new
         lens.new result }
 {
-    let mut i = to;
-    while i > from {
-        i -= 1;
-        let change = relax::relax(table, first, i, states, costs, lens);
-        if change == relax::KEPT {
-            continue;
-        }
-        if change == relax::TOO_LONG {
-            return true;
-        }
-        if is_nearest(bar, costs[s], lens[s]) {
-            return false;
+    for i in (from..to).rev() {
+        match relax::relax(table, first, i, states, costs, lens) {
+            Change::Kept => {}
+            Change::TooLong => return true,
+            Change::Better => {
+                if is_nearest(bar, costs[s], lens[s]) {
+                    return false;
+                }
+            }
         }
     }
     false
-}
-
-// The less of two costs.
-fn less(a: i32, b: i32) -> i32
-    ensures { AtMost result a × AtMost result b × ((x : Weight) → AtMost x a → AtMost x b → AtMost x result) }
-{
-    if b < a {
-        return b;
-    }
-    a
 }
 
 // The same as a sweep where each arc leads to a higher state and has no weight below `least`: it goes by states, last state first. None of a state's arcs
@@ -137,15 +109,13 @@ fn sweep_states(
 {
     let mut floor = relax::UNREACHED;
     let mut to = arcs;
-    let mut s = states;
-    while s > 0 {
-        s -= 1;
+    for s in (0..states).rev() {
         let from = seek::first_back(table, first, s, to);
         let bar = relax::sum(least, floor);
         if sweep_state(table, first, states, s, from, to, bar, costs, lens) {
             return true;
         }
-        floor = less(floor, costs[s]);
+        floor = floor.min(costs[s]);
         to = from;
     }
     false
@@ -154,6 +124,7 @@ fn sweep_states(
 // Relaxes each arc, last arc first; where it is `plain` that no weight is below zero and each arc writes a label, once no arc makes a state better the rest
 // of its arcs are passed over.
 // More may change where a state changed after an arc was read that leads to it or to one before it, or where a path had too many arcs.
+// A turn may jump back over the arcs of its state, so there is no index to count.
 fn sweep(
     table: &[u8],
     first: usize,
@@ -179,12 +150,12 @@ fn sweep(
             i = seek::first_back(table, first, s, i);
             continue;
         }
-        low = lower(low, a.target);
-        let change = relax::relax(table, first, i, states, costs, lens);
-        if change == relax::KEPT {
-            continue;
+        low = low.min(a.target);
+        match relax::relax(table, first, i, states, costs, lens) {
+            Change::Kept => {}
+            Change::TooLong => again = true,
+            Change::Better => again = again | (low <= a.source),
         }
-        again = again | ((change == relax::TOO_LONG) | (low <= a.source));
     }
     again
 }

@@ -4,16 +4,17 @@ ghost use Rattle.transducer.specs.Format.{max_states, decode};
 ghost use Rattle.transducer.specs.Accepted.{AcceptedAt};
 ghost use Rattle.reach.specs.Index.{leads_to, ByTarget};
 ghost use Rattle.relax.specs.Tentative.{cost_at, by_state, Tentative, Cells};
-ghost use Rattle.relaxation.specs.Queue.{mark, Queue, Joins, Draining, Drains, Drained, to_do};
+ghost use Rattle.relaxation.specs.Queue.{mark, Inside, Joins, Draining, Drains, Drained, to_do};
 
-use crate::queue;
+use crate::queue::StateQueue;
+use relax::Change;
 use transducer::{MAX_ARCS, MAX_STATES};
 
-// In place of a number of states that wait: a path had too many arcs.
-const STUCK: usize = 65535;
+// A path had too many arcs: a cycle below zero lies on an accepting path.
+#[derive(Clone, Copy, PartialEq, Eq, Debug)]
+struct NegativeCycle;
 
-// Relaxes arc `i` where its source is marked; where that gets better it joins the `count` states that wait, unless it is one of them. Returns how many wait
-// now, or STUCK.
+// Relaxes arc `i` where its source is marked; where that gets better it joins the states that wait, unless it is one of them.
 fn relax_and_join(
     table: &[u8],
     first: usize,
@@ -22,37 +23,32 @@ fn relax_and_join(
     marks: &[bool; MAX_STATES],
     costs: &mut [i32],
     lens: &mut [u32],
-    ring: &mut [u16; MAX_STATES],
-    waits: &mut [bool; MAX_STATES],
-    head: usize,
-    count: usize,
-) -> usize
+    queue: &mut StateQueue,
+) -> Result<(), NegativeCycle>
     requires { AcceptedAt table.now first × (i < length (decode table.now).arcs) × (states ≡ (decode table.now).states)
         × Tentative (decode table.now) (cost_at costs.old) (by_state lens.old) × Cells (decode table.now).states costs.old lens.old
-        × Queue (decode table.now).states ring.old waits.old head count }
+        × Inside (decode table.now) queue.old.waits }
     ensures { Joins (decode table.now) (mark marks.now) i
-        costs.old lens.old waits.old count
-        costs.new lens.new ring.new waits.new head result }
+        costs.old lens.old queue.old.waits queue.old.count
+        costs.new lens.new queue.new.waits queue.new.count result }
 {
     let from = reach::source(table, first, i);
     if !marks[from] {
-        return count;
+        return Ok(());
     }
-    let change = relax::relax(table, first, i, states, costs, lens);
-    if change == relax::KEPT {
-        return count;
+    match relax::relax(table, first, i, states, costs, lens) {
+        Change::Kept => Ok(()),
+        Change::TooLong => Err(NegativeCycle),
+        Change::Better => {
+            if !queue.has(from) {
+                queue.push(from);
+            }
+            Ok(())
+        }
     }
-    if change == relax::TOO_LONG {
-        return STUCK;
-    }
-    if waits[from] {
-        return count;
-    }
-    queue::push(ring, waits, head, count, from);
-    count + 1
 }
 
-// Relaxes all arcs from marked states in order, with an empty queue that what gets better joins. Returns how many wait then, or STUCK.
+// Relaxes all arcs from marked states in order, with an empty queue that what gets better joins.
 fn relax_all(
     table: &[u8],
     first: usize,
@@ -61,32 +57,23 @@ fn relax_all(
     marks: &[bool; MAX_STATES],
     costs: &mut [i32],
     lens: &mut [u32],
-    ring: &mut [u16; MAX_STATES],
-    waits: &mut [bool; MAX_STATES],
-) -> usize
+    queue: &mut StateQueue,
+) -> Result<(), NegativeCycle>
     requires { AcceptedAt table.now first × (states ≡ (decode table.now).states) × (arcs ≡ length (decode table.now).arcs)
         × Tentative (decode table.now) (cost_at costs.old) (by_state lens.old) × Cells (decode table.now).states costs.old lens.old
-        × (length ring.old ≡ max_states) × (waits.old ≡ replicate max_states false) }
+        × (queue.old.waits ≡ replicate max_states false) × (queue.old.count ≡ 0) }
     ensures { Drains (decode table.now) (mark marks.now)
-        (to_do (decode table.now) costs.new lens.new result)
-        costs.new lens.new ring.new waits.new 0 result }
+        (to_do (decode table.now) costs.new lens.new queue.new.count)
+        costs.new lens.new queue.new.waits queue.new.count result }
 {
-    let mut count = 0;
-    let mut i = 0;
-    while i < arcs {
-        let next = relax_and_join(
-            table, first, i, states, marks, costs, lens, ring, waits, 0, count,
-        );
-        if next == STUCK {
-            return STUCK;
-        }
-        count = next;
-        i += 1;
+    for i in 0..arcs {
+        relax_and_join(table, first, i, states, marks, costs, lens, queue)?;
     }
-    count
+    Ok(())
 }
 
-// Relaxes the arcs that lead to state `s`, as above.
+// Relaxes the arcs that lead to state `s`, and what gets better joins the states that wait. They stand in a chain, which is followed by links, so there is no
+// index to count.
 fn relax_into(
     table: &[u8],
     first: usize,
@@ -97,32 +84,22 @@ fn relax_into(
     marks: &[bool; MAX_STATES],
     costs: &mut [i32],
     lens: &mut [u32],
-    ring: &mut [u16; MAX_STATES],
-    waits: &mut [bool; MAX_STATES],
-    head: usize,
-    count: usize,
-) -> usize
+    queue: &mut StateQueue,
+) -> Result<(), NegativeCycle>
     requires { AcceptedAt table.now first × (states ≡ (decode table.now).states) × ByTarget (decode table.now) heads.now links.now
         × (s < (decode table.now).states) × Draining (decode table.now) (mark marks.now) (leads_to (decode table.now) s)
-        costs.old lens.old ring.old waits.old head count }
+        costs.old lens.old queue.old.waits }
     ensures { Drains (decode table.now) (mark marks.now)
-        (to_do (decode table.now) costs.old lens.old count)
-        costs.new lens.new ring.new waits.new head result }
+        (to_do (decode table.now) costs.old lens.old queue.old.count)
+        costs.new lens.new queue.new.waits queue.new.count result }
 {
     let mut link = heads[s] as usize;
-    let mut waiting = count;
     while 0 < link {
         let i = link - 1;
         link = links[i] as usize;
-        let next = relax_and_join(
-            table, first, i, states, marks, costs, lens, ring, waits, head, waiting,
-        );
-        if next == STUCK {
-            return STUCK;
-        }
-        waiting = next;
+        relax_and_join(table, first, i, states, marks, costs, lens, queue)?;
     }
-    waiting
+    Ok(())
 }
 
 // Settles what a sweep may leave at marked states, by a queue of the states that got better: when one comes off, the arcs that lead to it are relaxed.
@@ -143,37 +120,18 @@ pub fn drain(
     let mut heads = [0u16; MAX_STATES];
     let mut links = [0u16; MAX_ARCS];
     reach::by_target(table, first, arcs, &mut heads, &mut links);
-    let mut ring = [0u16; MAX_STATES];
-    let mut waits = [false; MAX_STATES];
-    let mut count = relax_all(
-        table, first, states, arcs, marks, costs, lens, &mut ring, &mut waits,
-    );
-    if count == STUCK {
+    let mut queue = StateQueue::new();
+    if relax_all(table, first, states, arcs, marks, costs, lens, &mut queue).is_err() {
         return false;
     }
-    let mut head = 0;
-    while count > 0 {
-        let s = queue::pop(&ring, &mut waits, head);
-        head = queue::behind(head, 1);
-        let next = relax_into(
-            table,
-            first,
-            states,
-            s,
-            &heads,
-            &links,
-            marks,
-            costs,
-            lens,
-            &mut ring,
-            &mut waits,
-            head,
-            count - 1,
-        );
-        if next == STUCK {
+    while let Some(s) = queue.pop() {
+        if relax_into(
+            table, first, states, s, &heads, &links, marks, costs, lens, &mut queue,
+        )
+        .is_err()
+        {
             return false;
         }
-        count = next;
     }
     true
 }

@@ -10,7 +10,7 @@ use Rattle.wire.specs.Bytes.{filled}
 use Rattle.transducer.specs.Format.{Transducer}
 use Rattle.transducer.specs.Entry.{unless, cost_unless, left_in}
 use Rattle.transducer.specs.Weight.{no_weight}
-use Rattle.report.specs.declared.Told.{Told}
+use Rattle.report.specs.Answer.{Told}
 use Rattle.report.specs.Tell.{PathTold, Tells}
 
 abbrev pub refused_told : ℕ → Told

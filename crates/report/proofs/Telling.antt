@@ -37,9 +37,9 @@ pub record Telling (t : Transducer) (p : List ℕ) (room : ℕ) (labels : List �
   pub few : m ≤ i
   pub long : length labels ≡ room
 
-pub telling_first : (t : Transducer) → Sized t → (p : List ℕ) (room : ℕ) (labels : List ℕ) (start : ℕ) → start ≡ t.start → accepts t p ≡ true
+pub telling_first : {t : Transducer} → Sized t → (p : List ℕ) {room : ℕ} {labels : List ℕ} {start : ℕ} → start ≡ t.start → accepts t p ≡ true
     → length p ≤ 1023 → 1023 ≤ room → length labels ≡ room → Telling t p room labels start no_weight 0 0
-telling_first t z p room labels start e h short enough long =
+telling_first {t} z p e h short enough long =
     rw e (record {
       below = omega arith;
       inside = z.within.starts;
@@ -55,21 +55,19 @@ telling_first t z p room labels start e h short enough long =
     })
 
 -- The arc at hand.
-pub telling_arc : (t : Transducer) (p : List ℕ) (room : ℕ) (labels : List ℕ) (s : ℕ) (cost : Weight) (m i j : ℕ) → Telling t p room labels s cost m i
-    → i < length p → j ≡ get_or p i 0
-    → AcceptingBy t s j (drop (suc i) p)
-telling_arc t p room labels s cost m i j k h e =
+pub telling_arc : {t : Transducer} {p : List ℕ} {room : ℕ} {labels : List ℕ} {s : ℕ} {cost : Weight} {m i j : ℕ} → Telling t p room labels s cost m i
+    → i < length p → j ≡ get_or p i 0 → AcceptingBy t s j (drop (suc i) p)
+telling_arc {t} {p} {s = s} {i = i} k h e =
     rw e (accepting_cons t s (get_or p i 0) (drop (suc i) p) (rw (drop-cons p i 0 h) at k.rest))
 
-module _ (t : Transducer) (z : Sized t) (p : List ℕ) (room : ℕ) (labels : List ℕ) (s : ℕ) (cost : Weight) (m i j : ℕ)
-    (k : Telling t p room labels s cost m i) (h : i < length p)
-    (e : j ≡ get_or p i 0) where
+module _ {t : Transducer} (z : Sized t) {p : List ℕ} {room : ℕ} {labels : List ℕ} {s : ℕ} {cost : Weight} {m i j : ℕ}
+    (k : Telling t p room labels s cost m i) (h : i < length p) (e : j ≡ get_or p i 0) where
   at_hand : drop i p ≡ j ∷ drop (suc i) p
   at_hand = rw e (drop-cons p i 0 h)
 
   pub telling_weight : weight_good (arc t j).weight ≡ true
   unfolding arc
-  telling_weight = arc_light t z.content j no_arc (telling_arc t p room labels s cost m i j k h e).below
+  telling_weight = arc_light t z.content j no_arc (telling_arc k h e).below
 
   -- What the labels hold after this arc decides the rest.
   step : (labels' : List ℕ) (m' : ℕ) → length labels' ≡ room → m' ≤ i + 1
@@ -82,10 +80,10 @@ module _ (t : Transducer) (z : Sized t) (p : List ℕ) (room : ℕ) (labels : Li
       let end : ends t s (j ∷ drop (suc i) p) ≡ ends t t.start p = rw at_hand at k.end in
       record {
         below = omega arith;
-        inside = z.within.arrives j (telling_arc t p room labels s cost m i j k h e).below;
+        inside = z.within.arrives j (telling_arc k h e).below;
         short = k.short;
         enough = k.enough;
-        rest = rw one (telling_arc t p room labels s cost m i j k h e).rest;
+        rest = rw one (telling_arc k h e).rest;
         costs = rw one (plus_assoc cost (arc t j).weight (arcs_cost t (drop (suc i) p)) ∙ costs);
         low = omega (arith, k.low, magnitude_plus cost (arc t j).weight, good_size (arc t j).weight telling_weight);
         end = rw one end;
@@ -124,11 +122,10 @@ module _ (t : Transducer) (z : Sized t) (p : List ℕ) (room : ℕ) (labels : Li
   telling_put a is q = rw is (telling_symbol (rw is at q))
 
 -- All arcs are passed.
-pub telling_stop : (t : Transducer) → Sized t → (p : List ℕ) (labels labels' old : List ℕ) (s : ℕ) (cost : Weight) (m i : ℕ)
-    → Telling t p (length old) labels s cost m i → length p ≤ i → labels' ≡ cleared m labels
+pub telling_stop : {t : Transducer} → Sized t → {p labels labels' old : List ℕ} {s : ℕ} {cost : Weight} {m i : ℕ} → Telling t p (length old) labels s cost m i → length p ≤ i → labels' ≡ cleared m labels
     → LabelsPut t p (record { state = s; cost = cost; labels = m }) old labels'
 unfolding arcs_cost written_by ends cleared filled
-telling_stop t z p labels labels' old s cost m i k h e =
+telling_stop {t} z {p} {labels} {s = s} {cost = cost} {m = m} {i = i} k h e =
     let none : drop i p ≡ [] = drop_of_length-le p h in
     let costs : plus cost no_weight ≡ arcs_cost t p = rw none at k.costs in
     let end : ends t s [] ≡ ends t t.start p = rw none at k.end in

@@ -1,2 +1,3 @@
 -- What a caller must believe, but for `Tells` and `LabelsPut`
+pub mod Answer
 pub mod Tell

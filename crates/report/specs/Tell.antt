@@ -6,7 +6,7 @@ use Rattle.transducer.specs.Path.{ends, written_by, arcs_cost, path_cost}
 use Rattle.transducer.specs.Weight.{magnitude}
 use Rattle.transducer.specs.Entry.{unless, cost_unless, left_in}
 use Rattle.report.specs.declared.PathEnd.{PathEnd}
-use Rattle.report.specs.declared.Told.{Told}
+use Rattle.report.specs.Answer.{Told}
 
 -- A path told, or a refusal: its cost, how many arcs and labels it has, and both in lent buffers.
 pub record PathTold (t : Transducer) (p : List ℕ) (number : ℕ) (r : Told) (a a' b b' : List ℕ) : Type 0 where

@@ -3,7 +3,7 @@
 
 mod path;
 
-pub use path::{answer, put_labels, refused, tell};
+pub use path::{answer, put_labels, tell};
 
 // Where an accepting path ends: its last state, what its arcs cost, and how many labels it writes.
 #[derive(Clone, Copy)]
@@ -13,10 +13,9 @@ pub struct PathEnd {
     pub labels: usize,
 }
 
-// What a path's telling answers: the refusal or 0, then the cost and how many arcs and labels it has, 0 on refusal.
-#[derive(Clone, Copy)]
-pub struct Told {
-    pub refusal: u32,
+// What is told of a path beside its arcs and labels: what it costs, and how many of them there are.
+#[derive(Clone, Copy, Debug, PartialEq, Eq)]
+pub struct PathNumbers {
     pub cost: i64,
     pub arcs: u32,
     pub labels: u32,

@@ -3,23 +3,11 @@ ghost use Rattle.std.specs.Prelude.{◌≡◌, true, ◌≤◌, length, take};
 ghost use Rattle.transducer.specs.Format.{max_path, decode};
 ghost use Rattle.transducer.specs.Path.{accepts};
 ghost use Rattle.transducer.specs.Accepted.{AcceptedAt, FinalsByState};
-ghost use Rattle.transducer.specs.Weight.{no_weight};
+ghost use Rattle.report.specs.Answer.{told_of};
 ghost use Rattle.report.specs.Tell.{LabelsPut, Tells};
 
-use crate::{PathEnd, Told};
+use crate::{PathEnd, PathNumbers};
 use transducer::MAX_STATES;
-
-// What is answered where no path is told: the refusal, and zeros.
-pub fn refused(number: u32) -> Told
-    ensures { result ≡ record { refusal = number; cost = no_weight; arcs = 0; labels = 0 } }
-{
-    Told {
-        refusal: number,
-        cost: 0,
-        arcs: 0,
-        labels: 0,
-    }
-}
 
 // Puts the labels that the path of the first `len` numbers of `arcs` writes into `labels`, zeros behind; where the path ends.
 pub fn put_labels(
@@ -37,11 +25,8 @@ pub fn put_labels(
     let mut s = start;
     let mut cost: i64 = 0;
     let mut m: usize = 0;
-    let mut i: usize = 0;
-    while i < len {
-        let j = arcs[i] as usize;
-        let a = transducer::arc_of(table, first, j);
-        i += 1;
+    for &number in &arcs[..len] {
+        let a = transducer::arc_of(table, first, number as usize);
         cost = transducer::plus(cost, a.weight);
         s = a.target as usize;
         if a.output == 0 {
@@ -50,7 +35,7 @@ pub fn put_labels(
         labels[m] = a.output;
         m += 1;
     }
-    wire::clear16(labels, m);
+    wire::clear(labels, m, 0);
     PathEnd {
         state: s,
         cost,
@@ -59,12 +44,11 @@ pub fn put_labels(
 }
 
 // What is answered of a path of this cost, with so many arcs and labels.
-pub fn answer(cost: i64, arcs: usize, labels: usize) -> Told
+pub fn answer(cost: i64, arcs: usize, labels: usize) -> PathNumbers
     requires { (arcs ≤ max_path) × (labels ≤ max_path) }
-    ensures { result ≡ record { refusal = 0; cost = cost; arcs = arcs; labels = labels } }
+    ensures { result ≡ record { cost = cost; arcs = arcs; labels = labels } }
 {
-    Told {
-        refusal: 0,
+    PathNumbers {
         cost,
         arcs: arcs as u32,
         labels: labels as u32,
@@ -80,10 +64,10 @@ pub fn tell(
     arcs: &[u16],
     len: usize,
     labels: &mut [u16],
-) -> Told
+) -> PathNumbers
     requires { AcceptedAt table.now first × (start ≡ (decode table.now).start) × FinalsByState (decode table.now) codes.now
         × (len ≤ length arcs.now) × (len ≤ max_path) × (accepts (decode table.now) (take len arcs.now) ≡ true) × (max_path ≤ length labels.old) }
-    ensures { Tells (decode table.now) (take len arcs.now) result labels.old labels.new }
+    ensures { Tells (decode table.now) (take len arcs.now) (told_of result) labels.old labels.new }
 {
     let end = put_labels(table, first, start, arcs, len, labels);
     let s = end.state;

@@ -16,7 +16,7 @@ use Rattle.transducer.proofs.Answers.{or_else_none, none_or_else, cost_unless_no
 use Rattle.transducer.proofs.Runs.{Accepting, accepts_accepting, accepting_accepts}
 use Rattle.reach.specs.Reach.{coaccessible}
 use Rattle.reach.proofs.Reach.{coaccessible_path, path_coaccessible}
-use Rattle.report.specs.declared.Told.{Told}
+use Rattle.report.specs.Answer.{Told}
 use Rattle.reach.proofs.Sized.{Sized, sized}
 use Rattle.cycles.specs.Cycles.{negative_cycle, negative_cycle_anywhere}
 use Rattle.cycles.proofs.Costs.{cost_start}

@@ -13,7 +13,12 @@ use Rattle.transducer.specs.Format.{Transducer}
 use Rattle.transducer.specs.Path.{arc, runs}
 use Rattle.transducer.proofs.Paths.{Runs, runs_cons}
 use Rattle.transducer.proofs.Runs.{Within}
-use Rattle.shortest.specs.Tight.{follow}
+use Rattle.transducer.specs.Weight.{Weight}
+use Rattle.transducer.proofs.Index.{arcs_of_state}
+use Rattle.reach.proofs.Sized.{Sized}
+use Rattle.relax.specs.Size.{Size}
+use Rattle.shortest.specs.Tight.{follow, first_giving, first_tight, HasArcs}
+use Rattle.shortest.proofs.Tight.{giving_tight_on}
 
 -- At a state: n arcs are walked.
 pub record WalkedAlong (t : Transducer) (v : ℕ → ℕ) (start len room : ℕ) (out : List ℕ) (s n : ℕ) : Type 0 where
@@ -60,6 +65,16 @@ module _ (t : Transducer) (w : Within t) (v : ℕ → ℕ) (start len room : ℕ
         rest = walked_arc.rest;
         whole = ap (λ (x : ℕ). take x (set out n (v s)) ++ follow left t v u) one ∙ next;
       })
+
+-- The first arc from where the arcs of the state begin that gives its cost and size is its first tight arc.
+pub arc_sought : (t : Transducer) → Sized t → (c : ℕ → Weight) (l : ℕ → Size) {start len room : ℕ} {out : List ℕ} {s n from to i : ℕ}
+    → WalkedAlong t (first_tight t c l) start len room out s n → n < len → HasArcs t s from to → i ≡ first_giving (to - from) t c l s from
+    → (i ≡ first_tight t c l s) × (i < length t.arcs)
+arc_sought t z c l {start} {len} {room} {out} {s} {n} {from} {to} {i} k h has found =
+    let there = walked_arc t z.within (first_tight t c l) start len room out s n k h in
+    let own = (arcs_of_state t (first_tight t c l s) s z.content there.below there.leaves).1 in
+    let is : i ≡ first_tight t c l s = giving_tight_on t c l s from to i has own found in
+    (is, omega (arith, there.below))
 
 pub walked_done : (t : Transducer) (v : ℕ → ℕ) (start len room : ℕ) (out : List ℕ) (s n : ℕ) → WalkedAlong t v start len room out s n → len ≤ n
     → cleared n out ≡ filled room (follow len t v start)

@@ -15,7 +15,7 @@ use Rattle.transducer.specs.Path.{accepts, runs, path_cost}
 use Rattle.transducer.specs.Entry.{or_else}
 use Rattle.transducer.specs.Weight.{Weight, AtMost, Below}
 use Rattle.transducer.proofs.Runs.{accepting_accepts}
-use Rattle.report.specs.declared.Told.{Told}
+use Rattle.report.specs.Answer.{Told}
 use Rattle.reach.specs.Reach.{accessible, coaccessible}
 use Rattle.reach.proofs.Reach.{accessible_start, path_coaccessible}
 use Rattle.cycles.specs.Cycles.{NegativeCycleFrom, negative_cycle}

@@ -3,12 +3,10 @@ use mathlib.Core.Path.{◌≡◌, refl}
 use mathlib.Core.Bool.{Bool, true, false, ◌&&◌, ◌||◌, not, cond}
 use mathlib.Core.Logic.{◌⊎◌, inl, inr}
 use mathlib.Core.List.{List, [], ◌∷◌}
-use mathlib.Core.List.Memᴰ.{head as first}
-use mathlib.Core.List.Memᴰ.{not-nil as none_in}
+use mathlib.Core.List.Memᴰ.{head as first, not-nil as none_in}
 use mathlib.Core.List.Memᴰ.{tail as later}
 use mathlib.Core.List.{Memᴰ as Mem}
-use mathlib.Core.List.Memᴰ.{cases_cons as first-or-later}
-use mathlib.Core.List.Memᴰ.{eq_of_singleton as only}
+use mathlib.Core.List.Memᴰ.{cases_cons as first-or-later, eq_of_singleton as only}
 use Prim.Native.Nat.{ℕ}
 use borrow.Author.Tests.{not-true}
 use Rattle.wire.proofs.Bool.{clash, is_false, and-true, true_and, or-true, or_left, or_right}
@@ -18,8 +16,7 @@ use Rattle.paths.specs.Count.{before}
 use Rattle.paths.proofs.Order.{Compared, earlier, same, after, before_total, before_irreflexive, before_transitive}
 use Rattle.relax.specs.Size.{size_of}
 use Rattle.relax.specs.Tentative.{NoWorse, Nearer}
-use Rattle.relax.proofs.Nearer.{nearer_true, true_nearer, nearer_false, false_nearer, nearer_no_worse, nearer_not, nearer_through}
-use Rattle.relax.proofs.Nearer.{through_nearer, no_worse_through, no_worse_same}
+use Rattle.relax.proofs.Nearer.{nearer_true, true_nearer, nearer_false, false_nearer, nearer_no_worse, nearer_not, nearer_through, through_nearer, no_worse_through, no_worse_same}
 use Rattle.shortest.specs.Shortest.{nearer_path, better, best_of, best}
 
 -- A path against another, by cost and size.

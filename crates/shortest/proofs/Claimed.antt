@@ -20,7 +20,7 @@ use Rattle.transducer.proofs.RoundTrip.{accepted_good}
 use Rattle.transducer.proofs.Runs.{Within, good_within, accepting_accepts}
 use Rattle.reach.specs.Reach.{coaccessible}
 use Rattle.reach.proofs.Reach.{coaccessible_path}
-use Rattle.report.specs.declared.Told.{Told}
+use Rattle.report.specs.Answer.{Told}
 use Rattle.cycles.specs.Cycles.{NegativeCycleFrom, negative_cycle}
 use Rattle.cycles.proofs.Cycles.{negative_cycle_accepting}
 use Rattle.cycles.proofs.NegativeCycles.{negative_cycle_true, true_falling}

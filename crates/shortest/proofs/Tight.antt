@@ -13,11 +13,11 @@ use Rattle.transducer.specs.Path.{arc}
 use Rattle.transducer.specs.Weight.{Weight}
 use Rattle.transducer.specs.Accepted.{arcs_below}
 use Rattle.transducer.proofs.Good.{Content}
-use Rattle.transducer.proofs.Index.{arcs_below_length, arcs_below_mono, arcs_of_state, state_of_arcs}
+use Rattle.transducer.proofs.Index.{arcs_below_mono, arcs_of_state, state_of_arcs}
 use Rattle.relax.specs.Size.{Size, nearer}
 use Rattle.relax.specs.Tentative.{NoWorse, cost_by, size_by}
 use Rattle.relax.proofs.Nearer.{no_worse_same, no_worse_both, nearer_false, false_nearer}
-use Rattle.shortest.specs.Tight.{Tight, First, gives, first_giving, first_tight}
+use Rattle.shortest.specs.Tight.{Tight, First, gives, first_giving, first_tight, HasArcs}
 
 module _ (t : Transducer) (c : ℕ → Weight) (l : ℕ → Size) (s : ℕ) where
   -- The first arc that gives them, no later than any other.
@@ -83,11 +83,6 @@ module _ (t : Transducer) (c : ℕ → Weight) (l : ℕ → Size) (s : ℕ) wher
           whole = ap (λ (j : ℕ). first_giving (to - (i + 1)) t c l s j) one ∙ (rw (test false e) at all);
         }
 
-  pub giving_tight : (from to r : ℕ) → from ≡ arcs_below s t.arcs → to ≡ arcs_below (s + 1) t.arcs → r ≡ first_giving (to - from) t c l s from
-      → r ≡ first_tight t c l s
-  unfolding first_tight
-  giving_tight from to r e f q = rw (e, f) at q
-
   -- More arcs to choose from do not matter where one of the first gives them.
   first_more : (n k i : ℕ) → n ≤ k → first_giving n t c l s i < i + n → first_giving k t c l s i ≡ first_giving n t c l s i
   unfolding first_giving
@@ -102,14 +97,14 @@ module _ (t : Transducer) (c : ℕ → Weight) (l : ℕ → Size) (s : ℕ) wher
       on false b more = more (omega (arith, b))
 
   -- So it is found without knowing where its arcs end.
-  pub giving_tight_on : (from to r : ℕ) → from ≡ arcs_below s t.arcs → to ≡ length t.arcs → first_tight t c l s < arcs_below (s + 1) t.arcs
+  pub giving_tight_on : (from to r : ℕ) → HasArcs t s from to → first_tight t c l s < arcs_below (s + 1) t.arcs
       → r ≡ first_giving (to - from) t c l s from → r ≡ first_tight t c l s
   unfolding first_tight
-  giving_tight_on from to r e f h q =
+  giving_tight_on from to r k h q =
       let low : arcs_below s t.arcs ≤ arcs_below (s + 1) t.arcs = arcs_below_mono s (s + 1) t.arcs (omega arith) in
-      let all : r ≡ first_giving (length t.arcs - arcs_below s t.arcs) t c l s (arcs_below s t.arcs) = rw (e, f) at q in
-      all ∙ first_more (arcs_below (s + 1) t.arcs - arcs_below s t.arcs) (length t.arcs - arcs_below s t.arcs) (arcs_below s t.arcs)
-      (omega (arith, arcs_below_length (s + 1) t.arcs)) (omega (arith, h, low))
+      let all : r ≡ first_giving (to - arcs_below s t.arcs) t c l s (arcs_below s t.arcs) = rw k.from_is at q in
+      all ∙ first_more (arcs_below (s + 1) t.arcs - arcs_below s t.arcs) (to - arcs_below s t.arcs) (arcs_below s t.arcs)
+      (omega (arith, k.to_high)) (omega (arith, h, low))
 
 -- Where no arc of the state makes it better, one that gives its cost and size is tight.
 giving_same : (t : Transducer) (c : ℕ → Weight) (l : ℕ → Size) (s v : ℕ) → gives t c l s v ≡ true → NoWorse (c s) (l s) (cost_by t c v) (size_by t l v)

@@ -3,7 +3,7 @@ use Rattle.std.specs.Prelude.{◌≡◌, List, ℕ, length}
 use Rattle.wire.specs.Bytes.{Bytes}
 use Rattle.transducer.specs.Format.{Transducer, decode}
 use Rattle.transducer.specs.Weight.{Weight}
-use Rattle.report.specs.declared.Told.{Told}
+use Rattle.report.specs.Answer.{Told}
 use Rattle.distance.specs.Distance.{no_path}
 use Rattle.distance.specs.Entry.{costs_refusal, CostsSay}
 use Rattle.relax.specs.Tentative.{cost_at}

@@ -4,7 +4,7 @@ use Rattle.wire.specs.Bytes.{Bytes}
 use Rattle.transducer.specs.Format.{max_path, Transducer, refusal}
 use Rattle.transducer.specs.Path.{accepts, written_by, path_cost}
 use Rattle.transducer.specs.Weight.{Weight, AtMost, Below}
-use Rattle.report.specs.declared.Told.{Told}
+use Rattle.report.specs.Answer.{Told}
 use Rattle.cycles.specs.Cycles.{NegativeCycleFrom}
 use Rattle.shortest.specs.Shortest.{better}
 use Rattle.shortest.specs.Entry.{shortest_refusal, ShortestSays}

@@ -2,7 +2,7 @@
 use Rattle.std.specs.Prelude.{◌||◌, not, cond, List, ℕ, ltb}
 use Rattle.transducer.specs.Format.{Transducer, max_path, refusal, decode}
 use Rattle.transducer.specs.Entry.{or_else}
-use Rattle.report.specs.declared.Told.{Told}
+use Rattle.report.specs.Answer.{Told}
 use Rattle.reach.specs.Reach.{coaccessible}
 use Rattle.report.specs.Tell.{PathTold}
 use Rattle.cycles.specs.Cycles.{negative_cycle}

@@ -33,6 +33,12 @@ unfoldable pub first_tight : Transducer → (c : ℕ → Weight) → (l : ℕ �
 first_tight t c l s =
     first_giving (arcs_below (s + 1) t.arcs - arcs_below s t.arcs) t c l s (arcs_below s t.arcs)
 
+-- The arcs of a state begin there, and end in front of the other place, which is not behind the last arc of all.
+pub record HasArcs (t : Transducer) (s from to : ℕ) : Type 0 where
+  pub from_is : from ≡ arcs_below s t.arcs
+  pub to_high : arcs_below (s + 1) t.arcs ≤ to
+  pub to_inside : to ≤ length t.arcs
+
 -- The path of so many arcs from a state along the first arcs.
 unfoldable pub follow : (arcs : ℕ) → Transducer → (first_arcs : ℕ → ℕ) → (s : ℕ) → List ℕ
 follow zero t v s = []

@@ -2,36 +2,38 @@
 ghost use Rattle.std.specs.Prelude.{◌≡◌, ℕ, ◌≤◌, length};
 ghost use Rattle.transducer.specs.Format.{max_path, decode};
 ghost use Rattle.transducer.specs.Accepted.{ValidationSays};
+ghost use Rattle.transducer.specs.Answer.{validated};
+ghost use Rattle.report.specs.Answer.{told};
 ghost use Rattle.transducer.specs.Weight.{no_weight};
 ghost use Rattle.relax.specs.Begun.{Cleared};
 ghost use Rattle.shortest.specs.Entry.{ShortestSays, accepted_shortest_refusal, shortest_refusal};
 
 use crate::walk;
-use report::Told;
-use transducer::Validation;
+use report::PathNumbers;
+use transducer::{Facts, Refusal};
 
 // The shortest path of accepted bytes, by lent arrays of zeros for costs and sizes with a cell for each state.
 fn shortest_by(
     table: &[u8],
-    seen: Validation,
+    seen: Facts,
     costs: &mut [i32],
     lens: &mut [u32],
     arcs: &mut [u16],
     labels: &mut [u16],
-) -> Told
-    requires { ValidationSays table.now seen × (seen.refusal ≡ 0) × Cleared no_weight (decode table.now).states costs.old
+) -> Result<PathNumbers, Refusal>
+    requires { ValidationSays table.now (validated seen) × Cleared no_weight (decode table.now).states costs.old
         × Cleared {A = ℕ} 0 (decode table.now).states lens.old × (max_path ≤ length arcs.old) × (max_path ≤ length labels.old) }
     ensures { ShortestSays table.now (accepted_shortest_refusal (decode table.now))
-        result arcs.old arcs.new labels.old labels.new }
+        (told result) arcs.old arcs.new labels.old labels.new }
 {
     let shape = relax::begin(table, costs);
     if !distance::distances(table, shape, false, seen, costs, lens) {
-        return report::refused(19);
+        return Err(Refusal::NegativeCycle);
     }
     let start = shape.start;
     let cost = costs[start];
     if relax::UNREACHED <= cost {
-        return report::refused(16);
+        return Err(Refusal::NoPath);
     }
     let len = relax::arcs_of(lens[start]);
     walk::follow(
@@ -46,7 +48,7 @@ fn shortest_by(
         arcs,
     );
     let end = report::put_labels(table, shape.first, start, arcs, len, labels);
-    report::answer(cost as i64, len, end.labels)
+    Ok(report::answer(cost as i64, len, end.labels))
 }
 
 // Puts the shortest path of accepted bytes into two lent buffers that are long enough: its arc numbers, and the labels that it writes. Refuses only with
@@ -54,13 +56,13 @@ fn shortest_by(
 // Linear in states and arcs where one sweep settles all, at worst states times arcs.
 pub fn shortest_accepted(
     table: &[u8],
-    seen: Validation,
+    seen: Facts,
     arcs: &mut [u16],
     labels: &mut [u16],
-) -> Told
-    requires { ValidationSays table.now seen × (seen.refusal ≡ 0) × (max_path ≤ length arcs.old) × (max_path ≤ length labels.old) }
+) -> Result<PathNumbers, Refusal>
+    requires { ValidationSays table.now (validated seen) × (max_path ≤ length arcs.old) × (max_path ≤ length labels.old) }
     ensures { ShortestSays table.now (accepted_shortest_refusal (decode table.now))
-        result arcs.old arcs.new labels.old labels.new }
+        (told result) arcs.old arcs.new labels.old labels.new }
 {
     if relax::is_small(table) {
         let mut costs = [0i32; relax::FEW_STATES];
@@ -73,21 +75,21 @@ pub fn shortest_accepted(
 }
 
 // The shortest path: its arc numbers and the labels that it writes go into two lent buffers.
-pub fn shortest_path(table: &[u8], arcs: &mut [u16], labels: &mut [u16]) -> Told
+pub fn shortest_path(
+    table: &[u8],
+    arcs: &mut [u16],
+    labels: &mut [u16],
+) -> Result<PathNumbers, Refusal>
     ensures { ShortestSays table.now
         (shortest_refusal table.now (length arcs.old) (length labels.old))
-        result arcs.old arcs.new labels.old labels.new }
+        (told result) arcs.old arcs.new labels.old labels.new }
 {
-    let seen = transducer::validate(table, true);
-    let number = seen.refusal;
-    if number != 0 {
-        return report::refused(number);
-    }
+    let seen = transducer::validate(table, true)?;
     if arcs.len() < transducer::MAX_PATH {
-        return report::refused(10);
+        return Err(Refusal::Room);
     }
     if labels.len() < transducer::MAX_PATH {
-        return report::refused(10);
+        return Err(Refusal::Room);
     }
     shortest_accepted(table, seen, arcs, labels)
 }

@@ -1,11 +1,11 @@
 // The path along the first tight arcs, by the costs to come and the sizes.
-ghost use Rattle.std.specs.Prelude.{◌≡◌, ◌-◌, ◌≤◌, ◌<◌, true, length};
+ghost use Rattle.std.specs.Prelude.{◌≡◌, ◌-◌, ◌≤◌, ◌<◌, true, length, IfSome};
 ghost use Rattle.wire.specs.Bytes.{filled};
-ghost use Rattle.transducer.specs.Format.{decode};
+ghost use Rattle.transducer.specs.Format.{max_states, decode};
 ghost use Rattle.transducer.specs.Accepted.{AcceptedAt, Indexed};
 ghost use Rattle.transducer.specs.Path.{runs};
 ghost use Rattle.relax.specs.Tentative.{unpacked, cost_at, by_state, cost_by, size_by, Cells};
-ghost use Rattle.shortest.specs.Tight.{first_giving, first_tight, follow};
+ghost use Rattle.shortest.specs.Tight.{HasArcs, first_giving, first_tight, follow};
 
 use transducer::INDEX_LEN;
 
@@ -31,6 +31,7 @@ fn by_arc(table: &[u8], first: usize, i: usize, costs: &[i32], lens: &[u32]) -> 
 }
 
 // The first arc from `from` to below `to` that gives the cost and the size of state `s`, or `to` where none does.
+// On the path that is walked there is always one, so that an Option would only be unwrapped.
 fn first_giving(
     table: &[u8],
     first: usize,
@@ -45,13 +46,11 @@ fn first_giving(
     ensures { result ≡ first_giving (to - from) (decode table.now) (cost_at costs.now)
         (by_state lens.now) s from }
 {
-    let mut i = from;
-    while i < to {
+    for i in from..to {
         let by = by_arc(table, first, i, costs, lens);
         if !relax::comes_first(costs[s], lens[s], by.cost, by.size) {
             return i;
         }
-        i += 1;
     }
     to
 }
@@ -59,74 +58,62 @@ fn first_giving(
 // A path of up to so many arcs is walked without an index, as that takes longer to clear and to fill than to seek a few arcs.
 const SHORT: usize = 12;
 
-// Puts the path of `len` arcs along the first tight arcs into `out`, zeros behind. The arcs of a state are sought from the arc that led to it.
-fn walk_near(
+// Where the arcs of state `s` begin, and where they end or a place behind that: by the first-arc index, or from an arc that is `near`, as far as there are
+// arcs.
+fn arcs_from(
     table: &[u8],
     first: usize,
     arcs: usize,
-    start: usize,
-    len: usize,
-    costs: &[i32],
-    lens: &[u32],
-    out: &mut [u16],
-)
-    requires { AcceptedAt table.now first × (arcs ≡ length (decode table.now).arcs) × (start < (decode table.now).states) × (len ≤ length out.old)
-        × (runs (decode table.now) start
-        (follow len (decode table.now) (first_tight (decode table.now) (cost_at costs.now) (by_state lens.now)) start) ≡ true)
-        × Cells (decode table.now).states costs.now lens.now }
-    ensures { out.new ≡ filled (length out.old)
-        (follow len (decode table.now)
-        (first_tight (decode table.now) (cost_at costs.now) (by_state lens.now)) start) }
+    index: Option<&[u16; INDEX_LEN]>,
+    s: usize,
+    near: usize,
+) -> (usize, usize)
+    requires asked { AcceptedAt table.now first × (arcs ≡ length (decode table.now).arcs) × (s < (decode table.now).states) × (s < max_states)
+        × (near ≤ arcs) }
+    requires indexed { IfSome index (λ i. Indexed (decode table.now) i.now) }
+    ensures { HasArcs (decode table.now) s result.0 result.1 }
 {
-    let mut s = start;
-    let mut n: usize = 0;
-    let mut near: usize = 0;
-    while n < len {
-        let from = relaxation::first_arc(table, first, arcs, s, near);
-        let i = first_giving(table, first, s, from, arcs, costs, lens);
-        let a = transducer::arc_of(table, first, i);
-        out[n] = i as u16;
-        n += 1;
-        near = i + 1;
-        s = a.target as usize;
+    match index {
+        Some(index) => (index[s] as usize, index[s + 1] as usize),
+        None => (relaxation::first_arc(table, first, arcs, s, near), arcs),
     }
-    wire::clear16(out, n);
 }
 
-// The same by the first-arc index.
-fn walk_indexed(
+// Puts that path into `out` by an index, or without one. Without an index the arcs of a state are sought from the arc that led
+// to it.
+fn walk(
     table: &[u8],
     first: usize,
+    arcs: usize,
+    index: Option<&[u16; INDEX_LEN]>,
     start: usize,
     len: usize,
-    index: &[u16; INDEX_LEN],
     costs: &[i32],
     lens: &[u32],
     out: &mut [u16],
 )
-    requires { AcceptedAt table.now first × Indexed (decode table.now) index.now × (start < (decode table.now).states) × (len ≤ length out.old)
+    requires asked { AcceptedAt table.now first × (arcs ≡ length (decode table.now).arcs) × (start < (decode table.now).states) × (len ≤ length out.old)
         × (runs (decode table.now) start
         (follow len (decode table.now) (first_tight (decode table.now) (cost_at costs.now) (by_state lens.now)) start) ≡ true)
         × Cells (decode table.now).states costs.now lens.now }
+    requires indexed { IfSome index (λ i. Indexed (decode table.now) i.now) }
     ensures { out.new ≡ filled (length out.old)
         (follow len (decode table.now)
         (first_tight (decode table.now) (cost_at costs.now) (by_state lens.now)) start) }
 {
     let mut s = start;
-    let mut n: usize = 0;
-    while n < len {
-        let from = index[s] as usize;
-        let to = index[s + 1] as usize;
+    let mut near = 0;
+    for n in 0..len {
+        let (from, to) = arcs_from(table, first, arcs, index, s, near);
         let i = first_giving(table, first, s, from, to, costs, lens);
-        let a = transducer::arc_of(table, first, i);
         out[n] = i as u16;
-        n += 1;
-        s = a.target as usize;
+        near = i + 1;
+        s = transducer::arc_of(table, first, i).target as usize;
     }
-    wire::clear16(out, n);
+    wire::clear(out, len, 0);
 }
 
-// The same in one of the two ways.
+// Puts the path of `len` arcs along the first tight arcs into `out`, zeros behind.
 pub fn follow(
     table: &[u8],
     first: usize,
@@ -148,10 +135,20 @@ pub fn follow(
         (first_tight (decode table.now) (cost_at costs.now) (by_state lens.now)) start) }
 {
     if len <= SHORT {
-        walk_near(table, first, arcs, start, len, costs, lens, out);
+        walk(table, first, arcs, None, start, len, costs, lens, out);
         return;
     }
     let mut index = [0u16; INDEX_LEN];
     transducer::put_index(table, first, states, arcs, &mut index);
-    walk_indexed(table, first, start, len, &index, costs, lens, out);
+    walk(
+        table,
+        first,
+        arcs,
+        Some(&index),
+        start,
+        len,
+        costs,
+        lens,
+        out,
+    );
 }

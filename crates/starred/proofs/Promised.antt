@@ -11,7 +11,7 @@ use borrow.Author.Tests.{le-ltb, eqb-true}
 use lib.Dec.{eqb}
 use lib.ListN.{length, get_or, drop}
 use Rattle.wire.specs.Bytes.{filled, signed_filled}
-use Rattle.transducer.specs.declared.Written.{Written}
+use Rattle.transducer.specs.Answer.{Written}
 use Rattle.transducer.specs.Format.{max_arcs, max_bytes, max_fields, max_origins, max_path, max_states, Transducer, decode}
 use Rattle.transducer.specs.Encode.{encode}
 use Rattle.transducer.specs.Entry.{unless, cost_unless, left_in, weights_left_in}
@@ -23,7 +23,7 @@ use Rattle.compose.specs.Entry.{compose_room, compose_refusal, ComposeSays, orig
 use Rattle.lattice.specs.Lattice.{lattice, lattice_origins}
 use Rattle.lattice.specs.ApplyEntry.{apply_room, apply_refusal, ApplySays}
 use Rattle.paths.specs.Count.{path_count, nth_path}
-use Rattle.report.specs.declared.Told.{Told}
+use Rattle.report.specs.Answer.{Told}
 use Rattle.report.specs.Tell.{PathTold}
 use Rattle.paths.specs.Entry.{count_refusal, nth_refusal, NthSays}
 use Rattle.distance.specs.Entry.{costs_to_come, costs_refusal, CostsSay}

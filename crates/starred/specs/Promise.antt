@@ -1,19 +1,19 @@
 -- What the calls promise comes to the cases: whatever a call answers and leaves behind by its contract, lent buffers of at least the
 -- least lengths, is the answer of a case. Assumes nothing: these are definitions.
 use Rattle.std.specs.Prelude.{◌≡◌, List, [], ◌∷◌, ◌++◌, ℕ, ◌-◌, ◌≤◌, length, get_or, replicate}
-use Rattle.transducer.specs.declared.Header.{Header}
-use Rattle.transducer.specs.declared.Written.{Written}
+use Rattle.transducer.specs.Answer.{Header}
+use Rattle.transducer.specs.Answer.{Written}
 use Rattle.transducer.specs.Format.{max_states, max_arcs, max_fields, max_origins, max_bytes, max_path}
 use Rattle.transducer.specs.Weight.{Weight, no_weight}
 use Rattle.codec.specs.Entry.{read_refusal, ReadSays}
 use Rattle.compose.specs.Entry.{compose_refusal, ComposeSays}
 use Rattle.lattice.specs.ApplyEntry.{apply_refusal, ApplySays}
-use Rattle.paths.specs.declared.Counted.{Counted}
-use Rattle.report.specs.declared.Told.{Told}
+use Rattle.paths.specs.Answer.{Counted}
+use Rattle.report.specs.Answer.{Told}
 use Rattle.paths.specs.Entry.{count_refusal, CountSays, nth_refusal, NthSays}
 use Rattle.distance.specs.Entry.{costs_refusal, CostsSay}
 use Rattle.shortest.specs.Entry.{shortest_refusal, ShortestSays}
-use Rattle.listing.specs.declared.Listed.{Listed}
+use Rattle.listing.specs.Answer.{Listed}
 use Rattle.listing.specs.Text.{least_room}
 use Rattle.listing.specs.Entry.{text_room, ListingSays}
 use Rattle.starred.specs.Answer.{Call, Left, Answer, Case}

@@ -18,7 +18,7 @@ use Rattle.transducer.specs.Accepted.{AcceptedAt, Rest, Leaving}
 use Rattle.transducer.specs.Path.{arc}
 use Rattle.transducer.specs.Each.{unnamed, fits, has_no_any_input}
 use Rattle.transducer.proofs.Fits.{named_input, label_at, label_none, label_named, label_any, fits_label}
-use Rattle.steps.specs.Lookup.{label_buckets, label_bucket, reads, in_bucket, first_of, first_from, Heads, Chain, NextSameLabel, Lookup, Leads}
+use Rattle.steps.specs.Lookup.{label_buckets, label_bucket, reads, in_bucket, first_of, first_from, Heads, Chain, NextSameLabel, Leads}
 use Rattle.steps.specs.declared.Run.{Run}
 use Rattle.steps.specs.Runs.{fitting_from, reading_from, Takeable}
 use Rattle.transducer.proofs.Leaving.{rest_from, leaving_unnamed}
@@ -262,9 +262,6 @@ filling_first u from heads chain again is few zeros c-long a-long =
 pub chains_lead : {u : Transducer} {heads chain : List ℕ} (q label b : ℕ) → Heads u 0 heads → Chain u 0 chain → b ≡ label_bucket q label → b < label_buckets
     → Leads u q label 0 chain (get_or heads b 0)
 chains_lead q label b h c is l = record { within = omega arith; chained = c; head_is = rw (← is) (h.are b l) }
-
-pub filling_done : {u : Transducer} {from : ℕ} {heads chain again : List ℕ} → from ≡ 0 → Filling u from heads chain again → Lookup u heads chain again
-filling_done is f = let g = rw is at f in record { headed = g.headed; chained = g.chained; repeated = g.repeated }
 
 module _ {u : Transducer} {j : ℕ} {heads chain again : List ℕ} (f : Filling u (suc j) heads chain again) where
   pub filling_leads : (q label b : ℕ) → b ≡ label_bucket q label → b < label_buckets → Leads u q label (suc j) chain (get_or heads b 0)

@@ -39,6 +39,7 @@ pub struct Step {
 // Steps that differ in their right arc alone: of one left arc alone, of one left arc with each right arc that fits `label`, or of the
 // right arcs alone that read nothing (then `left` is 65,535). The right part of `target` is where a left arc alone leads; a right arc leads
 // to its own target.
+// It is no enum: `step_of`, which docs/MAP.md names, takes any of these.
 #[derive(Clone, Copy)]
 pub struct Run {
     pub alone: bool,
@@ -50,6 +51,7 @@ pub struct Run {
 }
 
 // Where the next run begins: at left arc `i`, or behind the last one, with right arc `j`.
+// It is no enum: `run_of`, which docs/MAP.md names, takes any of these.
 #[derive(Clone, Copy)]
 pub struct Begin {
     pub alone: bool,

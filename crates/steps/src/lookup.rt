@@ -22,7 +22,8 @@ fn label_bucket(state: u16, label: u16) -> usize
 }
 
 // The link to the first arc that leaves state `q` and reads `label`, along the chain that `head` leads to. An arc's source and label stand side
-// by side and are compared as one number.
+// by side and are compared as one number. The chain is followed by links, so there is no index to count.
+// A link is answered as `next_same_label` keeps it: an Option would be turned back at once.
 fn along(right: &[u8], rfirst: usize, chain: &[u16], head: u16, q: u16, label: u16) -> u16
     requires { AcceptedAt right.now rfirst × ((from : ℕ) × Leads (decode right.now) q label from chain.now head) }
     ensures { (from : ℕ) → Leads (decode right.now) q label from chain.now head →
@@ -54,11 +55,7 @@ pub fn put_chains(
         × (arcs ≤ length chain.old) × (arcs ≤ length next_same_label.old) }
     ensures { Lookup (decode right.now) heads.new chain.new next_same_label.new }
 {
-    let mut left = arcs;
-    while 0 < left {
-        let j = left - 1;
-        let link = left as u16;
-        left = j;
+    for j in (0..arcs).rev() {
         let place = rfirst + ARC_BYTES * j + 4;
         let q = wire::u16_at(right, place);
         let label = wire::u16_at(right, place + 2);
@@ -66,11 +63,12 @@ pub fn put_chains(
         let head = heads[b];
         next_same_label[j] = along(right, rfirst, chain, head, q, label);
         chain[j] = head;
-        heads[b] = link;
+        heads[b] = (j + 1) as u16;
     }
 }
 
-// The first arc of right state `q` that reads `label` by name; `to`, the arc behind those of the state, where none does.
+// The first arc of right state `q` that reads `label` by name; `to`, the arc behind those of the state, where none does, as the definition `reading_from` has
+// it: whoever asks goes on to `to` then.
 pub fn first_reading(
     right: &[u8],
     rfirst: usize,
@@ -96,6 +94,7 @@ pub fn first_reading(
 }
 
 // The first arc of right state `q` for any symbol; `to` where there is none. Where no arc at all is, which `no_any_input` tells, nothing is looked up.
+// As the definition `reading_from` has it, `to` stands for none.
 pub fn first_any(
     right: &[u8],
     rfirst: usize,

@@ -11,16 +11,19 @@ use crate::{Begin, Origin, Run, State, Step, keys, lookup};
 use transducer::ARC_BYTES;
 
 // Stands for the arc of a side that stands still.
+// C reads it in the origins, so that it is no Option.
 const STILL: u16 = transducer::BARRED;
 
 // The filter state that a step leads to: of a left arc alone, of a right arc alone, of one of each.
+// They are numbers and no enum, since the filter state is a bit of the key of a composed state.
 const AFTER_LEFT: u32 = 0;
 
 const AFTER_RIGHT: u32 = 1;
 
 const AFTER_BOTH: u32 = 0;
 
-// What `only_label` tells where more than one label may fit: no label.
+// What `only_label` tells where more than one label may fit: no label. It is a number and no `Option`: `next_run`, which docs/MAP.md names,
+// takes any number there.
 const SEVERAL: u32 = transducer::ANY as u32 + 1;
 
 // The one label that the arcs of a right state, from `from` to below `to`, may fit: that of its one arc, 0 where it has none. `wild` is the first of them for
@@ -38,13 +41,7 @@ pub fn only_label(
     ensures { (q : ℕ) → Leaving (decode right.now) q from to →
         wild ≡ reading_from (decode right.now) any (to - from) from → FitsOnly (decode right.now) from to result }
 {
-    if last < first + 2 {
-        return SEVERAL;
-    }
-    if wild < to {
-        return SEVERAL;
-    }
-    if from + 1 < to {
+    if last < first + 2 || wild < to || from + 1 < to {
         return SEVERAL;
     }
     if from == to {
@@ -63,6 +60,7 @@ fn pass_over(left: &[u8], lfirst: usize, i: usize, last: usize, only: u32) -> us
     if SEVERAL <= only {
         return i;
     }
+    // A `for` over i..last was tried: composing W3 and W4 took 3 to 6 percent longer.
     let mut k = i;
     while k < last {
         let label = wire::u16_at(left, lfirst + ARC_BYTES * k + 8);
@@ -101,11 +99,8 @@ pub fn next_run(
         wild ≡ reading_from (decode right.now) any (to - from) from → FitsOnly (decode right.now) from to only →
         result ≡ begin_from (decode left.now) (decode right.now) filter from (to - from) (last - i) i }
 {
-    let mut k = pass_over(left, lfirst, i, last, only);
-    while k < last {
-        let at = k;
+    for at in pass_over(left, lfirst, i, last, only)..last {
         let label = wire::u16_at(left, lfirst + ARC_BYTES * at + 8);
-        k += 1;
         if label == 0 {
             if filter == 0 {
                 return Begin {
@@ -120,7 +115,7 @@ pub fn next_run(
                 return Begin {
                     alone: false,
                     i: at,
-                    j: j,
+                    j,
                 };
             }
             if wild < to {

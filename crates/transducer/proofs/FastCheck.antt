@@ -6,7 +6,7 @@
 --     fast_checked_first, fast_checked_next, fast_checked_stop           the loop
 --     fast_checked_lower                                       a lower weight than any before
 -- Assumes nothing.
-use Rattle.std.proofs.Common.{◌≡◌, ℕ, zero, suc, ◌+◌, ◌-◌, ◌*◌, ◌%◌, ◌^◌, ◌<◌, ◌≤◌, Bool, true, false, eqb, ltb, List, pos, sym, refl, ap, ◌∙◌, add-zero, mul-zero, mul-suc, add-one, arith, w32, to_z, ltb-false, ltb-true, lt-ltb, eq-eqb, eqb-true, le-leb}
+use Rattle.std.proofs.Common.{◌≡◌, ℕ, zero, suc, ◌+◌, ◌-◌, ◌*◌, ◌%◌, ◌^◌, ◌<◌, ◌≤◌, Bool, true, false, eqb, ltb, List, Some, None, pos, sym, refl, ap, ◌∙◌, add-zero, mul-zero, mul-suc, add-one, arith, w32, to_z, ltb-false, ltb-true, lt-ltb, eq-eqb, eqb-true, le-leb}
 use mathlib.Core.Bool.{and-true}
 use lib.Bits.{bit_or, bit_and}
 use mir.Facts.{to_z_pos}
@@ -19,7 +19,7 @@ use Rattle.transducer.specs.declared.Arc.{Arc}
 use Rattle.transducer.specs.declared.Checks.{Checks}
 use Rattle.transducer.specs.declared.check.FastCheck.{FastCheck}
 use Rattle.transducer.specs.Format.{weight_limit, barred, arc_bytes, min_weight, max_weight, weight_good, weight_at, labels_good, arc_at}
-use Rattle.transducer.specs.Check.{arc_checked, arcs_checked, with_floor, arc_word, unsure, eight, input_of, output_of, target_of}
+use Rattle.transducer.specs.Check.{arc_checked, arcs_checked, with_floor, arc_word, eight, input_of, output_of, target_of}
 use Rattle.transducer.specs.Check.{GoodUpTo, GoodFields, Rows, Between, Passing, NoneUnder, FastChecked, GoesOn, NoneBelow, EachUp}
 use Rattle.transducer.specs.Check.{EachWrites, EachNamed, FastCheckSays}
 use Rattle.transducer.specs.Weight.{Weight, rebate, AtMost}
@@ -98,15 +98,15 @@ arcs_checked_snoc (suc k) at s n word arc c =
 pub none_below_good : (bs : List ℕ) (at count : ℕ) → NoneBelow bs at count min_weight
 none_below_good bs at count = record { light = λ k h good. (good_range (arc_at bs (at + arc_bytes * k)).weight good).low }
 
-pub says_unsure : (bs : List ℕ) (at count n floor : ℕ) (g : FastCheck) → g.last ≡ unsure → g.least ≡ min_weight → g.top_sorted ≡ false →
+pub says_unsure : (bs : List ℕ) (at count n floor : ℕ) (g : FastCheck) → g.last ≡ None → g.least ≡ min_weight → g.top_sorted ≡ false →
     g.no_output_epsilon ≡ false → FastCheckSays bs at count n floor g
 says_unsure bs at count n floor g e f not-up not-writes =
     record {
-      plain = record { all_pass = λ h. absurd (h e) };
+      plain = record { all_pass = λ last h c s. cc };
       light = rw f (none_below_good bs at count);
       top_sorted = λ u. clash u not-up;
       no_output_epsilon = λ u. clash u not-writes;
-      has_no_any_input = λ h. absurd (h e);
+      has_no_any_input = λ h. clash h (rw e refl);
     }
 
 -- No target and no output is below that of fields gathered by bit_and.
@@ -275,12 +275,14 @@ module _ {bs : List ℕ} {at count n : ℕ} {each : Bool} {floor last any all pl
     seen_named : input_of any < barred → EachNamed bs at count
     seen_named u = record { no_any = λ k l. omega (arith, u, g.inputs k (omega (arith, l, seen_all))) }
 
-    pub fast_checked_stop : last < n → GoodFields any n each → (r : FastCheck) → r.last ≡ last → r.least ≡ least → (r.top_sorted ≡ true
+    pub fast_checked_stop : last < n → GoodFields any n each → (r : FastCheck) → r.last ≡ Some last → r.least ≡ least → (r.top_sorted ≡ true
         → last < target_of all) →
         (r.no_output_epsilon ≡ true → 0 < output_of all) → FastCheckSays bs at count n floor r
     fast_checked_stop below good r e f up writes =
         record {
-          plain = record { all_pass = λ _ c s. rw (e, ← seen_all) (g.passing below good c s) };
+          plain = record {
+            all_pass = λ known h c s. let same : known ≡ last = cc in rw (same, ← seen_all) (g.passing below good c s);
+          };
           light = rw f seen_light;
           top_sorted = λ u. seen_up (up u);
           no_output_epsilon = λ u. seen_writes (writes u);
@@ -288,15 +290,15 @@ module _ {bs : List ℕ} {at count n : ℕ} {each : Bool} {floor last any all pl
         }
 
     -- The least weight is known where the labels are not.
-    pub fast_checked_unsure : (r : FastCheck) → r.last ≡ unsure → r.least ≡ least → r.top_sorted ≡ false → r.no_output_epsilon ≡ false
+    pub fast_checked_unsure : (r : FastCheck) → r.last ≡ None → r.least ≡ least → r.top_sorted ≡ false → r.no_output_epsilon ≡ false
         → FastCheckSays bs at count n floor r
     fast_checked_unsure r e f not-up not-writes =
         record {
-          plain = record { all_pass = λ k. absurd (k e) };
+          plain = record { all_pass = λ known h c s. cc };
           light = rw f seen_light;
           top_sorted = λ u. clash u not-up;
           no_output_epsilon = λ u. clash u not-writes;
-          has_no_any_input = λ k. absurd (k e);
+          has_no_any_input = λ h. clash h (rw e refl);
         }
 
 -- A run, of which the arcs up to `place` are seen.

@@ -110,16 +110,15 @@ unfolding final_code
 weight_final_code fs s h e = rw e (weight_code (final_weight fs s) (final_weight_good fs s h))
 
 -- The codes of the first `i` finals are stored.
-pub record Coded (bs : List ℕ) (i place : ℕ) (codes : List ℕ) : Type 0 where
+pub record Coded (bs : List ℕ) (i : ℕ) (codes : List ℕ) : Type 0 where
   pub within : i ≤ head_finals bs
-  pub there : place ≡ head_bytes + final_bytes * i
   pub long : length codes ≡ max_states
   pub so_far : (s : ℕ) → s < max_states → get_or codes s 0 ≡ final_code (places i head_bytes final_bytes (final_at bs)) s
 
-pub coded_first : (bs : List ℕ) → Coded bs 0 12 (replicate max_states 0)
+pub coded_first : (bs : List ℕ) → Coded bs 0 (replicate max_states 0)
 unfolding places final_code is_final
 coded_first bs =
-    record { within = omega arith; there = refl; long = length-replicate {A = ℕ} max_states 0; so_far = λ s h. get_or-replicate {A = ℕ} max_states s 0 0 h }
+    record { within = omega arith; long = length-replicate {A = ℕ} max_states 0; so_far = λ s h. get_or-replicate {A = ℕ} max_states s 0 0 h }
 
 -- What one store of a new state's code leaves at each state.
 stored_code : (codes : List ℕ) (old : List Final) (f : Final) (s : ℕ) → finals_rise 0 (old ++ (f ∷ [])) ≡ true → f.state < length codes →
@@ -130,47 +129,44 @@ stored_code codes old f s rise room is (no n) =
     get_or-set_other codes f.state s (code_of f.weight) 0 (λ e. n (sym e)) ∙ is ∙ sym (final_code_other old f s n)
 
 module _ (bs : List ℕ) (bytes : Bytes bs) (ok : refusal bs ≡ 0) where
-  pub coded_inside : {i place : ℕ} {codes : List ℕ} → i < head_finals bs → Coded bs i place codes → place + 10 ≤ length bs
-  coded_inside h c = omega (arith, length_accepted bs bytes ok, c.there)
+  pub final_inside : (i : ℕ) → i < head_finals bs → head_bytes + final_bytes * i + final_bytes ≤ length bs
+  final_inside i h = omega (arith, length_accepted bs bytes ok)
 
   -- The final that the loop loads in a turn.
-  loaded : {i place : ℕ} {codes : List ℕ} (f : Final) → i < head_finals bs → f ≡ final_at bs place → Coded bs i place codes → get_or (decode bs).finals i f ≡ f
-  loaded {i} f h e c = final_offset bs bytes ok i f (omega (arith, length_finals bs bytes ok)) ∙ sym (e ∙ ap (final_at bs) c.there)
+  loaded : {i : ℕ} (f : Final) → i < head_finals bs → f ≡ final_at bs (head_bytes + final_bytes * i) → get_or (decode bs).finals i f ≡ f
+  loaded {i} f h e = final_offset bs bytes ok i f (omega (arith, length_finals bs bytes ok)) ∙ sym e
 
-  pub coded_state : {i place : ℕ} {codes : List ℕ} (f : Final) → i < head_finals bs → f ≡ final_at bs place → Coded bs i place codes → f.state < max_states
-  coded_state {i} f h e c =
+  pub coded_state : {i : ℕ} (f : Final) → i < head_finals bs → f ≡ final_at bs (head_bytes + final_bytes * i) → f.state < max_states
+  coded_state {i} f h e =
       let below = final_state_below (decode bs) (accepted_good bs bytes ok) i f (omega (arith, length_finals bs bytes ok)) in
-      let here = ap (λ (g : Final). g.state) (loaded f h e c) in
+      let here = ap (λ (g : Final). g.state) (loaded f h e) in
       omega (arith, below, here, decode_states bs bytes ok, (accepted_within bs bytes ok).states)
 
-  pub coded_weight : {i place : ℕ} {codes : List ℕ} (f : Final) → i < head_finals bs → f ≡ final_at bs place → Coded bs i place codes
-      → weight_good f.weight ≡ true
-  coded_weight {i} f h e c =
+  pub coded_weight : {i : ℕ} (f : Final) → i < head_finals bs → f ≡ final_at bs (head_bytes + final_bytes * i) → weight_good f.weight ≡ true
+  coded_weight {i} f h e =
       let light = final_light (decode bs) (accepted_good bs bytes ok) i f (omega (arith, length_finals bs bytes ok)) in
-      rw (loaded f h e c) at light
+      rw (loaded f h e) at light
 
-  pub coded_next : {i place : ℕ} {codes : List ℕ} (f : Final) → i < head_finals bs → f ≡ final_at bs place → Coded bs i place codes →
-      Coded bs (i + 1) (place + 10) (set codes f.state (code_of f.weight))
-  coded_next {i} {place} {codes} f h e c =
+  pub coded_next : {i : ℕ} {codes : List ℕ} (f : Final) → i < head_finals bs → f ≡ final_at bs (head_bytes + final_bytes * i) → Coded bs i codes →
+      Coded bs (i + 1) (set codes f.state (code_of f.weight))
+  coded_next {i} {codes} f h e c =
       let old : List Final = places i head_bytes final_bytes (final_at bs) in
-      let is : f ≡ final_at bs (head_bytes + final_bytes * i) = e ∙ ap (final_at bs) c.there in
       let more : places (i + 1) head_bytes final_bytes (final_at bs) ≡ old ++ (f ∷ []) =
-      rw (add-one, is) (places_snoc i head_bytes final_bytes (final_at bs)) in
+      rw (add-one, e) (places_snoc i head_bytes final_bytes (final_at bs)) in
       let rise : finals_rise 0 (places (head_finals bs) head_bytes final_bytes (final_at bs)) ≡ true =
       rw (decode_finals bs bytes ok) at (finals_rise_good (decode bs) (accepted_good bs bytes ok)) in
       let rise_more : finals_rise 0 (old ++ (f ∷ [])) ≡ true =
       rw (← more, ← take_places (i + 1) (head_finals bs) head_bytes final_bytes (final_at bs) (omega arith))
       (rise_take 0 (i + 1) (places (head_finals bs) head_bytes final_bytes (final_at bs)) rise) in
-      let room : f.state < length codes = omega (arith, coded_state f h e c, c.long) in
+      let room : f.state < length codes = omega (arith, coded_state f h e, c.long) in
       record {
         within = omega arith;
-        there = omega (arith, c.there);
         long = length-set codes f.state (code_of f.weight) ∙ c.long;
         so_far = λ s l. rw more (stored_code codes old f s rise_more room (c.so_far s l) (ℕ_discrete f.state s));
       }
 
-  pub coded_stop : {i place : ℕ} {codes : List ℕ} → head_finals bs ≤ i → Coded bs i place codes → FinalsByState (decode bs) codes
-  coded_stop {i} {place} {codes} h c =
+  pub coded_stop : {i : ℕ} {codes : List ℕ} → head_finals bs ≤ i → Coded bs i codes → FinalsByState (decode bs) codes
+  coded_stop {i} {codes} h c =
       let e : i ≡ head_finals bs = omega (arith, c.within) in
       let all : (decode bs).finals ≡ places i head_bytes final_bytes (final_at bs) = rw e (decode_finals bs bytes ok) in
       let are : (s : ℕ) → s < max_states → get_or codes s 0 ≡ final_code (decode bs).finals s = λ s l. rw all (c.so_far s l) in

@@ -1,19 +1,19 @@
--- The two loops that make the first-arc index: `EndsMarking` says how far the first has come, `Summed` the second.
+-- The two loops that make the first-arc index: the first marks the arcs one after the other, `Summed` says how far the second has come.
 -- Assumes nothing.
 use Rattle.std.proofs.Common.{◌≡◌, ℕ, zero, suc, ◌+◌, ◌*◌, ◌<◌, ◌≤◌, max, true, List, [], ◌∷◌, ◌++◌, length, get_or, take, set, replicate, sym, refl, ap, ◌∙◌, add-one, arith, length-set, take_all, get_or-set_other, get_or-set_same}
 use native.Mathlib.Decide.{ℕ_discrete, dec_le}
 use lib.ListN.{length-replicate, get_or-replicate}
-use Rattle.wire.specs.Bytes.{Bytes, two, places}
-use Rattle.wire.proofs.Places.{length_places, places_snoc, take_places}
+use lib.Seq.{take-suc, length-take-le}
+use Rattle.wire.specs.Bytes.{Bytes, two}
 use Rattle.transducer.specs.declared.Arc.{Arc}
 use Rattle.transducer.specs.Format.{arc_bytes, arcs_at, index_long, max_arcs, max_states}
-use Rattle.transducer.specs.Format.{Transducer, decode, refusal, sources_stay, head_arcs, head_finals, arc_at}
+use Rattle.transducer.specs.Format.{Transducer, decode, sources_stay, head_arcs, head_finals, arc_at}
 use Rattle.transducer.specs.Path.{arc, no_arc}
 use Rattle.transducer.specs.Accepted.{AcceptedAt, arcs_below, EndsMarked, Indexed}
 use Rattle.transducer.proofs.Good.{sources_stay_good, arc_states_below}
 use Rattle.transducer.proofs.Index.{arcs_below_append, arcs_below_zero, arcs_below_length, arcs_below_lt, arcs_below_ge, stay_rises, stay_take}
 use Rattle.transducer.proofs.Index.{stay_before}
-use Rattle.transducer.proofs.Offsets.{length_accepted, decode_states, decode_arcs, length_arcs, arc_offset, accepted_within, accepted_good}
+use Rattle.transducer.proofs.Offsets.{length_accepted, decode_states, length_arcs, arc_offset, accepted_within, accepted_good}
 
 -- The first loop
 
@@ -73,12 +73,6 @@ pub marked_next : (xs : List Arc) (a : Arc) (index : List ℕ) (source count : �
 marked_next xs a index source count e l stay below m =
     rw (e, l, add-one a.source, add-one (length xs)) (marked_more xs a index stay below m)
 
--- The first `i` arcs are marked.
-pub record EndsMarking (bs : List ℕ) (i place : ℕ) (index : List ℕ) : Type 0 where
-  pub within : i ≤ head_arcs bs
-  pub there : place ≡ arcs_at (head_finals bs) + arc_bytes * i + 4
-  pub marked : EndsMarked (places i (arcs_at (head_finals bs)) 16 (arc_at bs)) index
-
 -- The numbers by which arcs are found are small.
 pub record Small (bs : List ℕ) (first : ℕ) : Type 0 where
   pub first_most : first ≤ arcs_at max_states
@@ -91,100 +85,81 @@ set_twice [] i a b = refl
 set_twice (x ∷ xs) zero a b = refl
 set_twice (x ∷ xs) (suc i) a b = ap (λ (l : List ℕ). x ∷ l) (set_twice xs i a b)
 
-module _ (bs : List ℕ) (bytes : Bytes bs) (ok : refusal bs ≡ 0) where
-  pub opened_small : {first : ℕ} → AcceptedAt bs first → Small bs first
-  opened_small o =
-      let within = accepted_within bs bytes ok in
+-- What is known while arcs are marked, the first `i` of them.
+module _ (bs : List ℕ) (bytes : Bytes bs) {first : ℕ} (o : AcceptedAt bs first) where
+  pub opened_small : Small bs first
+  opened_small =
+      let within = accepted_within bs bytes o.accepted in
       record {
         first_most = omega (arith, o.first_is, within.states, within.finals);
-        arcs_are = length_arcs bs bytes ok;
+        arcs_are = length_arcs bs bytes o.accepted;
         arcs_most = within.arcs;
-        long = omega (arith, o.first_is, length_accepted bs bytes ok);
+        long = omega (arith, o.first_is, length_accepted bs bytes o.accepted);
       }
 
-  pub marking_inside : {i place : ℕ} {index : List ℕ} → i < head_arcs bs → EndsMarking bs i place index → place + 12 ≤ length bs
-  marking_inside h m = omega (arith, length_accepted bs bytes ok, m.there)
-
-  pub marking_source : {i place : ℕ} {index : List ℕ} (source : ℕ) → i < head_arcs bs → source ≡ two bs place → EndsMarking bs i place index
-      → source < max_states
-  unfolding arc arc_at
-  marking_source {i} source h e m =
-      let l : i < length (decode bs).arcs = omega (arith, length_arcs bs bytes ok) in
-      let below = (arc_states_below (decode bs) (accepted_good bs bytes ok) i no_arc l).0 in
-      let here = ap (λ (a : Arc). a.source) (arc_offset bs bytes ok i l) in
-      let is : source ≡ two bs (arcs_at (head_finals bs) + arc_bytes * i + 4) = e ∙ ap (two bs) m.there in
-      omega (arith, below, here, is, decode_states bs bytes ok, (accepted_within bs bytes ok).states)
-
-  pub marking_next : {i place : ℕ} {index : List ℕ} (source : ℕ) → i < head_arcs bs → source ≡ two bs place → EndsMarking bs i place index →
-      EndsMarking bs (i + 1) (place + 16) (set index (source + 1) (i + 1))
+  -- The source of an arc stands in its record.
+  source_at : (i place : ℕ) → place ≡ first + arc_bytes * i + 4 → i < length (decode bs).arcs → (arc (decode bs) i).source ≡ two bs place
   unfolding arc_at
-  marking_next {i} {place} {index} source h e m =
-      let from : ℕ = arcs_at (head_finals bs) in
-      let a : Arc = arc_at bs (from + arc_bytes * i) in
-      let old : List Arc = places i from 16 (arc_at bs) in
-      let is : source ≡ a.source = e ∙ ap (two bs) m.there in
-      let more : places (i + 1) from 16 (arc_at bs) ≡ old ++ (a ∷ []) = rw add-one (places_snoc i from 16 (arc_at bs)) in
-      let stay : sources_stay 0 (places (head_arcs bs) from 16 (arc_at bs)) ≡ true =
-      rw (decode_arcs bs bytes ok) at (sources_stay_good (decode bs) (accepted_good bs bytes ok)) in
-      let stay_more : sources_stay 0 (old ++ (a ∷ [])) ≡ true =
-      rw (← more, ← take_places (i + 1) (head_arcs bs) from 16 (arc_at bs) (omega arith))
-      (stay_take 0 (i + 1) (places (head_arcs bs) from 16 (arc_at bs)) stay) in
-      let below : a.source < max_states = omega (arith, marking_source source h e m) in
-      let next : EndsMarked (old ++ (a ∷ [])) (set index (source + 1) (i + 1)) =
-      marked_next old a index source i is (sym (length_places i from 16 (arc_at bs))) stay_more below m.marked in
-      record { within = omega arith; there = omega (arith, m.there); marked = rw more next }
+  source_at i place e h =
+      let there : arcs_at (head_finals bs) + arc_bytes * i + 4 ≡ place = omega (arith, o.first_is) in
+      ap (λ (a : Arc). a.source) (arc_offset bs bytes o.accepted i h) ∙ ap (two bs) there
 
-  -- The first `i` arcs, where they stand.
-  first_places : (i : ℕ) → i ≤ head_arcs bs → take i (decode bs).arcs ≡ places i (arcs_at (head_finals bs)) 16 (arc_at bs)
-  first_places i h = rw (decode_arcs bs bytes ok) (take_places i (head_arcs bs) (arcs_at (head_finals bs)) 16 (arc_at bs) h)
+  pub marking_source : {i place : ℕ} (source : ℕ) → place ≡ first + arc_bytes * i + 4 → i < length (decode bs).arcs → source ≡ two bs place → source < max_states
+  unfolding arc
+  marking_source {i} {place} source e h is =
+      omega (
+        arith,
+        (arc_states_below (decode bs) (accepted_good bs bytes o.accepted) i no_arc h).0,
+        source_at i place e h,
+        is,
+        decode_states bs bytes o.accepted,
+        (accepted_within bs bytes o.accepted).states,
+      )
 
-  pub marking_first : {i place : ℕ} {index : List ℕ} → i ≤ head_arcs bs → place ≡ arcs_at (head_finals bs) + arc_bytes * i + 4 →
-      EndsMarked (take i (decode bs).arcs) index → EndsMarking bs i place index
-  marking_first {i} h e m = record { within = h; there = e; marked = rw (first_places i h) at m }
-
-  pub marking_stop : {i place : ℕ} {index : List ℕ} → EndsMarking bs i place index → EndsMarked (take i (decode bs).arcs) index
-  marking_stop {i} m = rw (first_places i m.within) m.marked
+  pub marking_next : {i place : ℕ} {index : List ℕ} (source : ℕ) → place ≡ first + arc_bytes * i + 4 → i < length (decode bs).arcs → source ≡ two bs place →
+      EndsMarked (take i (decode bs).arcs) index → EndsMarked (take (i + 1) (decode bs).arcs) (set index (source + 1) (i + 1))
+  unfolding arc
+  marking_next {i} {place} {index} source e h is m =
+      let xs : List Arc = (decode bs).arcs in
+      let a : Arc = arc (decode bs) i in
+      let same : source ≡ a.source = is ∙ sym (source_at i place e h) in
+      let more : take (i + 1) xs ≡ take i xs ++ (a ∷ []) = rw add-one (take-suc xs i no_arc h) in
+      let stay : sources_stay 0 (take i xs ++ (a ∷ [])) ≡ true =
+      rw (← more) (stay_take 0 (i + 1) xs (sources_stay_good (decode bs) (accepted_good bs bytes o.accepted))) in
+      let below : a.source < max_states = omega (arith, marking_source source e h is) in
+      rw more (marked_next (take i xs) a index source i same (sym (length-take-le i xs (omega arith))) stay below m)
 
   -- A block of arcs of one source: the marks of the earlier ones are overwritten.
-  marking_run : (k source : ℕ) {i place : ℕ} {index : List ℕ} → i + suc k ≤ head_arcs bs → ((j : ℕ) → j ≤ k → source ≡ two bs (place + arc_bytes * j)) →
-      EndsMarking bs i place index → EndsMarking bs (i + suc k) (place + arc_bytes * suc k) (set index (source + 1) (i + suc k))
-  marking_run zero source {i} {place} h e m =
-      let none : place + arc_bytes * 0 ≡ place = omega arith in
-      let here : source ≡ two bs place = rw none at (e 0 (omega arith)) in
-      marking_next source (omega arith) here m
-  marking_run (suc k) source {i} {place} {index} h e m =
+  marking_run : (k source i : ℕ) {place : ℕ} {index : List ℕ} → place ≡ first + arc_bytes * i + 4 → i + suc k ≤ length (decode bs).arcs →
+      ((j : ℕ) → j ≤ k → source ≡ two bs (place + arc_bytes * j)) →
+      EndsMarked (take i (decode bs).arcs) index → EndsMarked (take (i + suc k) (decode bs).arcs) (set index (source + 1) (i + suc k))
+  marking_run zero source i {place} at h e m = marking_next source (omega arith) (omega arith) (e 0 (omega arith)) m
+  marking_run (suc k) source i {place} {index} at h e m =
       let more : i + suc (suc k) ≡ i + suc k + 1 = omega arith in
-      let further : place + arc_bytes * suc (suc k) ≡ place + arc_bytes * suc k + 16 = omega arith in
-      let before : EndsMarking bs (i + suc k) (place + arc_bytes * suc k) (set index (source + 1) (i + suc k)) =
-      marking_run k source (omega arith) (λ j l. e j (omega arith)) m in
-      rw (more, further, ← set_twice index (source + 1) (i + suc k) (i + suc k + 1)) (marking_next source (omega arith) (e (suc k) (omega arith)) before)
+      let before : EndsMarked (take (i + suc k) (decode bs).arcs) (set index (source + 1) (i + suc k)) =
+      marking_run k source i at (omega arith) (λ j l. e j (omega arith)) m in
+      rw (more, ← set_twice index (source + 1) (i + suc k) (i + suc k + 1)) (marking_next source (omega arith) (omega arith) (e (suc k) (omega arith)) before)
 
-  source_at : (i j place : ℕ) → place ≡ arcs_at (head_finals bs) + arc_bytes * i + 4 → i + j < head_arcs bs →
-      (get_or (decode bs).arcs (i + j) no_arc).source ≡ two bs (place + arc_bytes * j)
-  unfolding arc arc_at
-  source_at i j place e h =
-      let there : arcs_at (head_finals bs) + arc_bytes * (i + j) + 4 ≡ place + arc_bytes * j = omega arith in
-      ap (λ (a : Arc). a.source) (arc_offset bs bytes ok (i + j) (omega (arith, length_arcs bs bytes ok))) ∙ ap (two bs) there
-
-  pub marking_block : {i place : ℕ} {index : List ℕ} (source : ℕ) → i + 128 ≤ head_arcs bs → source ≡ two bs place → source ≡ two bs (place + 2032) →
-      EndsMarking bs i place index → EndsMarking bs (i + 128) (place + 2048) (set index (source + 1) (i + 128))
-  marking_block {i} {place} source h first last m = marking_run 127 source h same m
+  pub marking_block : (i source : ℕ) {place : ℕ} {index : List ℕ} → place ≡ first + arc_bytes * i + 4 → i + 128 ≤ length (decode bs).arcs →
+      source ≡ two bs place → source ≡ two bs (place + 2032) →
+      EndsMarked (take i (decode bs).arcs) index → EndsMarked (take (i + 128) (decode bs).arcs) (set index (source + 1) (i + 128))
+  unfolding arc
+  marking_block i source {place} at h low high m = marking_run 127 source i at h same m
     where
       rises : (j k : ℕ) → j ≤ k → k ≤ 127 → two bs (place + arc_bytes * j) ≤ two bs (place + arc_bytes * k)
       rises j k p q =
           omega (
             arith,
-            source_at i j place m.there (omega arith),
-            source_at i k place m.there (omega arith),
-            stay_rises 0 (decode bs).arcs (i + j) (i + k) (sources_stay_good (decode bs) (accepted_good bs bytes ok)) (omega arith)
-                (omega (arith, length_arcs bs bytes ok)),
+            source_at (i + j) (place + arc_bytes * j) (omega arith) (omega arith),
+            source_at (i + k) (place + arc_bytes * k) (omega arith) (omega arith),
+            stay_rises 0 (decode bs).arcs (i + j) (i + k) (sources_stay_good (decode bs) (accepted_good bs bytes o.accepted)) (omega arith) (omega arith),
           )
 
       same : (j : ℕ) → j ≤ 127 → source ≡ two bs (place + arc_bytes * j)
       same j p =
           let none : place + arc_bytes * 0 ≡ place = omega arith in
-          let low : two bs place ≤ two bs (place + arc_bytes * j) = rw none at (rises 0 j (omega arith) p) in
-          omega (arith, low, rises j 127 p (omega arith))
+          let from : two bs place ≤ two bs (place + arc_bytes * j) = rw none at (rises 0 j (omega arith) p) in
+          omega (arith, from, rises j 127 p (omega arith))
 
 -- Once all arcs are marked.
 pub marked_all : (xs : List Arc) {arcs : ℕ} {index : List ℕ} → arcs ≡ length xs → EndsMarked (take arcs xs) index → EndsMarked xs index

@@ -1,12 +1,12 @@
 -- What an accepted head says: its numbers are those of the transducer, and in range. Assumes nothing.
 use Rattle.std.proofs.Common.{◌≡◌, ℕ, ◌<◌, ◌≤◌, List, length, sym, ap, ◌∙◌, arith}
 use Rattle.wire.specs.Bytes.{Bytes}
-use Rattle.transducer.specs.declared.Header.{Header}
+use Rattle.transducer.specs.declared.Head.{Head}
 use Rattle.transducer.specs.Format.{max_states, max_arcs, head_bytes, arcs_at, decode, refusal, head_arcs, head_finals, head_start}
-use Rattle.transducer.specs.Accepted.{header_of, AcceptedAt}
+use Rattle.transducer.specs.Accepted.{head_in, AcceptedAt}
 use Rattle.transducer.proofs.Offsets.{length_accepted, accepted_within, decode_states, decode_start, length_finals, length_arcs}
 
-pub record Headed (bs : List ℕ) (head : Header) : Type 0 where
+pub record Headed (bs : List ℕ) (head : Head) : Type 0 where
   pub opened : AcceptedAt bs (arcs_at head.finals)
   pub states_are : head.states ≡ (decode bs).states
   pub arcs_are : head.arcs ≡ length (decode bs).arcs
@@ -23,14 +23,13 @@ pub record Headed (bs : List ℕ) (head : Header) : Type 0 where
 pub head_inside : (bs : List ℕ) → Bytes bs → refusal bs ≡ 0 → head_bytes ≤ length bs
 head_inside bs bytes ok = omega (arith, length_accepted bs bytes ok)
 
-pub headed : (bs : List ℕ) → Bytes bs → refusal bs ≡ 0 → (head : Header) → head ≡ header_of bs → Headed bs head
-unfolding header_of
+pub headed : (bs : List ℕ) → Bytes bs → refusal bs ≡ 0 → (head : Head) → head ≡ head_in bs → Headed bs head
 headed bs bytes ok head e =
     let within = accepted_within bs bytes ok in
-    let n : head.states ≡ (decode bs).states = ap (λ (h : Header). h.states) e ∙ sym (decode_states bs bytes ok) in
-    let m : head.arcs ≡ head_arcs bs = ap (λ (h : Header). h.arcs) e in
-    let f : head.finals ≡ head_finals bs = ap (λ (h : Header). h.finals) e in
-    let s : head.start ≡ head_start bs = ap (λ (h : Header). h.start) e in
+    let n : head.states ≡ (decode bs).states = ap (λ (h : Head). h.states) e ∙ sym (decode_states bs bytes ok) in
+    let m : head.arcs ≡ head_arcs bs = ap (λ (h : Head). h.arcs) e in
+    let f : head.finals ≡ head_finals bs = ap (λ (h : Head). h.finals) e in
+    let s : head.start ≡ head_start bs = ap (λ (h : Head). h.start) e in
     record {
       opened = record { accepted = ok; first_is = omega (arith, f) };
       states_are = n;
@@ -47,5 +46,5 @@ headed bs bytes ok head e =
     }
 
 -- Where the arcs begin, as it is computed.
-pub headed_opened : (bs : List ℕ) (head : Header) (first : ℕ) → Headed bs head → first ≡ arcs_at head.finals → AcceptedAt bs first
+pub headed_opened : (bs : List ℕ) (head : Head) (first : ℕ) → Headed bs head → first ≡ arcs_at head.finals → AcceptedAt bs first
 headed_opened bs head first h e = rw e h.opened

@@ -22,6 +22,7 @@ pub mod Encode
 pub mod WriteBack
 pub mod RoundTrip
 -- What answers are made of.
+pub mod Numbered
 pub mod Answers
 -- Arcs and finals by state: the two indexes, and what each arc of a state gives.
 pub mod Index

@@ -10,31 +10,30 @@ use Rattle.transducer.proofs.Offsets.{decode_arcs}
 abbrev pub named_from : (bs : List ℕ) → (count at : ℕ) → Bool
 named_from bs count at = every (λ a. ltb a.input any) (places count at 16 (arc_at bs))
 
-pub record NameSearch (bs : List ℕ) (at count place i : ℕ) : Type 0 where
-  pub within : i ≤ count
-  pub there : place ≡ at + arc_bytes * i
-  pub same : named_from bs (count - i) place ≡ named_from bs count at
+-- What is left of the search, when it has come to i, gives the whole.
+pub record NameSearch (bs : List ℕ) (at count i : ℕ) : Type 0 where
+  pub same : named_from bs (count - i) (at + arc_bytes * i) ≡ named_from bs count at
 
-pub searching_first : (bs : List ℕ) (at count : ℕ) → NameSearch bs at count at 0
+pub searching_first : (bs : List ℕ) (at count : ℕ) → NameSearch bs at count 0
 searching_first bs at count =
     let all : count - 0 ≡ count = omega arith in
-    record { within = omega arith; there = omega arith; same = rw all refl }
+    let front : at + arc_bytes * 0 ≡ at = omega arith in
+    record { same = rw (all, front) refl }
 
-module _ {bs : List ℕ} {at count place i : ℕ} (s : NameSearch bs at count place i) where
-  step : i < count → named_from bs (count - i) place ≡ ltb (two bs (place + 6)) any && named_from bs (count - (i + 1)) (place + 16)
+module _ {bs : List ℕ} {at count i : ℕ} (s : NameSearch bs at count i) where
+  step : i < count → named_from bs (count - i) (at + arc_bytes * i)
+      ≡ ltb (two bs (at + arc_bytes * i + 6)) any && named_from bs (count - (i + 1)) (at + arc_bytes * (i + 1))
   unfolding every places arc_at
-  step l = let more : count - i ≡ suc (count - (i + 1)) = omega arith in rw more
+  step l =
+      let more : count - i ≡ suc (count - (i + 1)) = omega arith in
+      let next : at + arc_bytes * (i + 1) ≡ at + arc_bytes * i + 16 = omega arith in
+      rw (more, next)
 
-  pub searching_any : i < count → two bs (place + 6) ≡ any → false ≡ named_from bs count at
+  pub searching_any : i < count → two bs (at + arc_bytes * i + 6) ≡ any → false ≡ named_from bs count at
   searching_any l e = (rw (e, le-ltb any any (omega arith)) at (sym (step l))) ∙ s.same
 
-  pub searching_next : i < count → two bs (place + 6) < any → NameSearch bs at count (place + 16) (i + 1)
-  searching_next l h =
-      record {
-        within = omega arith;
-        there = omega (arith, s.there);
-        same = (rw (lt-ltb (two bs (place + 6)) any h) at (sym (step l))) ∙ s.same;
-      }
+  pub searching_next : i < count → two bs (at + arc_bytes * i + 6) < any → NameSearch bs at count (i + 1)
+  searching_next l h = record { same = (rw (lt-ltb (two bs (at + arc_bytes * i + 6)) any h) at (sym (step l))) ∙ s.same }
 
   pub searching_stop : count ≤ i → true ≡ named_from bs count at
   unfolding every places

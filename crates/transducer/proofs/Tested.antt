@@ -3,7 +3,7 @@ use Rattle.std.proofs.Common.{◌≡◌, ℕ, ◌+◌, ◌*◌, ◌<◌, true, f
 use Rattle.wire.specs.Bytes.{Bytes, four, places, every}
 use Rattle.wire.proofs.Bool.{and-true, true_and, clash}
 use Rattle.transducer.specs.declared.Arc.{Arc}
-use Rattle.transducer.specs.declared.Validation.{Validation}
+use Rattle.transducer.specs.Answer.{Validation}
 use Rattle.transducer.specs.Format.{head_bytes, final_bytes, decode, head_states, head_arcs, head_finals, head_start, head_good, first_of}
 use Rattle.transducer.specs.Format.{refusal, arcs_at, arc_bytes, arc_at}
 use Rattle.transducer.specs.Format.{min_weight, weight_good}

@@ -2,14 +2,18 @@
 use Rattle.std.specs.Prelude.{◌≡◌, ℕ, suc, ◌+◌, ◌<◌, ◌≤◌, max, true, cond, List, [], ◌∷◌, length, ◌==◌, ◌≢◌, nat_lt, slice_index, slice_index_or}
 use Rattle.transducer.specs.declared.Arc.{Arc}
 use Rattle.transducer.specs.declared.Final.{Final}
-use Rattle.transducer.specs.declared.Header.{Header}
-use Rattle.transducer.specs.declared.Validation.{Validation}
+use Rattle.transducer.specs.declared.Head.{Head}
 use Rattle.transducer.specs.Format.{Transducer, max_states, arcs_at, decode, refusal, head_states, head_arcs, head_finals, head_start}
 use Rattle.transducer.specs.Path.{arc, is_final, final_weight}
+use Rattle.transducer.specs.Answer.{Header, Validation}
 use Rattle.transducer.specs.Each.{fits, has_no_any_input}
 use Rattle.transducer.specs.Weight.{AtMost, code_of}
 
--- The head's four numbers, as an answer that is no refusal.
+-- The head's four numbers.
+abbrev pub head_in : List ℕ → Head
+head_in bs = record { states = head_states bs; arcs = head_arcs bs; finals = head_finals bs; start = head_start bs }
+
+-- The same numbers as an answer that is no refusal.
 unfoldable pub header_of : List ℕ → Header
 header_of bs =
     record { refusal = 0; states = head_states bs; arcs = head_arcs bs; finals = head_finals bs; start = head_start bs }

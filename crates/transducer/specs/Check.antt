@@ -1,5 +1,5 @@
 -- The tests of refusals 5 to 8, gathered in one pass over the finals and the arcs. Assumes nothing: these are definitions.
-use Rattle.std.specs.Prelude.{◌≡◌, ℕ, zero, suc, ◌+◌, ◌*◌, ◌/◌, ◌%◌, ◌<◌, ◌≤◌, Bool, true, false, cond, not, ◌&&◌, List, ◌==◌, ◌≢◌, nat_le, nat_lt}
+use Rattle.std.specs.Prelude.{◌≡◌, ℕ, zero, suc, ◌+◌, ◌*◌, ◌/◌, ◌%◌, ◌<◌, ◌≤◌, Bool, true, false, cond, not, ◌&&◌, List, Option, Some, is_some, ◌==◌, nat_le, nat_lt}
 use Rattle.wire.specs.Bytes.{two, four}
 use Rattle.transducer.specs.declared.Arc.{Arc}
 use Rattle.transducer.specs.declared.Final.{Final}
@@ -135,12 +135,10 @@ abbrev pub Seen : (bs : List ℕ) (at end n : ℕ) (each : Bool) (floor last any
 Seen bs at end n each floor last any all place =
     (count : ℕ) → end ≡ at + arc_bytes * count → FastChecked bs at count n each floor last any all (rebate 0) place
 
--- What the fast check of arcs answers: `unsure`, or the source of the last where each passes each test, the floor where there are none.
-abbrev pub unsure : ℕ
-unsure = 4294967295
-
-pub record Plain (bs : List ℕ) (at count n floor r : ℕ) : Type 0 where
-  pub all_pass : (r ≢ unsure) → (c : Checks) → c.floor ≡ floor → arcs_checked count at arc_bytes n (four bs) (arc_at bs) c ≡ with_floor r c
+-- What the fast check of arcs answers, if it is sure that each passes each test: the source of the last, the floor where there are none.
+pub record Plain (bs : List ℕ) (at count n floor : ℕ) (r : Option ℕ) : Type 0 where
+  pub all_pass : (last : ℕ) → r ≡ Some last → (c : Checks) → c.floor ≡ floor →
+      arcs_checked count at arc_bytes n (four bs) (arc_at bs) c ≡ with_floor last c
 
 -- No good weight of `count` arcs from `at` on is below `least`.
 pub record NoneBelow (bs : List ℕ) (at count : ℕ) (least : Weight) : Type 0 where
@@ -163,7 +161,7 @@ pub record FastCheckSays (bs : List ℕ) (at count n floor : ℕ) (g : FastCheck
   pub light : NoneBelow bs at count g.least
   pub top_sorted : g.top_sorted ≡ true → EachUp bs at count
   pub no_output_epsilon : g.no_output_epsilon ≡ true → EachWrites bs at count
-  pub has_no_any_input : (g.last ≢ unsure) → EachNamed bs at count
+  pub has_no_any_input : is_some g.last ≡ true → EachNamed bs at count
 
 -- The tests of all records, at the places that f finals and m arcs give.
 unfoldable pub all_checked : List ℕ → (n m f : ℕ) → Checks

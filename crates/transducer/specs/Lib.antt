@@ -5,6 +5,7 @@ pub mod Encode
 pub mod Path
 pub mod Each
 pub mod Entry
+pub mod Answer
 -- What only inner contracts cite
 pub mod Check
 pub mod Accepted

@@ -2,18 +2,18 @@
 ghost use Rattle.std.specs.Prelude.{◌≡◌, ◌+◌, ◌*◌, ◌^◌, ◌<◌, ◌≤◌, max, true, length, take, replicate};
 ghost use Rattle.transducer.specs.Format.{max_states, index_long, head_bytes, Transducer, refusal, decode, head_finals, weight_good};
 ghost use Rattle.transducer.specs.Path.{arc};
-ghost use Rattle.transducer.specs.Accepted.{header_of, AcceptedAt, EndsMarked, Indexed, FinalsByState, max_code};
+ghost use Rattle.transducer.specs.Accepted.{head_in, AcceptedAt, EndsMarked, Indexed, FinalsByState, max_code};
 ghost use Rattle.transducer.specs.Weight.{magnitude, plus, code_of, weight_of};
 
-use crate::{Arc, Header, check};
+use crate::{Arc, Head, check};
 
 // The head's four numbers.
-pub fn header(bytes: &[u8]) -> Header
+#[tactic(auto, unfolding(crate::specs::Format::head_states, crate::specs::Format::head_arcs, crate::specs::Format::head_finals, crate::specs::Format::head_start))]
+pub fn header(bytes: &[u8]) -> Head
     requires { head_bytes ≤ length bytes.now }
-    ensures { result ≡ header_of bytes.now }
+    ensures { result ≡ head_in bytes.now }
 {
-    Header {
-        refusal: 0,
+    Head {
         states: wire::u16_at(bytes, 4) as u32,
         arcs: wire::u16_at(bytes, 6) as u32,
         finals: wire::u16_at(bytes, 8) as u32,
@@ -29,15 +29,10 @@ pub fn arc_of(bytes: &[u8], first: usize, i: usize) -> Arc
     check::load_arc(bytes, first + bounds::ARC_BYTES * i)
 }
 
-// The larger of two numbers.
-fn larger(a: u16, b: u16) -> u16
-    ensures { result ≡ max a b }
-{
-    if a < b {
-        return b;
-    }
-    a
-}
+// Arcs are marked by blocks of this many, a power of two: how many blocks there are is told without a division.
+const BLOCK: usize = 128;
+
+const BLOCK_SHIFT: u32 = 7;
 
 // Marks the arcs from `from` to below `to` one by one: one place up from its source stands the number of an arc and one more.
 fn mark_each(
@@ -51,17 +46,13 @@ fn mark_each(
         × EndsMarked (take from (decode bytes.now).arcs) index.old }
     ensures { EndsMarked (take to (decode bytes.now).arcs) index.new }
 {
-    let mut i = from;
-    let mut place = first + bounds::ARC_BYTES * from + 4;
-    while i < to {
-        let source = wire::u16_at(bytes, place) as usize;
-        i += 1;
-        index[source + 1] = i as u16;
-        place += bounds::ARC_BYTES;
+    for i in from..to {
+        let source = wire::u16_at(bytes, first + bounds::ARC_BYTES * i + 4) as usize;
+        index[source + 1] = (i + 1) as u16;
     }
 }
 
-// Marks 128 arcs. Sources never fall: where the first and the last have the same, so have all between, and the last mark stays.
+// Marks a block of arcs. Sources never fall: where the first and the last have the same, so have all between, and the last mark stays.
 fn mark_block(bytes: &[u8], first: usize, from: usize, index: &mut [u16; bounds::INDEX_LEN])
     requires { AcceptedAt bytes.now first × (from + 128 ≤ length (decode bytes.now).arcs)
         × EndsMarked (take from (decode bytes.now).arcs) index.old }
@@ -69,11 +60,11 @@ fn mark_block(bytes: &[u8], first: usize, from: usize, index: &mut [u16; bounds:
 {
     let place = first + bounds::ARC_BYTES * from + 4;
     let source = wire::u16_at(bytes, place) as usize;
-    if source != wire::u16_at(bytes, place + 2032) as usize {
-        mark_each(bytes, first, from, from + 128, index);
+    if source != wire::u16_at(bytes, place + bounds::ARC_BYTES * (BLOCK - 1)) as usize {
+        mark_each(bytes, first, from, from + BLOCK, index);
         return;
     }
-    index[source + 1] = (from + 128) as u16;
+    index[source + 1] = (from + BLOCK) as u16;
 }
 
 // Takes the running maximum of the marks.
@@ -81,32 +72,15 @@ fn raise(states: usize, index: &mut [u16; bounds::INDEX_LEN])
     requires { (states ≤ max_states) × (length index.old ≡ index_long) }
     ensures { (t : Transducer) → t.states ≡ states → EndsMarked t.arcs index.old → Indexed t index.new }
 {
-    let mut s = 0;
     let mut most = 0;
-    while s < states {
-        s += 1;
-        most = larger(most, index[s]);
-        index[s] = most;
+    for s in 0..states {
+        most = most.max(index[s + 1]);
+        index[s + 1] = most;
     }
 }
 
-// The first-arc index: at each state up to and with the number of states, how many arcs leave states below it.
-pub fn first_arcs(
-    bytes: &[u8],
-    first: usize,
-    states: usize,
-    arcs: usize,
-) -> [u16; bounds::INDEX_LEN]
-    requires { AcceptedAt bytes.now first × (states ≡ (decode bytes.now).states) × (arcs ≡ length (decode bytes.now).arcs) }
-    ensures { Indexed (decode bytes.now) result }
-{
-    let mut index = [0u16; bounds::INDEX_LEN];
-    mark_each(bytes, first, 0, arcs, &mut index);
-    raise(states, &mut index);
-    index
-}
-
-// The same by blocks, into an array of zeros: quicker where a state has many arcs.
+// Puts the first-arc index into an array of zeros: at each state up to and with the number of states, how many arcs leave states below it. It goes by blocks,
+// which is quicker where a state has many arcs.
 pub fn put_index(
     bytes: &[u8],
     first: usize,
@@ -118,28 +92,12 @@ pub fn put_index(
         × (index.old ≡ replicate index_long 0) }
     ensures { Indexed (decode bytes.now) index.new }
 {
-    let mut i = 0;
-    while i + 128 <= arcs {
-        mark_block(bytes, first, i, index);
-        i += 128;
+    let blocks = arcs >> BLOCK_SHIFT;
+    for block in 0..blocks {
+        mark_block(bytes, first, BLOCK * block, index);
     }
-    mark_each(bytes, first, i, arcs, index);
+    mark_each(bytes, first, BLOCK * blocks, arcs, index);
     raise(states, index);
-}
-
-// The index by blocks. It is too long to be compiled into its callers, and composition is then slower.
-pub fn first_arcs_by_blocks(
-    bytes: &[u8],
-    first: usize,
-    states: usize,
-    arcs: usize,
-) -> [u16; bounds::INDEX_LEN]
-    requires { AcceptedAt bytes.now first × (states ≡ (decode bytes.now).states) × (arcs ≡ length (decode bytes.now).arcs) }
-    ensures { Indexed (decode bytes.now) result }
-{
-    let mut index = [0u16; bounds::INDEX_LEN];
-    put_index(bytes, first, states, arcs, &mut index);
-    index
 }
 
 // A cost with a weight more.
@@ -166,27 +124,13 @@ pub fn weight_of(code: u32) -> i32
 }
 
 // Stores the final codes in an array of zeros: the code of a state's final weight, 0 where it is not final.
+// A code is a number and no Option, which would double the array: memory is fixed, and an array of zeros has no finals.
 pub fn put_codes(bytes: &[u8], finals: usize, codes: &mut [u32; bounds::MAX_STATES])
     requires { (refusal bytes.now ≡ 0) × (finals ≡ head_finals bytes.now) × (codes.old ≡ replicate max_states 0) }
     ensures { FinalsByState (decode bytes.now) codes.new }
 {
-    let mut i = 0;
-    let mut place = bounds::HEAD_BYTES;
-    while i < finals {
-        let f = check::load_final(bytes, place);
-        let state = f.state as usize;
-        codes[state] = code_of(f.weight);
-        place += bounds::FINAL_BYTES;
-        i += 1;
+    for i in 0..finals {
+        let f = check::load_final(bytes, bounds::HEAD_BYTES + bounds::FINAL_BYTES * i);
+        codes[f.state as usize] = code_of(f.weight);
     }
-}
-
-// The final codes.
-pub fn final_codes(bytes: &[u8], finals: usize) -> [u32; bounds::MAX_STATES]
-    requires { (refusal bytes.now ≡ 0) × (finals ≡ head_finals bytes.now) }
-    ensures { FinalsByState (decode bytes.now) result }
-{
-    let mut codes = [0u32; bounds::MAX_STATES];
-    put_codes(bytes, finals, &mut codes);
-    codes
 }

@@ -12,14 +12,10 @@ fn no_any_among(bytes: &[u8], at: usize, count: usize) -> bool
     requires { at + arc_bytes * count ≤ length bytes.now }
     ensures { result ≡ every (λ a. nat_lt a.input any) (places count at arc_bytes (arc_at bytes.now)) }
 {
-    let mut place = at;
-    let mut i = 0;
-    while i < count {
-        if wire::u16_at(bytes, place + 6) == bounds::ANY {
+    for i in 0..count {
+        if wire::u16_at(bytes, at + bounds::ARC_BYTES * i + 6) == bounds::ANY {
             return false;
         }
-        place += bounds::ARC_BYTES;
-        i += 1;
     }
     true
 }
@@ -42,6 +38,7 @@ pub fn no_any_input(bytes: &[u8], known: bool) -> bool
 
 // What the arcs of a state, those from `from` to below `to`, read that fit a symbol, 0 standing for none: the symbol where one of them reads it, else 65,535.
 // Where no arc at all is for any symbol, which `no_any_input` tells, none is asked.
+// 0 and 65,535 are labels of the format, so that they are no enum.
 pub fn label_at(
     bytes: &[u8],
     first: usize,
@@ -57,17 +54,16 @@ pub fn label_at(
     if no_any_input | (symbol == 0) {
         return symbol;
     }
-    let mut i = from;
-    while i < to {
+    for i in from..to {
         if wire::u16_at(bytes, first + bounds::ARC_BYTES * i + 6) == symbol {
             return symbol;
         }
-        i += 1;
     }
     bounds::ANY
 }
 
 // The label that an arc writes for a symbol.
+#[tactic(auto, unfolding(crate::specs::Each::passed))]
 pub fn passed(symbol: u16, a: Arc) -> u16
     ensures { result ≡ passed symbol a }
 {

@@ -6,7 +6,7 @@ ghost use Rattle.transducer.specs.Prepare.{Shaped, Prepared};
 use crate::accepted;
 
 // Where the arcs begin, the numbers of states, arcs and finals, and the start.
-#[derive(Clone, Copy)]
+#[derive(Clone, Copy, Debug, PartialEq, Eq)]
 pub struct Shape {
     pub first: usize,
     pub states: usize,

@@ -4,13 +4,15 @@ ghost use Rattle.std.specs.Prelude.{◌≡◌, ◌+◌, ◌*◌, ◌<◌, true, 
 ghost use Rattle.transducer.specs.Format.{framed, kinds_good, kind_good, records, refusal, arcs_at, arc_bytes, min_weight};
 ghost use Rattle.transducer.specs.Check.{all_checked, diagnosis, NoneBelow, EachUp, EachWrites, EachNamed};
 ghost use Rattle.transducer.specs.Accepted.{ValidationSays};
+ghost use Rattle.transducer.specs.Answer.{validation};
+ghost use Rattle.transducer.specs.Answer.{number, refusal_in};
 
-use crate::{Checks, Validation, check};
+use crate::{Checks, Facts, Refusal, check};
 
 // More facts are gathered only if there are more than this many arcs to a state.
 const MANY: u32 = 16;
 
-// 1: whether records follow one another to the very end.
+// 1: whether records follow one another to the very end. A record tells where the next begins, so there is no index to count.
 fn framing_ok(bytes: &[u8]) -> bool
     ensures { result ≡ framed bytes.now }
 {
@@ -29,6 +31,7 @@ fn framing_ok(bytes: &[u8]) -> bool
 }
 
 // 2: whether the head comes first, then finals, then arcs, each of its length. The framing is known to be right.
+// A record tells where the next begins, so there is no index to count.
 fn kinds_ok(bytes: &[u8]) -> bool
     requires { framed bytes.now ≡ true }
     ensures { result ≡ kinds_good (records bytes.now) }
@@ -57,54 +60,54 @@ fn kinds_ok(bytes: &[u8]) -> bool
 }
 
 // Whether a record of this kind and length may come next.
+// Kinds are the numbers 1, 2 and 3 of the format, and each is compared once: an enum would be no plainer.
+#[tactic(auto, unfolding(crate::specs::Format::kind_good))]
 fn kind_ok(after_arc: bool, kind: u16, size: usize) -> bool
     ensures { result ≡ kind_good after_arc kind size }
 {
-    if kind == 2 {
-        return !after_arc & (size == 6);
+    match kind {
+        2 => !after_arc & (size == 6),
+        3 => size == 12,
+        _ => false,
     }
-    (kind == 3) & (size == 12)
 }
 
 // Which of 1 to 4 holds of bytes whose records do not stand where the head says.
-fn diagnose(bytes: &[u8]) -> u32
-    ensures { result ≡ diagnosis bytes.now }
+#[tactic(auto, unfolding(crate::specs::Check::diagnosis, crate::specs::Format::head_states, crate::specs::Format::head_arcs, crate::specs::Format::head_finals, crate::specs::Format::head_start))]
+fn diagnose(bytes: &[u8]) -> Refusal
+    ensures { number result ≡ diagnosis bytes.now }
 {
     if !framing_ok(bytes) {
-        return 1;
+        return Refusal::Framing;
     }
     if !kinds_ok(bytes) {
-        return 2;
+        return Refusal::Kinds;
     }
     let n = wire::u16_at(bytes, 4) as u32;
     let m = wire::u16_at(bytes, 6) as u32;
     let f = wire::u16_at(bytes, 8) as u32;
     let start = wire::u16_at(bytes, 10) as u32;
     if !bounds::head_ok(n, m, f, start) {
-        return 3;
+        return Refusal::Head;
     }
-    4
+    Refusal::Counts
 }
 
-// The tests of all records, and a weight that none of the arcs is below; `top_sorted` only where each arc leads to a higher state, `no_output_epsilon` only
-// where
-// each writes a label, `no_any_input` only where none is for any symbol.
+// The tests of all records, and what is told of the arcs.
 #[derive(Clone, Copy)]
 struct All {
     checks: Checks,
-    least: i32,
-    top_sorted: bool,
-    no_output_epsilon: bool,
-    no_any_input: bool,
+    facts: Facts,
 }
 
-// The same for the records at the places that the head gives. The arcs come first: what is known of the finals would take registers from that loop.
+// Tests the records at the places that the head gives. The arcs come first: what is known of the finals would take registers from that loop.
+#[tactic(auto, unfolding(crate::specs::Check::from_0, crate::specs::Check::all_checked))]
 fn check_all(bytes: &[u8], n: u32, m: usize, f: usize, close: bool) -> All
     requires { (length bytes.now ≡ arcs_at f + arc_bytes * m) × (f < 65536) }
-    ensures { (result.checks ≡ all_checked bytes.now n m f) × NoneBelow bytes.now (arcs_at f) m result.least
-        × (result.top_sorted ≡ true → EachUp bytes.now (arcs_at f) m) × (result.no_output_epsilon ≡ true
+    ensures { (result.checks ≡ all_checked bytes.now n m f) × NoneBelow bytes.now (arcs_at f) m result.facts.least
+        × (result.facts.top_sorted ≡ true → EachUp bytes.now (arcs_at f) m) × (result.facts.no_output_epsilon ≡ true
         → EachWrites bytes.now (arcs_at f) m)
-        × (result.no_any_input ≡ true → EachNamed bytes.now (arcs_at f) m) }
+        × (result.facts.no_any_input ≡ true → EachNamed bytes.now (arcs_at f) m) }
 {
     let none = Checks {
         heads: true,
@@ -119,66 +122,48 @@ fn check_all(bytes: &[u8], n: u32, m: usize, f: usize, close: bool) -> All
     let finals = check::restart(check::check_finals(bytes, bounds::HEAD_BYTES, f, n, none));
     All {
         checks: check::check_arcs(bytes, at, m, n, finals, seen.last),
-        least: seen.least,
-        top_sorted: seen.top_sorted,
-        no_output_epsilon: seen.no_output_epsilon,
-        no_any_input: seen.last != check::UNSURE,
+        facts: Facts {
+            least: seen.least,
+            top_sorted: seen.top_sorted,
+            no_output_epsilon: seen.no_output_epsilon,
+            no_any_input: seen.last.is_some(),
+        },
     }
 }
 
-// What is told of bytes whose records do not stand where the head says.
-fn misplaced(bytes: &[u8]) -> Validation
-    ensures { (result.refusal ≡ diagnosis bytes.now) × (result.least ≡ min_weight) × (result.top_sorted ≡ false)
-        × (result.no_output_epsilon ≡ false) × (result.no_any_input ≡ false) }
-{
-    Validation {
-        refusal: diagnose(bytes),
-        least: bounds::MIN_WEIGHT,
-        top_sorted: false,
-        no_output_epsilon: false,
-        no_any_input: false,
-    }
-}
-
-// Refusals 1 to 8 of bytes, or 0 where they are accepted, a weight that none of the arcs is below, whether it is known that none is for any symbol, and, if
+// Refuses bytes with one of 1 to 8, or tells of accepted ones a weight that none of the arcs is below, whether it is known that none is for any symbol, and, if
 // `close` is set and states have many arcs, that each leads up and that each writes a label. Linear in the bytes.
-pub fn validate(bytes: &[u8], close: bool) -> Validation
-    ensures { ValidationSays bytes.now result }
+pub fn validate(bytes: &[u8], close: bool) -> Result<Facts, Refusal>
+    ensures { ValidationSays bytes.now (validation result) }
 {
     if bytes.len() < bounds::HEAD_BYTES {
-        return misplaced(bytes);
+        return Err(diagnose(bytes));
     }
     if wire::u32_at(bytes, 0) != check::HEAD_WORD {
-        return misplaced(bytes);
+        return Err(diagnose(bytes));
     }
     let n = wire::u16_at(bytes, 4) as u32;
     let m = wire::u16_at(bytes, 6) as u32;
     let f = wire::u16_at(bytes, 8) as u32;
     let start = wire::u16_at(bytes, 10) as u32;
     if !bounds::head_ok(n, m, f, start) {
-        return misplaced(bytes);
+        return Err(diagnose(bytes));
     }
     if bytes.len() != bounds::arcs_at(f as usize) + bounds::ARC_BYTES * (m as usize) {
-        return misplaced(bytes);
+        return Err(diagnose(bytes));
     }
     let all = check_all(bytes, n, m as usize, f as usize, close & (MANY * n < m));
-    let c = all.checks;
-    if !c.heads {
-        return misplaced(bytes);
+    if !all.checks.heads {
+        return Err(diagnose(bytes));
     }
-    Validation {
-        refusal: check::number(c),
-        least: all.least,
-        top_sorted: all.top_sorted,
-        no_output_epsilon: all.no_output_epsilon,
-        no_any_input: all.no_any_input,
-    }
+    check::verdict(all.checks)?;
+    Ok(all.facts)
 }
 
-// Refusals 1 to 8 of bytes, or 0 where they are accepted. Linear in the bytes.
-pub fn refusal(bytes: &[u8]) -> u32
-    ensures { result ≡ refusal bytes.now }
+// Refuses bytes with one of 1 to 8, or accepts them. Linear in the bytes.
+pub fn ensure_accepted(bytes: &[u8]) -> Result<(), Refusal>
+    ensures { refusal_in result ≡ refusal bytes.now }
 {
-    let seen = validate(bytes, false);
-    seen.refusal
+    validate(bytes, false)?;
+    Ok(())
 }

@@ -11,7 +11,6 @@ use Rattle.transducer.specs.declared.Arc.{Arc}
 use Rattle.transducer.specs.declared.Final.{Final}
 use Rattle.transducer.specs.Format.{Transducer, head_bytes, final_bytes, arcs_at}
 use Rattle.transducer.specs.Encode.{final_record, final_records}
-use Rattle.transducer.specs.Path.{arc}
 use Rattle.transducer.proofs.Encode.{sets_then, length_final_records, final_records_append}
 use Rattle.trim.specs.Trim.{useful, arc_useful, renumbered, kept_finals}
 use Rattle.trim.proofs.TrimmedGood.{moved_final}

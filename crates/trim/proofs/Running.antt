@@ -8,6 +8,7 @@ use native.Mathlib.Decide.{ℕ_discrete}
 use native.Mathlib.Omega.{arith}
 use lib.ListN.{length, get_or, set, replicate, length-set, length-replicate, get_or-replicate}
 use lib.Seq.{get_or-set_same, get_or-set_other}
+use Rattle.std.specs.Int.{from_bool}
 use Rattle.wire.proofs.Bool.{is_true, is_false}
 use Rattle.transducer.specs.declared.Arc.{Arc}
 use Rattle.transducer.specs.declared.Final.{Final}
@@ -40,6 +41,11 @@ running_first f =
 
 pub running_few : {f : ℕ → Bool} {s next : ℕ} {index : List ℕ} → Running f s next index → next ≤ s
 running_few {f} {s} r = omega (arith, r.next_is, count_most s f)
+
+-- A truth as a number is 1 or 0.
+pub from_bool_is : (b : Bool) → from_bool b ≡ cond b 1 0
+from_bool_is true = refl
+from_bool_is false = refl
 
 pub one_more : (f : ℕ → Bool) (s step : ℕ) → step ≡ cond (f s) 1 0 → step ≤ 1
 one_more f s step e = on (f s) e

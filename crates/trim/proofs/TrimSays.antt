@@ -11,7 +11,7 @@ use lib.Seq.{sets, length-sets, sets-eq, length-take-le}
 use borrow.Author.Tests.{lt-ltb, le-ltb, ne_eqb}
 use Rattle.wire.specs.Bytes.{Bytes, cleared}
 use Rattle.wire.proofs.Places.{sets_append}
-use Rattle.transducer.specs.declared.Written.{Written}
+use Rattle.transducer.specs.Answer.{Written}
 use Rattle.transducer.specs.declared.Final.{Final}
 use Rattle.transducer.specs.Format.{max_arcs, max_bytes, head_bytes, final_bytes, arc_bytes, arcs_at}
 use Rattle.transducer.specs.Format.{Transducer, refusal, decode}

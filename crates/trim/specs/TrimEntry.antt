@@ -1,6 +1,6 @@
 -- What trimming answers and leaves behind. Assumes nothing: these are definitions.
 use Rattle.std.specs.Prelude.{◌≡◌, ◌||◌, cond, List, ℕ, ltb, length}
-use Rattle.transducer.specs.declared.Written.{Written}
+use Rattle.transducer.specs.Answer.{Written}
 use Rattle.transducer.specs.Format.{max_arcs, max_bytes, refusal, decode}
 use Rattle.transducer.specs.Encode.{encode}
 use Rattle.transducer.specs.Entry.{or_else, unless, left_in}

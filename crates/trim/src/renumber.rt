@@ -1,5 +1,5 @@
 // The new numbers of the states that lie on accepting paths.
-ghost use Rattle.std.specs.Prelude.{◌≡◌, true, false, ◌&&◌, cond, ℕ, ◌≤◌, ◌<◌, length, get_or};
+ghost use Rattle.std.specs.Prelude.{◌≡◌, true, false, ◌&&◌, ℕ, ◌≤◌, ◌<◌, length, get_or};
 ghost use Rattle.transducer.specs.Format.{Transducer, max_states, decode, head_finals};
 ghost use Rattle.transducer.specs.Accepted.{AcceptedAt};
 ghost use Rattle.reach.specs.Reach.{AllAccessible};
@@ -7,16 +7,6 @@ ghost use Rattle.trim.specs.Trim.{useful};
 ghost use Rattle.trim.specs.Parts.{Renumbered};
 
 use transducer::MAX_STATES;
-
-// 1 where both hold.
-fn both(a: bool, b: bool) -> u16
-    ensures { result ≡ cond (a && b) 1 0 }
-{
-    if a & b {
-        return 1;
-    }
-    0
-}
 
 // At each state up to and with `states`, how many states before it have both marks.
 fn running(
@@ -29,12 +19,10 @@ fn running(
         → ((s : ℕ) → s < states → get_or accessible s false && get_or coaccessible s false ≡ useful t s) → Renumbered t result }
 {
     let mut index = [0u16; MAX_STATES + 1];
-    let mut s = 0;
     let mut next = 0;
-    while s < states {
-        next += both(accessible[s], coaccessible[s]);
-        s += 1;
-        index[s] = next;
+    for s in 0..states {
+        next += u16::from(accessible[s] & coaccessible[s]);
+        index[s + 1] = next;
     }
     index
 }

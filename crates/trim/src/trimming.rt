@@ -5,6 +5,7 @@ ghost use Rattle.transducer.specs.Format.{max_states, max_arcs, max_bytes, head_
 ghost use Rattle.transducer.specs.Format.{refusal, decode, head_finals};
 ghost use Rattle.transducer.specs.Encode.{final_records};
 ghost use Rattle.transducer.specs.Accepted.{AcceptedAt};
+ghost use Rattle.transducer.specs.Answer.{written};
 ghost use Rattle.trim.specs.Trim.{arc_useful, moved, kept_finals};
 ghost use Rattle.trim.specs.Passing.{PassingPut};
 ghost use Rattle.reach.specs.Reach.{AllAccessible};
@@ -12,7 +13,7 @@ ghost use Rattle.trim.specs.Parts.{Renumbered, Trims};
 ghost use Rattle.trim.specs.TrimEntry.{TrimSays, trim_refusal};
 
 use crate::renumber;
-use transducer::{Arc, Final, Written};
+use transducer::{Arc, Final, Refusal};
 
 // Writes the finals that are kept behind the head. Answers how many.
 fn put_finals(
@@ -27,18 +28,16 @@ fn put_finals(
         × (out.new ≡ sets out.old head_bytes
         (final_records (kept_finals (decode bytes.now) (decode bytes.now).finals))) }
 {
-    let mut i = 0;
     let mut count = 0;
-    while i < finals {
+    for i in 0..finals {
         let f = transducer::load_final(bytes, transducer::arcs_at(i));
         let s = f.state as usize;
-        i += 1;
         if index[s] == index[s + 1] {
             continue;
         }
         let kept = Final {
             state: index[s],
-            weight: f.weight,
+            ..f
         };
         transducer::put_final(out, transducer::arcs_at(count), kept);
         count += 1;
@@ -61,14 +60,11 @@ fn put_arcs(
     ensures { PassingPut (arc_useful (decode bytes.now)) (moved (decode bytes.now)) (decode bytes.now).arcs
         at result out.old out.new origins.old origins.new }
 {
-    let mut i = 0;
     let mut count = 0;
-    while i < arcs {
+    for i in 0..arcs {
         let a = transducer::arc_of(bytes, first, i);
         let s = a.source as usize;
         let t = a.target as usize;
-        let number = i;
-        i += 1;
         if index[s] == index[s + 1] {
             continue;
         }
@@ -77,13 +73,11 @@ fn put_arcs(
         }
         let kept = Arc {
             source: index[s],
-            input: a.input,
-            output: a.output,
             target: index[t],
-            weight: a.weight,
+            ..a
         };
         transducer::put_arc(out, at + transducer::ARC_BYTES * count, kept);
-        origins[count] = number as u16;
+        origins[count] = i as u16;
         count += 1;
     }
     count
@@ -94,9 +88,7 @@ fn new_number(index: &[u16; transducer::MAX_STATES + 1], state: u16) -> u16
     requires { state ≤ max_states }
     ensures { result ≡ get_or index.now state 0 }
 {
-    let s = state as usize;
-    let number = index[s];
-    return number;
+    index[state as usize]
 }
 
 // Writes what trimming leaves of accepted bytes, and for each arc the number that it had. Answers the length in bytes. `all_accessible` tells
@@ -115,8 +107,8 @@ pub fn trim_into(table: &[u8], all_accessible: bool, out: &mut [u8], origins: &m
     let index = renumber::renumber(table, first, n, m, f, start, all_accessible);
     if index[start] == index[start + 1] {
         transducer::put_head(out, 1, 0, 0, 0);
-        wire::clear8(out, transducer::HEAD_BYTES);
-        wire::clear16(origins, 0);
+        wire::clear(out, transducer::HEAD_BYTES, 0);
+        wire::clear(origins, 0, 0);
         return transducer::HEAD_BYTES;
     }
     let finals = put_finals(table, f, &index, out);
@@ -130,29 +122,23 @@ pub fn trim_into(table: &[u8], all_accessible: bool, out: &mut [u8], origins: &m
         finals as u16,
         new_number(&index, head.start as u16),
     );
-    wire::clear8(out, end);
-    wire::clear16(origins, arcs);
+    wire::clear(out, end, 0);
+    wire::clear(origins, arcs, 0);
     end
 }
 
 // Trims a transducer into a lent buffer, and hands over one origin for each arc that is kept: its number in the table. Linear in states and arcs.
-pub fn trim(table: &[u8], out: &mut [u8], origins: &mut [u16]) -> Written
+pub fn trim(table: &[u8], out: &mut [u8], origins: &mut [u16]) -> Result<u32, Refusal>
     ensures { TrimSays table.now (trim_refusal table.now (length out.old) (length origins.old))
-        result out.old out.new origins.old origins.new }
+        (written result) out.old out.new origins.old origins.new }
 {
-    let number = transducer::refusal(table);
-    if number != 0 {
-        return transducer::refused(number);
-    }
+    transducer::ensure_accepted(table)?;
     if out.len() < transducer::MAX_BYTES {
-        return transducer::refused(10);
+        return Err(Refusal::Room);
     }
     if origins.len() < transducer::MAX_ARCS {
-        return transducer::refused(10);
+        return Err(Refusal::Room);
     }
     let len = trim_into(table, false, out, origins);
-    Written {
-        refusal: 0,
-        len: len as u32,
-    }
+    Ok(len as u32)
 }

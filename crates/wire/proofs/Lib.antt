@@ -1,8 +1,7 @@
 -- Tests.
 pub mod Bool
--- Lists made place by place, and loops that store towards one.
+-- Lists made place by place.
 pub mod Places
-pub mod Store
 -- Numbers as bytes.
 pub mod Low
 -- Signed numbers: arithmetic, and their bytes.

@@ -2,13 +2,19 @@
 use mathlib.Core.Path.{◌≡◌, sym, ap, ◌∙◌}
 use mathlib.Core.List.{List, [], ◌∷◌, ◌++◌, append_assoc}
 use Prim.Native.Nat.{ℕ, zero, suc, ◌+◌, ◌*◌, ◌/◌, ◌%◌, ◌≤◌, ◌<◌}
-use native.Mathlib.Nat.{add-mul-div_left, div-eq_of_lt, add-mul-mod_self_left, mod-eq_of_lt, add-zero}
+use native.Mathlib.Nat.{add-mul-div_left, div-eq_of_lt, add-mul-mod_self_left, mod-eq_of_lt, add-zero, div-div-eq-div-mul}
 use native.Mathlib.Numerals.{add-one, add-two}
 use native.Mathlib.Omega.{arith}
 use lib.Dec.{lit<}
 use lib.ListN.{length, get_or, drop}
 use lib.Seq.{get_or-drop, drop-append_seam, drop-cons}
+use Rattle.std.proofs.Common.{Fits, w8}
+use Rattle.std.specs.Int.{w32, to_le_bytes}
 use Rattle.wire.specs.Bytes.{Bytes, two, four, low}
+
+-- What the check tells of a slice of bytes.
+pub are_bytes : (bs : List ℕ) → ((i : ℕ) → Fits w8 (get_or bs i 0)) → Bytes bs
+are_bytes bs fits i = (fits i).fits
 
 pub two_below : (bs : List ℕ) (at : ℕ) → Bytes bs → two bs at < 65536
 unfolding two
@@ -68,6 +74,14 @@ four_low xs ys v h =
     let rest : drop (length xs) (xs ++ low 4 v ++ ys) ≡ low 4 v ++ ys = rw append_assoc (drop-append_seam xs (low 4 v ++ ys)) in
     let here : four (drop (length xs) (xs ++ low 4 v ++ ys)) 0 ≡ four (xs ++ low 4 v ++ ys) (length xs + 0) = four_drop (xs ++ low 4 v ++ ys) (length xs) 0 in
     sym (rw add-zero at here) ∙ ap (λ (l : List ℕ). four l 0) rest ∙ four_low_front v ys h
+
+-- The bytes that the kit makes of a number of four bytes.
+pub low_is_bytes : (v : ℕ) → low 4 v ≡ to_le_bytes w32 v
+unfolding low
+low_is_bytes v =
+    let third : v / 256 / 256 ≡ v / 65536 = div-div-eq-div-mul v 256 256 in
+    let fourth : v / 65536 / 256 ≡ v / 16777216 = div-div-eq-div-mul v 65536 256 in
+    rw (third, fourth)
 
 -- two and four, written back
 

@@ -1,5 +1,5 @@
 -- The measure is the number: its digits are those of a tenth of it, and the last one.
-use Rattle.std.proofs.Common.{◌≡◌, ◌+◌, ◌<◌, ◌∙◌, length, arith}
+use Rattle.std.proofs.Common.{arith}
 use Rattle.listing.proofs.Decimal.{decimal_small, decimal_large, length_decimal_small, length_decimal_large}
 use Rattle.listing.proofs.Wrote.{wrote_then}
 use Rattle.listing.proofs.text.+put_decimal.Goals as goal

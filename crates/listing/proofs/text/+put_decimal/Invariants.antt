@@ -1,6 +1,3 @@
-use Rattle.std.proofs.Common.{◌≡◌, [], ◌∷◌, ◌+◌, ◌≤◌, ◌<◌, length, take, ℕ, ◌-◌, ◌*◌}
-use Rattle.transducer.specs.Weight.{magnitude}
-use Rattle.listing.specs.Text.{Wrote, decimal, cost_text, labels_text, line}
 use Rattle.listing.proofs.text.+put_decimal.Given as goal
 
 -- proposed from what the function passes where it calls itself

@@ -1,6 +1,5 @@
 -- The arc as it was read; it leaves its source as it was, makes it better, or would by a path of too many arcs (`relaxes`).
 use borrow.Author.Rules.{rules}
-use borrow.Author.Tests.{not-true, not-false}
 use mathlib.Core.Path.{◌≡◌, ap, ◌∙◌}
 use Prim.Native.Nat.{ℕ, ◌+◌, ◌≤◌, ◌<◌}
 use native.Mathlib.Omega.{arith}

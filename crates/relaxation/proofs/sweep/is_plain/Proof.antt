@@ -1,6 +1,5 @@
 -- Plain only where validation says so.
 use borrow.Author.Rules.{rules}
-use borrow.Author.Tests.{not-false}
 use native.Mathlib.Omega.{arith}
 use Rattle.wire.proofs.Bool.{never}
 use Rattle.wire.proofs.Ints.{bits}

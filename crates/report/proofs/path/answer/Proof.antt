@@ -14,7 +14,7 @@ overflow_cast-result-2 c = omega (arith, c.requires.1)
 
 returns : tie.Need-returns
 returns c =
-    ap (λ (z : Weight). record { refusal = 0; cost = z; arcs = c.args.arcs; labels = c.args.labels }) (to_z-of_z c.ranges.cost)
+    ap (λ (z : Weight). record { cost = z; arcs = c.args.arcs; labels = c.args.labels }) (to_z-of_z c.ranges.cost)
 
 pub answer_spec : {M : Type 1} → statement M
 answer_spec =

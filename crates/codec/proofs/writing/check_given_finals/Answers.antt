@@ -1,0 +1,17 @@
+-- By the laws of `Left`, whose fold takes a final a turn.
+use mathlib.Core.Path.{refl}
+use Rattle.transducer.specs.Check.{finals_checked}
+use Rattle.transducer.proofs.Checked.{left_first, left_next, left_stop}
+use Rattle.codec.proofs.writing.check_given_finals.Goals as goal
+
+pub loop-i-init : goal.loop-i-init
+loop-i-init c = left_first
+
+pub loop-i-preserved : goal.loop-i-preserved
+unfolding finals_checked
+loop-i-preserved c =
+    rw (c.check_final-checks.ensures, c.given_final-f.ensures) (left_next (λ k p d. refl) c.loop-i.invariant c.loop-i-test.true)
+
+pub returns : goal.returns
+unfolding finals_checked
+returns c = left_stop (λ p d. refl) c.loop-i.invariant c.loop-i-test.false

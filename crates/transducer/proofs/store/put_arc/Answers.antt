@@ -1,0 +1,12 @@
+-- Seven stores, each right behind the one before, make the record.
+use Rattle.std.proofs.Common.{to_z-of_z, w32, rules}
+use Rattle.transducer.specs.Encode.{weight_bytes}
+use Rattle.transducer.proofs.Encode.{sets_arc}
+use Rattle.transducer.proofs.store.put_arc.Goals as goal
+
+pub returns : goal.returns
+unfolding weight_bytes
+returns c =
+    let x = c.args in
+    sets_arc x.out.now x.at x.a c.put_u16.ensures c.put_u16-2.ensures c.put_u16-3.ensures c.put_u16-4.ensures c.put_u16-5.ensures c.put_u16-6.ensures
+    (rw (to_z-of_z {w = w32} {z = c.args.a.weight} (search rules)) at c.put_i32.ensures)
