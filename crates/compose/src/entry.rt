@@ -338,11 +338,10 @@ fn write_out(
 {
     let count = w.states;
     let arcs = w.arcs;
-    let f = finish::put_finals(lcodes, rcodes, states, count, table);
-    if w.overflow != 0 || f.overflow {
-        return Some(explore::refuse(table, origins, states, Refusal::Sums));
-    }
-    let finals = f.count;
+    let finals = match finish::put_finals(lcodes, rcodes, states, count, table) {
+        Ok(finals) if w.overflow == 0 => finals,
+        _ => return Some(explore::refuse(table, origins, states, Refusal::Sums)),
+    };
     if room < finals {
         return None;
     }

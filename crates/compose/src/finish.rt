@@ -3,22 +3,22 @@ ghost use Rattle.std.specs.Prelude.{take};
 ghost use Rattle.explore.specs.Walk.{FinalsStored};
 ghost use Rattle.compose.specs.Finished.{key_finals, Finishable};
 
-use explore::FinalsPut;
-use transducer::{FINAL_BYTES, Final, HEAD_BYTES, MAX_STATES};
+use transducer::{FINAL_BYTES, Final, HEAD_BYTES, MAX_STATES, Refusal};
 
-// Writes the finals of `count` states, in order, behind the head.
+// Writes the finals of `count` states, in order, behind the head, and answers how many they are, or that a weight is out of range.
 pub fn put_finals(
     lcodes: &[u32; MAX_STATES],
     rcodes: &[u32; MAX_STATES],
     states: &[u32],
     count: usize,
     table: &mut [u8],
-) -> FinalsPut
+) -> Result<usize, Refusal>
     requires { Finishable lcodes.now rcodes.now states.now count table.old }
     ensures { FinalsStored (key_finals lcodes.now rcodes.now (take count states.now)) result
         table.old table.new }
 {
     let mut finals = 0;
+    // `FinalsStored` has all finals written in both answers, so a weight out of range is kept until the loop ends.
     let mut overflow = false;
     for s in 0..count {
         let x = steps::unpack(states[s]);
@@ -35,8 +35,8 @@ pub fn put_finals(
             finals += 1;
         }
     }
-    FinalsPut {
-        count: finals,
-        overflow: overflow,
+    if overflow {
+        return Err(Refusal::Sums);
     }
+    Ok(finals)
 }

@@ -1,11 +1,12 @@
 -- How it ends: by a sweep that settled all, by a queue that did, or at a path of too many arcs from a state that counts. Assumes nothing.
 use mathlib.Core.Path.{◌≡◌, refl, sym, ◌∙◌}
 use mathlib.Core.Bool.{Bool, true, false}
+use mathlib.Core.Logic.{◌⊎◌, inl, inr}
 use mathlib.Core.List.{List}
 use Prim.Native.Nat.{ℕ, ◌<◌}
 use native.Mathlib.Omega.{arith}
 use lib.ListN.{replicate, get_or-replicate}
-use Rattle.wire.proofs.Bool.{never, clash}
+use Rattle.wire.proofs.Bool.{clash}
 use Rattle.transducer.specs.Format.{Transducer, max_states}
 use Rattle.transducer.specs.Path.{arc}
 use Rattle.transducer.specs.Weight.{Weight}
@@ -38,28 +39,33 @@ module _ (t : Transducer) (z : Sized t) (cs : List Weight) (ls : Sizes) where
   pub swept_ends : (everywhere : Bool) {again : Bool} → SweptSays t cs ls again → again ≡ false → DistancesSay t (counted everywhere t) cs ls true
   swept_ends e s q = settled_says s.cells (fewer (counted e t) (counted_passes e t z.within) (s.settled q))
 
-  -- All states marked.
-  module _ {ms : List Bool} (all : ms ≡ replicate max_states true) where
-    pub drained_ends : (everywhere : Bool) {r : Bool} → Drained t (mark ms) cs ls r → r ≡ true → DistancesSay t (counted everywhere t) cs ls true
-    drained_ends e d q =
-        settled_says d.cells (fewer (counted e t) (counted_passes e t z.within) (record {
-          nearing = d.nearing;
-          onwards = λ i b m. refl;
-          by_arc = λ i b m. d.relaxed q i b (marked (arc t i).source (omega (arith, z.within.leaves i b, z.states)));
-        }))
-      where
-        marked : (s : ℕ) → s < max_states → mark ms s ≡ true
-        marked s b = rw all (get_or-replicate {A = Bool} max_states s true false b)
+  -- All states marked: what counts is settled, or all states do and a cycle below zero stays.
+  pub drained_ends : {ms : List Bool} → ms ≡ replicate max_states true → (everywhere : Bool) {r : Bool} → Drained t (mark ms) cs ls r
+      → (everywhere ≡ true) ⊎ (r ≡ true) → DistancesSay t (counted everywhere t) cs ls r
+  drained_ends {ms} all e {r} d either =
+      record {
+        cells = d.cells;
+        settled = settled;
+        least = λ q. distances_least t z (counted e t) (cost_at cs) (by_state ls) (settled q);
+        falls = λ q. falls q either;
+      }
+    where
+      marked : (s : ℕ) → s < max_states → mark ms s ≡ true
+      marked s b = rw all (get_or-replicate {A = Bool} max_states s true false b)
 
-    pub drained_falls : (everywhere : Bool) → everywhere ≡ true → {r : Bool} → Drained t (mark ms) cs ls r → r ≡ false
-        → DistancesSay t (counted everywhere t) cs ls false
-    drained_falls e is d q =
-        rw is (record {
-          cells = d.cells;
-          settled = λ h. never h;
-          least = λ h. never h;
-          falls = λ _. let f : SomeNegativeCycle t (mark ms) = d.stays q in record { state = f.state; marked = refl; negative_cycle = f.negative_cycle };
-        })
+      settled : r ≡ true → Settled t (counted e t) (cost_at cs) (by_state ls)
+      settled q =
+          fewer (counted e t) (counted_passes e t z.within) (record {
+            nearing = d.nearing;
+            onwards = λ i b m. refl;
+            by_arc = λ i b m. d.relaxed q i b (marked (arc t i).source (omega (arith, z.within.leaves i b, z.states)));
+          })
+
+      falls : r ≡ false → (e ≡ true) ⊎ (r ≡ true) → SomeNegativeCycle t (counted e t)
+      falls q (inl is) =
+          let f : SomeNegativeCycle t (mark ms) = d.stays q in
+          rw is (record { state = f.state; marked = refl; negative_cycle = f.negative_cycle })
+      falls q (inr on) = clash on q
 
   -- Those marked to which the start leads.
   pub reached_ends : {ms : List Bool} → Marked (accessible t.states t) ms → (everywhere : Bool) → everywhere ≡ false → {r : Bool}

@@ -25,11 +25,21 @@ fn costs_by(
         cells.old cells.new }
 {
     let shape = relax::begin(table, costs);
-    if !near::distances(table, shape, true, seen, costs, lens) {
-        return Err(Refusal::NegativeCycle);
-    }
+    near::distances(table, shape, true, seen, costs, lens)?;
     cells::put(shape.states, costs, cells);
     Ok(())
+}
+
+// The costs to come of accepted bytes, by arrays of `N` cells.
+fn costs_in<const N: usize>(table: &[u8], seen: Facts, cells: &mut [i64]) -> Result<(), Refusal>
+    requires { ValidationSays table.now (validated seen) × ((decode table.now).states ≤ N) × (N ≤ max_states)
+        × (max_states ≤ length cells.old) }
+    ensures { CostsSay table.now (accepted_costs_refusal (decode table.now)) (refusal_in result)
+        cells.old cells.new }
+{
+    let mut costs = [0i32; N];
+    let mut lens = [0u32; N];
+    costs_by(table, seen, &mut costs, &mut lens, cells)
 }
 
 // Puts the least cost still to come from each state of accepted bytes, over all paths to a final state, into 1,024 lent cells or more;
@@ -41,13 +51,9 @@ pub fn costs_accepted(table: &[u8], seen: Facts, cells: &mut [i64]) -> Result<()
         cells.old cells.new }
 {
     if relax::is_small(table) {
-        let mut costs = [0i32; relax::FEW_STATES];
-        let mut lens = [0u32; relax::FEW_STATES];
-        return costs_by(table, seen, &mut costs, &mut lens, cells);
+        return costs_in::<{ relax::FEW_STATES }>(table, seen, cells);
     }
-    let mut costs = [0i32; transducer::MAX_STATES];
-    let mut lens = [0u32; transducer::MAX_STATES];
-    costs_by(table, seen, &mut costs, &mut lens, cells)
+    costs_in::<{ transducer::MAX_STATES }>(table, seen, cells)
 }
 
 // The least cost still to come from each state, into 1,024 lent cells.

@@ -1,16 +1,16 @@
 // By state, the least cost to come, the fewest labels at that cost and the fewest arcs with these.
-ghost use Rattle.std.specs.Prelude.{◌≡◌, ℕ};
+ghost use Rattle.std.specs.Prelude.{◌≡◌, ℕ, is_ok, IsOkUnless};
 ghost use Rattle.transducer.specs.Format.{decode};
 ghost use Rattle.transducer.specs.Accepted.{ValidationSays};
 ghost use Rattle.transducer.specs.Answer.{validated};
 ghost use Rattle.relax.specs.Begun.{Cleared, Begun};
 ghost use Rattle.distance.specs.Ended.{counted, DistancesSay, unvalidated};
 
-use transducer::{Facts, MAX_STATES, Shape};
+use transducer::{Facts, MAX_STATES, Refusal, Shape};
 
 // The least cost to come from each state, `everywhere` or where the start leads, with the fewest labels at that cost and the fewest arcs with these; `costs`
 // begins with the empty paths' costs, `lens` with zeros.
-// False where from such a state a cycle below zero lies before a final state.
+// Refuses where from such a state a cycle below zero lies before a final state.
 // Arcs most often lead to higher numbers, so that one sweep, the last arc first, most often settles all. Else the queue goes over all states first; only where
 // a path has too many arcs are those left out to which the start does not lead, if they may be.
 pub fn distances(
@@ -20,10 +20,11 @@ pub fn distances(
     seen: Facts,
     costs: &mut [i32],
     lens: &mut [u32],
-) -> bool
+) -> Result<(), Refusal>
     requires { Begun table.now shape costs.old × ValidationSays table.now (validated seen) × Cleared {A = ℕ} 0 (decode table.now).states lens.old }
-    ensures { DistancesSay (decode table.now) (counted everywhere (decode table.now))
-        costs.new lens.new result }
+    ensures says { DistancesSay (decode table.now) (counted everywhere (decode table.now))
+        costs.new lens.new (is_ok result) }
+    ensures refusal { IsOkUnless result Refusal.NegativeCycle }
 {
     let first = shape.first;
     let states = shape.states;
@@ -37,14 +38,12 @@ pub fn distances(
     if !relaxation::sweep_once(
         table, first, states, arcs, plain, forward, seen.least, costs, lens,
     ) {
-        return true;
+        return Ok(());
     }
     let all = [true; MAX_STATES];
-    if relaxation::drain(table, first, states, arcs, &all, costs, lens) {
-        return true;
-    }
-    if everywhere {
-        return false;
+    let drained = relaxation::drain(table, first, states, arcs, &all, costs, lens);
+    if everywhere || drained.is_ok() {
+        return drained;
     }
     let reached = reach::accessible(table, first, states, arcs, shape.start);
     relaxation::drain(table, first, states, arcs, &reached, costs, lens)

@@ -1,6 +1,7 @@
 -- The finals of stored keys written one behind the other: what stands after one key more. Assumes nothing.
 use mathlib.Core.Path.{◌≡◌, refl, sym, ap, ◌∙◌}
 use mathlib.Core.Bool.{Bool, true, false, ◌||◌, not}
+use Rattle.std.specs.Prelude.{Result, Ok, Err, cond}
 use mathlib.Core.List.{List, [], ◌∷◌, ◌++◌, append-nil}
 use Prim.Native.Nat.{ℕ, suc, ◌+◌, ◌*◌, ◌≤◌, ◌<◌}
 use native.Mathlib.Numerals.{add-one}
@@ -10,6 +11,7 @@ use lib.Seq.{sets, take-suc, length-take-le}
 use Rattle.wire.specs.Bytes.{every}
 use Rattle.transducer.specs.declared.Final.{Final}
 use Rattle.transducer.specs.Format.{weight_good}
+use Rattle.transducer.specs.Answer.{Refusal}
 use Rattle.transducer.specs.Encode.{final_record, final_records}
 use Rattle.transducer.proofs.Encode.{sets_then, length_final_records, final_records_append}
 use Rattle.transducer.specs.Weight.{Weight}
@@ -28,6 +30,26 @@ pub record Finishing (final : ℕ → Bool) (weight : ℕ → Weight) (states : 
   pub overflow_is : overflow ≡ not (every (λ f. weight_good f.weight) (finals_from final weight 0 (take s states)))
   pub stored : table ≡ sets table₀ 12 (final_records (finals_from final weight 0 (take s states)))
 
+-- What an answer tells of the finals that it was given for.
+
+ok_only : (b : Bool) (k n : ℕ) (e : Refusal) → Ok n ≡ cond b (Ok k) (Err e) → (n ≡ k) × (not b ≡ false)
+ok_only true k n e is = (cc, refl)
+ok_only false k n e is = cc
+
+err_only : (b : Bool) (k : ℕ) (d e : Refusal) → Err e ≡ cond b (Ok k) (Err d) → not b ≡ true
+err_only true k d e is = cc
+err_only false k d e is = refl
+
+module _ {fs : List Final} {r : Result ℕ Refusal} {table table' : List ℕ} (put : FinalsStored fs r table table') where
+  pub finals_count : (n : ℕ) → r ≡ Ok n → n ≡ length fs
+  finals_count n is = (ok_only (every (λ f. weight_good f.weight) fs) _ _ _ (sym is ∙ put.answer)).0
+
+  pub finals_good : (n : ℕ) → r ≡ Ok n → not (every (λ f. weight_good f.weight) fs) ≡ false
+  finals_good n is = (ok_only (every (λ f. weight_good f.weight) fs) _ _ _ (sym is ∙ put.answer)).1
+
+  pub finals_overflow : (e : Refusal) → r ≡ Err e → not (every (λ f. weight_good f.weight) fs) ≡ true
+  finals_overflow e is = err_only (every (λ f. weight_good f.weight) fs) _ _ _ (sym is ∙ put.answer)
+
 module _ (final : ℕ → Bool) (weight : ℕ → Weight) (states : List ℕ) where
   pub finishing_first : (count : ℕ) (table : List ℕ) → Finishing final weight states count table table 0 false 0
   unfolding finals_from every final_records
@@ -43,11 +65,12 @@ module _ (final : ℕ → Bool) (weight : ℕ → Weight) (states : List ℕ) wh
 
   module _ {count : ℕ} {table₀ table : List ℕ} {finals : ℕ} {overflow : Bool} {s : ℕ}
       (inv : Finishing final weight states count table₀ table finals overflow s) where
-    pub finishing_stop : count ≤ s → FinalsStored (finals_from final weight 0 (take count states))
-        (record { count = finals; overflow = overflow }) table₀ table
+    -- At the end: how many finals there are, whether one of their weights is out of range, and that they are written.
+    pub finishing_stop : count ≤ s → let fs = finals_from final weight 0 (take count states) in
+        (finals ≡ length fs) × (overflow ≡ not (every (λ f. weight_good f.weight) fs)) × (table ≡ sets table₀ 12 (final_records fs))
     finishing_stop stop =
         let all : s ≡ count = omega (arith, inv.within) in
-        record { count_is = rw all at inv.count_is; overflow_is = rw all at inv.overflow_is; stored = rw all at inv.stored }
+        (rw all at inv.count_is, rw all at inv.overflow_is, rw all at inv.stored)
 
     module _ (less : s < count) (room : count ≤ length states) where
       -- The next key is that of a state that is not final.

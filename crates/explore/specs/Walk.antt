@@ -1,15 +1,14 @@
 -- The walk from a first state by keys: states stand as numbers, and arcs as they are written, with their origins; over any function that
 -- gives the steps of a key. Assumes nothing: these are definitions.
-use Rattle.std.specs.Prelude.{◌≡◌, Bool, false, ◌||◌, not, cond, List, [], ◌∷◌, ◌++◌, ℕ, zero, suc, ◌+◌, ◌*◌, ◌≤◌, ◌<◌, min, ltb, leb, eqb, length, get_or, take}
+use Rattle.std.specs.Prelude.{◌≡◌, Bool, false, ◌||◌, not, cond, Result, Ok, Err, List, [], ◌∷◌, ◌++◌, ℕ, zero, suc, ◌+◌, ◌*◌, ◌≤◌, ◌<◌, min, ltb, leb, eqb, length, get_or, take}
 use Rattle.std.proofs.lemmas.List.Edits.{sets}
 use Rattle.wire.specs.Bytes.{every, filled}
 use Rattle.transducer.specs.declared.Arc.{Arc}
 use Rattle.transducer.specs.declared.Final.{Final}
-use Rattle.transducer.specs.Answer.{Written}
+use Rattle.transducer.specs.Answer.{Written, Refusal}
 use Rattle.transducer.specs.Format.{max_states, max_arcs, head_bytes, arc_bytes, weight_good}
 use Rattle.transducer.specs.Encode.{final_records, arc_records}
 use Rattle.transducer.specs.Weight.{Weight}
-use Rattle.explore.specs.declared.FinalsPut.{FinalsPut}
 use Rattle.explore.specs.declared.Walk.{Walk}
 use Rattle.explore.specs.Explore.{Step, there, place}
 use Rattle.explore.specs.Chain.{Chained}
@@ -147,10 +146,9 @@ pub record WalkSays (width : ℕ) (b : Sofar) (w : Walk) (table table' origins o
   pub origins_kept : length origins' ≡ length origins
   pub states_kept : length states' ≡ length states
 
--- Some finals, written from 12 on.
-pub record FinalsStored (fs : List Final) (r : FinalsPut) (table table' : List ℕ) : Type 0 where
-  pub count_is : r.count ≡ length fs
-  pub overflow_is : r.overflow ≡ not (every (λ f. weight_good f.weight) fs)
+-- Some finals, written from 12 on, and the answer: how many they are, or 13 where a weight is out of range.
+pub record FinalsStored (fs : List Final) (r : Result ℕ Refusal) (table table' : List ℕ) : Type 0 where
+  pub answer : r ≡ cond (every (λ f. weight_good f.weight) fs) (Ok (length fs)) (Err Refusal.Sums)
   pub stored : table' ≡ sets table head_bytes (final_records fs)
 
 -- Each of three buffers is all zeros.

@@ -102,13 +102,6 @@ pub struct Walk {
     pub full: u32,
 }
 
-// The finals written, and whether one of their weights is out of range.
-#[derive(Clone, Copy)]
-pub struct FinalsPut {
-    pub count: usize,
-    pub overflow: bool,
-}
-
 // Writes an arc's record behind those before it, where there is room for it, and tells how far the walk has come with it.
 pub fn record_arc(table: &mut [u8], w: Walk, arc: Arc) -> Walk
     requires { max_arc_bytes ≤ length table.old }

@@ -135,7 +135,7 @@ module _ (codes : List ℕ) (last : ℕ) (states : List ℕ) where
       → table ≡ sets table₀ head_bytes (final_records (key_finals codes last (take count states)))
   unfolding key_finals
   putting_stop count finals s table₀ table stop inv =
-      (finishing_stop (key_final codes last) (key_weight codes last) states inv.1 stop).stored
+      (finishing_stop (key_final codes last) (key_weight codes last) states inv.1 stop).2
 
   module _ (count finals s code : ℕ) (less : s < count) (room : count ≤ length states) (is : code ≡ key_code codes last (get_or states s 0)) where
     module _ (table₀ table : List ℕ) (inv : Putting codes last states count table₀ table finals s) where

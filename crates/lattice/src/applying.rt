@@ -29,6 +29,7 @@ pub fn string_ok(string: &[u16]) -> bool
 }
 
 // The symbol at a position, 0 behind the last one: no arc with an input fits that.
+// So one comparison tells whether an arc fits, where an Option would be asked first.
 fn symbol_at(string: &[u16], position: usize) -> u16
     ensures { result ≡ cond (ltb position (length string.now)) (get_or string.now position 0) 0 }
 {
@@ -36,6 +37,7 @@ fn symbol_at(string: &[u16], position: usize) -> u16
 }
 
 // How far a step moves that reads a symbol, 0 standing for none.
+// The empty label is 0 in the format, so that it is no Option.
 fn moved(symbol: u16) -> u32
     ensures { result ≡ cond (eqb symbol 0) 0 1 }
 {

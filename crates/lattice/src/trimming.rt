@@ -9,18 +9,18 @@ use transducer::MAX_BYTES;
 // The largest number of bytes that are copied into a small array: clearing a large one takes longer than everything else that a small lattice asks for.
 const FEW_BYTES: usize = 4096;
 
-// Trims the lattice of `count` bytes that stands from a place on into the front of its buffer, by way of a copy in `work`.
-fn trim_through(
+// Trims the lattice of `count` bytes that stands from a place on into the front of its buffer, by way of a copy in an array of `N` bytes.
+fn trim_through<const N: usize>(
     lattice: &mut [u8],
     from: usize,
     count: usize,
     origins: &mut [u16],
-    work: &mut [u8],
 ) -> usize
-    requires { Trimmable lattice.old from count (length origins.old) × (count ≤ length work.old) }
+    requires { Trimmable lattice.old from count (length origins.old) × (count ≤ N) × (N ≤ max_bytes) }
     ensures { Trims (decode (take count (drop from lattice.old))) result lattice.old lattice.new
         origins.old origins.new }
 {
+    let mut work = [0u8; N];
     let copy = &mut work[..count];
     copy.copy_from_slice(&lattice[from..from + count]);
     trim::trim_into(copy, true, lattice, origins)
@@ -33,9 +33,7 @@ pub fn trim_behind(lattice: &mut [u8], from: usize, count: usize, origins: &mut 
         origins.old origins.new }
 {
     if count <= FEW_BYTES {
-        let mut few = [0u8; FEW_BYTES];
-        return trim_through(lattice, from, count, origins, &mut few);
+        return trim_through::<FEW_BYTES>(lattice, from, count, origins);
     }
-    let mut all = [0u8; MAX_BYTES];
-    trim_through(lattice, from, count, origins, &mut all)
+    trim_through::<MAX_BYTES>(lattice, from, count, origins)
 }

@@ -10,6 +10,7 @@ use crate::seek;
 use relax::Change;
 
 // No state has a higher number.
+// Any target is at most this, so that the least of them can begin with it.
 const LAST: u16 = 65535;
 
 // Whether no arc makes a cost and a size better where each arc writes a label and none gives a cost below `bar`.

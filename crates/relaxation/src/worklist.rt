@@ -1,5 +1,5 @@
 // A queue of the states that got better, which settles what a sweep may leave.
-ghost use Rattle.std.specs.Prelude.{◌≡◌, ◌<◌, false, length, replicate};
+ghost use Rattle.std.specs.Prelude.{◌≡◌, ◌<◌, false, length, replicate, is_ok, IsOkUnless};
 ghost use Rattle.transducer.specs.Format.{max_states, decode};
 ghost use Rattle.transducer.specs.Accepted.{AcceptedAt};
 ghost use Rattle.reach.specs.Index.{leads_to, ByTarget};
@@ -8,11 +8,7 @@ ghost use Rattle.relaxation.specs.Queue.{mark, Inside, Joins, Draining, Drains, 
 
 use crate::queue::StateQueue;
 use relax::Change;
-use transducer::{MAX_ARCS, MAX_STATES};
-
-// A path had too many arcs: a cycle below zero lies on an accepting path.
-#[derive(Clone, Copy, PartialEq, Eq, Debug)]
-struct NegativeCycle;
+use transducer::{MAX_ARCS, MAX_STATES, Refusal};
 
 // Relaxes arc `i` where its source is marked; where that gets better it joins the states that wait, unless it is one of them.
 fn relax_and_join(
@@ -24,13 +20,14 @@ fn relax_and_join(
     costs: &mut [i32],
     lens: &mut [u32],
     queue: &mut StateQueue,
-) -> Result<(), NegativeCycle>
+) -> Result<(), Refusal>
     requires { AcceptedAt table.now first × (i < length (decode table.now).arcs) × (states ≡ (decode table.now).states)
         × Tentative (decode table.now) (cost_at costs.old) (by_state lens.old) × Cells (decode table.now).states costs.old lens.old
         × Inside (decode table.now) queue.old.waits }
-    ensures { Joins (decode table.now) (mark marks.now) i
+    ensures says { Joins (decode table.now) (mark marks.now) i
         costs.old lens.old queue.old.waits queue.old.count
         costs.new lens.new queue.new.waits queue.new.count result }
+    ensures refusal { IsOkUnless result Refusal.NegativeCycle }
 {
     let from = reach::source(table, first, i);
     if !marks[from] {
@@ -38,7 +35,7 @@ fn relax_and_join(
     }
     match relax::relax(table, first, i, states, costs, lens) {
         Change::Kept => Ok(()),
-        Change::TooLong => Err(NegativeCycle),
+        Change::TooLong => Err(Refusal::NegativeCycle),
         Change::Better => {
             if !queue.has(from) {
                 queue.push(from);
@@ -58,13 +55,14 @@ fn relax_all(
     costs: &mut [i32],
     lens: &mut [u32],
     queue: &mut StateQueue,
-) -> Result<(), NegativeCycle>
+) -> Result<(), Refusal>
     requires { AcceptedAt table.now first × (states ≡ (decode table.now).states) × (arcs ≡ length (decode table.now).arcs)
         × Tentative (decode table.now) (cost_at costs.old) (by_state lens.old) × Cells (decode table.now).states costs.old lens.old
         × (queue.old.waits ≡ replicate max_states false) × (queue.old.count ≡ 0) }
-    ensures { Drains (decode table.now) (mark marks.now)
+    ensures says { Drains (decode table.now) (mark marks.now)
         (to_do (decode table.now) costs.new lens.new queue.new.count)
         costs.new lens.new queue.new.waits queue.new.count result }
+    ensures refusal { IsOkUnless result Refusal.NegativeCycle }
 {
     for i in 0..arcs {
         relax_and_join(table, first, i, states, marks, costs, lens, queue)?;
@@ -74,6 +72,7 @@ fn relax_all(
 
 // Relaxes the arcs that lead to state `s`, and what gets better joins the states that wait. They stand in a chain, which is followed by links, so there is no
 // index to count.
+// A link of 0 is none, as `by_target` has it.
 fn relax_into(
     table: &[u8],
     first: usize,
@@ -85,13 +84,14 @@ fn relax_into(
     costs: &mut [i32],
     lens: &mut [u32],
     queue: &mut StateQueue,
-) -> Result<(), NegativeCycle>
+) -> Result<(), Refusal>
     requires { AcceptedAt table.now first × (states ≡ (decode table.now).states) × ByTarget (decode table.now) heads.now links.now
         × (s < (decode table.now).states) × Draining (decode table.now) (mark marks.now) (leads_to (decode table.now) s)
         costs.old lens.old queue.old.waits }
-    ensures { Drains (decode table.now) (mark marks.now)
+    ensures says { Drains (decode table.now) (mark marks.now)
         (to_do (decode table.now) costs.old lens.old queue.old.count)
         costs.new lens.new queue.new.waits queue.new.count result }
+    ensures refusal { IsOkUnless result Refusal.NegativeCycle }
 {
     let mut link = heads[s] as usize;
     while 0 < link {
@@ -103,7 +103,7 @@ fn relax_into(
 }
 
 // Settles what a sweep may leave at marked states, by a queue of the states that got better: when one comes off, the arcs that lead to it are relaxed.
-// False where a path had too many arcs.
+// Refuses where a path had too many arcs: a cycle below zero lies on an accepting path.
 pub fn drain(
     table: &[u8],
     first: usize,
@@ -112,26 +112,21 @@ pub fn drain(
     marks: &[bool; MAX_STATES],
     costs: &mut [i32],
     lens: &mut [u32],
-) -> bool
+) -> Result<(), Refusal>
     requires { AcceptedAt table.now first × (states ≡ (decode table.now).states) × (arcs ≡ length (decode table.now).arcs)
         × Tentative (decode table.now) (cost_at costs.old) (by_state lens.old) × Cells (decode table.now).states costs.old lens.old }
-    ensures { Drained (decode table.now) (mark marks.now) costs.new lens.new result }
+    ensures says { Drained (decode table.now) (mark marks.now) costs.new lens.new (is_ok result) }
+    ensures refusal { IsOkUnless result Refusal.NegativeCycle }
 {
     let mut heads = [0u16; MAX_STATES];
     let mut links = [0u16; MAX_ARCS];
     reach::by_target(table, first, arcs, &mut heads, &mut links);
     let mut queue = StateQueue::new();
-    if relax_all(table, first, states, arcs, marks, costs, lens, &mut queue).is_err() {
-        return false;
-    }
+    relax_all(table, first, states, arcs, marks, costs, lens, &mut queue)?;
     while let Some(s) = queue.pop() {
-        if relax_into(
+        relax_into(
             table, first, states, s, &heads, &links, marks, costs, lens, &mut queue,
-        )
-        .is_err()
-        {
-            return false;
-        }
+        )?;
     }
-    true
+    Ok(())
 }

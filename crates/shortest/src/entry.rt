@@ -1,6 +1,6 @@
 // The shortest path of a transducer.
 ghost use Rattle.std.specs.Prelude.{◌≡◌, ℕ, ◌≤◌, length};
-ghost use Rattle.transducer.specs.Format.{max_path, decode};
+ghost use Rattle.transducer.specs.Format.{max_path, max_states, decode};
 ghost use Rattle.transducer.specs.Accepted.{ValidationSays};
 ghost use Rattle.transducer.specs.Answer.{validated};
 ghost use Rattle.report.specs.Answer.{told};
@@ -27,9 +27,7 @@ fn shortest_by(
         (told result) arcs.old arcs.new labels.old labels.new }
 {
     let shape = relax::begin(table, costs);
-    if !distance::distances(table, shape, false, seen, costs, lens) {
-        return Err(Refusal::NegativeCycle);
-    }
+    distance::distances(table, shape, false, seen, costs, lens)?;
     let start = shape.start;
     let cost = costs[start];
     if relax::UNREACHED <= cost {
@@ -51,6 +49,23 @@ fn shortest_by(
     Ok(report::answer(cost as i64, len, end.labels))
 }
 
+// The shortest path of accepted bytes, by arrays of `N` cells.
+fn shortest_in<const N: usize>(
+    table: &[u8],
+    seen: Facts,
+    arcs: &mut [u16],
+    labels: &mut [u16],
+) -> Result<PathNumbers, Refusal>
+    requires { ValidationSays table.now (validated seen) × ((decode table.now).states ≤ N) × (N ≤ max_states)
+        × (max_path ≤ length arcs.old) × (max_path ≤ length labels.old) }
+    ensures { ShortestSays table.now (accepted_shortest_refusal (decode table.now))
+        (told result) arcs.old arcs.new labels.old labels.new }
+{
+    let mut costs = [0i32; N];
+    let mut lens = [0u32; N];
+    shortest_by(table, seen, &mut costs, &mut lens, arcs, labels)
+}
+
 // Puts the shortest path of accepted bytes into two lent buffers that are long enough: its arc numbers, and the labels that it writes. Refuses only with
 // 16 and 19. `seen` has the facts that validation found; `distance::unvalidated` stands for them if the bytes were not validated but made by a call.
 // Linear in states and arcs where one sweep settles all, at worst states times arcs.
@@ -65,13 +80,9 @@ pub fn shortest_accepted(
         (told result) arcs.old arcs.new labels.old labels.new }
 {
     if relax::is_small(table) {
-        let mut costs = [0i32; relax::FEW_STATES];
-        let mut lens = [0u32; relax::FEW_STATES];
-        return shortest_by(table, seen, &mut costs, &mut lens, arcs, labels);
+        return shortest_in::<{ relax::FEW_STATES }>(table, seen, arcs, labels);
     }
-    let mut costs = [0i32; transducer::MAX_STATES];
-    let mut lens = [0u32; transducer::MAX_STATES];
-    shortest_by(table, seen, &mut costs, &mut lens, arcs, labels)
+    shortest_in::<{ transducer::MAX_STATES }>(table, seen, arcs, labels)
 }
 
 // The shortest path: its arc numbers and the labels that it writes go into two lent buffers.

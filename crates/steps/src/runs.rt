@@ -221,6 +221,7 @@ pub fn step_of(run: Run, right: &[u8], rfirst: usize, j: usize) -> Step
 }
 
 // The left and the right arc of an origin, 65,535 where that side stood still.
+// It is a match of three lines, as `right_origin` is: one function of both would be no plainer.
 pub fn left_origin(o: Origin) -> u16
     ensures { result ≡ left_origin o }
 {

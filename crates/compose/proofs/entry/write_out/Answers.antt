@@ -5,11 +5,11 @@ use Rattle.transducer.specs.Format.{arcs_at}
 use Rattle.transducer.proofs.RoundTrip.{accepted_good}
 use Rattle.explore.proofs.Refused.{refused_with}
 use Rattle.compose.proofs.ComposeSays.{attempted, attempted_again, finishable, writable, says_13_arcs, says_13_finals, says_written}
-use Rattle.compose.proofs.entry.write_out.Goals.{then-w-ne0-via-then-w-ne0, then-w-ne0-via-else-w-ne0+then-f}
+use Rattle.compose.proofs.entry.write_out.Goals.{in_default-via-in-Ok+else-w-eq0, in_default-via-in_default}
 use Rattle.compose.proofs.entry.write_out.Goals as goal
 
-pub put_finals-f-requires : goal.put_finals-f-requires
-put_finals-f-requires c =
+pub put_finals-requires : goal.put_finals-requires
+put_finals-requires c =
     let pre = c.requires in
     let can = pre.composable in
     let tg = accepted_good c.args.left.now (λ i. omega (arith, c.type_inv.left i)) can.left_accepted in
@@ -18,21 +18,21 @@ put_finals-f-requires c =
     finishable _ _ tg ug
     _ _ _ _ through.told _ through.few_arcs _ _ pre.finals_by_state.0 pre.finals_by_state.1 can.table_long can.states_long
 
-pub returns-then-w-ne0 : goal.returns-then-w-ne0
-returns-then-w-ne0 c =
+pub returns-in_default : goal.returns-in_default
+returns-in_default c =
     let pre = c.requires in
     let can = pre.composable in
     let tg = accepted_good c.args.left.now (λ i. omega (arith, c.type_inv.left i)) can.left_accepted in
     let ug = accepted_good c.args.right.now (λ i. omega (arith, c.type_inv.right i)) can.right_accepted in
     let through = pre.walked_through.0 in
     attempted _ _ tg ug
-    (elim c.then-w-ne0.branch [
-      | then-w-ne0-via-then-w-ne0 w ↦
-          says_13_arcs _ _ tg ug _ _ _ _ through.told _ through.few_arcs _ _ pre.finals_by_state.0 pre.finals_by_state.1 _ _ c.put_finals-f.ensures
-          _ _ _ _ w.if-w-ne0.true (refused_with c.refuse.ensures.answer c.refuse.ensures.zeros)
-      | then-w-ne0-via-else-w-ne0+then-f w ↦
-          says_13_finals _ _ tg ug _ _ _ _ through.told _ through.few_arcs _ _ pre.finals_by_state.0 pre.finals_by_state.1 _ _ c.put_finals-f.ensures
-          _ _ _ _ w.if-f.true (refused_with c.refuse.ensures.answer c.refuse.ensures.zeros)
+    (elim c.in_default.branch [
+      | in_default-via-in-Ok+else-w-eq0 w ↦
+          says_13_arcs _ _ tg ug _ _ _ _ through.told _ through.few_arcs _ _ pre.finals_by_state.0 pre.finals_by_state.1 _ _ c.put_finals.ensures
+          _ _ _ _ w.if-w-eq0.false (refused_with c.refuse.ensures.answer c.refuse.ensures.zeros)
+      | in_default-via-in_default w ↦
+          says_13_finals _ _ tg ug _ _ _ _ through.told _ through.few_arcs _ _ pre.finals_by_state.0 pre.finals_by_state.1 _ _ c.put_finals.ensures
+          _ _ _ _ _ w.in_default.is (refused_with c.refuse.ensures.answer c.refuse.ensures.zeros)
     ])
 
 pub returns-then-room-finals : goal.returns-then-room-finals
@@ -44,9 +44,9 @@ returns-then-room-finals c =
     let through = pre.walked_through.0 in
     let fits =
     writable _ _ tg ug
-    _ _ _ _ through.told _ through.few_arcs _ _ pre.finals_by_state.0 pre.finals_by_state.1 _ _ c.put_finals-f.ensures in
+    _ _ _ _ through.told _ through.few_arcs _ _ pre.finals_by_state.0 pre.finals_by_state.1 _ _ c.put_finals.ensures _ c.in-Ok.is in
     attempted_again _ _ tg ug
-    (omega (arith, c.if-room-finals.true, fits.finals))
+    (omega (arith, c.if-room-finals.true, fits.finals_fit))
 
 pub returns : goal.returns
 unfolding cleared
@@ -58,6 +58,6 @@ returns c =
     let through = pre.walked_through.0 in
     attempted _ _ tg ug
     (says_written _ _ tg ug
-    _ _ _ _ through.told _ through.few_arcs _ _ pre.finals_by_state.0 pre.finals_by_state.1 _ _ c.put_finals-f.ensures (arcs_at c.args.room) _ _ _ _ _
-    c.if-w-ne0.false c.if-f.false can.table_long refl (omega (arith, c.if-room-finals.false))
+    _ _ _ _ through.told _ through.few_arcs _ _ pre.finals_by_state.0 pre.finals_by_state.1 _ _ c.put_finals.ensures _ c.in-Ok.is (arcs_at c.args.room) _ _ _ _ _
+    c.if-w-eq0.true can.table_long refl (omega (arith, c.if-room-finals.false))
     c.move_arcs.ensures c.put_head.ensures c.clear.ensures c.clear-2.ensures c.clear-3.ensures)

@@ -1,5 +1,5 @@
 -- What is begun is what `distances` asks for; `costs_fall` and `costs_told` say what is answered.
-use Rattle.std.proofs.Common.{sym, arith}
+use Rattle.std.proofs.Common.{◌≡◌, refl, sym, arith, rules, Err}
 use Rattle.wire.specs.Bytes.{Bytes}
 use Rattle.transducer.specs.Format.{decode}
 use Rattle.reach.proofs.Sized.{Sized, sized}
@@ -12,20 +12,23 @@ begin-shape-requires c = (sym c.requires.0.refusal_is, c.requires.1)
 pub distances-requires : goal.distances-requires
 distances-requires c = (c.begin-shape.ensures, c.requires.0, c.requires.2)
 
-pub returns-then-not-distances : goal.returns-then-not-distances
-returns-then-not-distances c =
+pub returns-in_err-distances : goal.returns-in_err-distances
+returns-in_err-distances c =
     let bytes : Bytes c.args.table.now = λ i. (c.type_inv.table i).fits in
     let z : Sized (decode c.args.table.now) = sized c.args.table.now bytes (sym c.requires.0.refusal_is) in
-    costs_fall c.args.table.now c.args.cells.now z c.distances.ensures c.if-not-distances.true
+    let e = c.in_err-distances.field-0.0 in
+    let is : c.from_residual.result ≡ Err e = search rules in
+    rw (is, c.in_err-distances.ensures.refusal) (costs_fall c.args.table.now c.args.cells.now z c.distances.ensures.says (rw c.in_err-distances.was refl))
 
 pub put-requires : goal.put-requires
 put-requires c =
     let known = c.begin-shape.ensures in
-    let cells = c.distances.ensures.cells in
+    let cells = c.distances.ensures.says.cells in
     (known.shaped.few_states, omega (arith, known.shaped.states_are, cells.costs), c.requires.3)
 
 pub returns : goal.returns
 returns c =
     let bytes : Bytes c.args.table.now = λ i. (c.type_inv.table i).fits in
     let z : Sized (decode c.args.table.now) = sized c.args.table.now bytes (sym c.requires.0.refusal_is) in
-    costs_told c.args.table.now c.args.cells.now z c.distances.ensures c.if-not-distances.false c.begin-shape.ensures.shaped.states_are c.put.ensures
+    costs_told c.args.table.now c.args.cells.now z c.distances.ensures.says (rw c.in_ok-distances.was refl) c.begin-shape.ensures.shaped.states_are
+    c.put.ensures

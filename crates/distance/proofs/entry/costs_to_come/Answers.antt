@@ -1,6 +1,6 @@
 -- `costs_bad` and `costs_short` say what is refused at once; the rest is answered by `costs_accepted` (`costs_passed`).
 use Rattle.std.proofs.Common.{◌≡◌, refl, rules, Err, length}
-use Rattle.transducer.specs.Answer.{number, refusal_in}
+use Rattle.transducer.specs.Answer.{number}
 use Rattle.transducer.proofs.Numbered.{number_some}
 use Rattle.distance.specs.Entry.{CostsSay, costs_refusal}
 use Rattle.distance.proofs.Answers.{costs_bad, costs_short, costs_passed}

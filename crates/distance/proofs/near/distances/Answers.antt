@@ -1,12 +1,13 @@
 -- All is settled by the sweep, or by the queue over all states, or by the queue over those to which the start leads.
-use Rattle.std.proofs.Common.{◌≡◌, refl, arith, rules, w32, SFits, to_z, of_z}
+use Rattle.std.proofs.Common.{◌≡◌, ◌∙◌, sym, inl, inr, refl, arith, rules, w32, SFits, to_z, of_z}
 use Rattle.std.proofs.lemmas.Int.{to_z-of_z}
 use Rattle.wire.specs.Bytes.{Bytes}
 use Rattle.transducer.specs.Format.{decode}
 use Rattle.reach.proofs.Sized.{Sized, sized}
 use Rattle.relax.proofs.EmptyPaths.{begun_nearing, begun_cells, begun_rising, begun_forward}
-use Rattle.distance.proofs.Ended.{swept_ends, drained_ends, drained_falls, reached_ends}
+use Rattle.distance.proofs.Ended.{swept_ends, drained_ends, reached_ends}
 use Rattle.distance.proofs.near.distances.Goals as goal
+use Rattle.distance.proofs.near.distances.Goals.{then-everywhere-via-then-everywhere, then-everywhere-via-else-everywhere+then-is_ok}
 
 pub is_plain-plain-requires : goal.is_plain-plain-requires
 is_plain-plain-requires c = omega (arith, c.requires.0.shaped.states_are, c.requires.0.own.long)
@@ -27,41 +28,39 @@ sweep_once-requires c =
       begun_cells z begun c.requires.1 c.requires.2,
     )
 
-pub returns-then-not-sweep_once : goal.returns-then-not-sweep_once
-returns-then-not-sweep_once c =
+pub returns-then-not-sweep_once-clause-says : goal.returns-then-not-sweep_once-clause-says
+returns-then-not-sweep_once-clause-says c =
     let bytes : Bytes c.args.table.now = λ i. (c.type_inv.table i).fits in
     let z : Sized (decode c.args.table.now) = sized c.args.table.now bytes c.requires.0.shaped.opened.accepted in
     swept_ends (decode c.args.table.now) z _ _ c.args.everywhere c.sweep_once.ensures c.if-not-sweep_once.true
 
-pub drain-requires : goal.drain-requires
-drain-requires c =
+pub drain-drained-requires : goal.drain-drained-requires
+drain-drained-requires c =
     let shaped = c.requires.0.shaped in
     (shaped.opened, shaped.states_are, shaped.arcs_are, c.sweep_once.ensures.nearing, c.sweep_once.ensures.cells)
 
-pub returns-then-drain : goal.returns-then-drain
-returns-then-drain c =
+pub returns-then-everywhere-clause-says : goal.returns-then-everywhere-clause-says
+returns-then-everywhere-clause-says c =
     let bytes : Bytes c.args.table.now = λ i. (c.type_inv.table i).fits in
     let z : Sized (decode c.args.table.now) = sized c.args.table.now bytes c.requires.0.shaped.opened.accepted in
-    drained_ends (decode c.args.table.now) z _ _ refl c.args.everywhere c.drain.ensures c.if-drain.true
-
-pub returns-then-everywhere : goal.returns-then-everywhere
-returns-then-everywhere c =
-    let bytes : Bytes c.args.table.now = λ i. (c.type_inv.table i).fits in
-    let z : Sized (decode c.args.table.now) = sized c.args.table.now bytes c.requires.0.shaped.opened.accepted in
-    drained_falls (decode c.args.table.now) z _ _ refl c.args.everywhere c.if-everywhere.true c.drain.ensures c.if-drain.false
+    let says = drained_ends (decode c.args.table.now) z _ _ refl c.args.everywhere c.drain-drained.ensures.says in
+    elim c.then-everywhere.branch [
+      | then-everywhere-via-then-everywhere w ↦ says (inl w.if-everywhere.true)
+      | then-everywhere-via-else-everywhere+then-is_ok w ↦ says (inr (sym w.is_ok.ensures.value ∙ w.if-is_ok.true))
+    ]
 
 pub accessible-reached-requires : goal.accessible-reached-requires
 accessible-reached-requires c =
     let shaped = c.requires.0.shaped in
     (shaped.opened, shaped.states_are, shaped.arcs_are, shaped.start_is)
 
-pub drain-requires-2 : goal.drain-requires-2
-drain-requires-2 c =
+pub drain-requires : goal.drain-requires
+drain-requires c =
     let shaped = c.requires.0.shaped in
-    (shaped.opened, shaped.states_are, shaped.arcs_are, c.drain.ensures.nearing, c.drain.ensures.cells)
+    (shaped.opened, shaped.states_are, shaped.arcs_are, c.drain-drained.ensures.says.nearing, c.drain-drained.ensures.says.cells)
 
-pub returns : goal.returns
-returns c =
+pub returns-clause-says : goal.returns-clause-says
+returns-clause-says c =
     let bytes : Bytes c.args.table.now = λ i. (c.type_inv.table i).fits in
     let z : Sized (decode c.args.table.now) = sized c.args.table.now bytes c.requires.0.shaped.opened.accepted in
-    reached_ends (decode c.args.table.now) z _ _ c.accessible-reached.ensures c.args.everywhere c.if-everywhere.false c.drain-2.ensures
+    reached_ends (decode c.args.table.now) z _ _ c.accessible-reached.ensures c.args.everywhere c.if-everywhere.false c.drain.ensures.says

@@ -1,15 +1,9 @@
-use mathlib.Core.Path.{◌≡◌, refl, sym, ◌∙◌}
-use mathlib.Core.Bool.{false}
+use mathlib.Core.Path.{refl}
 use native.Mathlib.Omega.{arith}
-use Rattle.std.proofs.Common.{Result, Ok, Err, IsOk, is_err}
 use Rattle.transducer.specs.Format.{decode}
 use Rattle.relaxation.proofs.Opened.{opened}
 use Rattle.relaxation.proofs.Draining.{draining_popped, popped_less, draining_stop}
 use Rattle.relaxation.proofs.worklist.drain.Goals as goal
-
-is_done : {A E : Type 0} (r : Result A E) → is_err r ≡ false → IsOk r
-is_done (Ok a) e = refl
-is_done (Err a) e = cc
 
 pub relax_into-requires : goal.relax_into-requires
 relax_into-requires c =
@@ -25,11 +19,10 @@ relax_into-requires c =
 
 pub loop-s-smaller : goal.loop-s-smaller
 loop-s-smaller c =
-    let done = is_done c.relax_into.result (sym c.is_err-in-Some.ensures.value ∙ c.if-is_err-2.false) in
     popped_less (decode c.args.table.now) c.loop-s.costs c.loop-s.lens c.loop-s.queue.count c.pop.new.self.count c.in-Some.ensures.taken.5
-    (c.relax_into.ensures.falls done)
+    (c.relax_into.ensures.says.falls (rw c.in_ok-relax_into.was refl))
 
-pub returns : goal.returns
-returns c =
+pub returns-clause-says : goal.returns-clause-says
+returns-clause-says c =
     let size = opened c.args.table.now c.type_inv.table c.requires.0 in
     draining_stop size c.loop-s.invariant (c.in_default.ensures.empty refl)

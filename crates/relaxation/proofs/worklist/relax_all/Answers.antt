@@ -9,8 +9,8 @@ loop-i-init c = ordered_first c.requires.4 c.requires.3 (inside_none (decode c.a
 
 pub loop-i-preserved : goal.loop-i-preserved
 loop-i-preserved c =
-    let r = c.relax_and_join.ensures in
+    let r = c.relax_and_join.ensures.says in
     draining_joined c.loop-i.invariant c.loop-i.i r.cells r.nearing (r.joined (rw c.in_ok-relax_and_join.was refl)) (λ x _. ordered_next c.loop-i.i x)
 
-pub returns : goal.returns
-returns c = drains (ordered_stop c.loop-i.invariant (omega (arith, c.loop-i-test.false, c.requires.2))) (omega arith)
+pub returns-clause-says : goal.returns-clause-says
+returns-clause-says c = drains (ordered_stop c.loop-i.invariant (omega (arith, c.loop-i-test.false, c.requires.2))) (omega arith)

@@ -9,22 +9,22 @@ pub bounds-marks-from : goal.bounds-marks-from
 bounds-marks-from c =
     omega (arith, c.source-from.ensures.1, (opened c.args.table.now c.type_inv.table c.requires.0).states)
 
-pub returns-in-Kept : goal.returns-in-Kept
-returns-in-Kept c =
+pub returns-in-Kept-clause-says : goal.returns-in-Kept-clause-says
+returns-in-Kept-clause-says c =
     let r = c.relax.ensures in
     joins r.cells r.nearing
     (joined_kept (mark c.args.marks.now) (opened c.args.table.now c.type_inv.table c.requires.0) c.args.i c.requires.1 c.requires.5 r (λ e. cc) c.in-Kept.is)
 
-pub returns-then-not-has : goal.returns-then-not-has
-returns-then-not-has c =
+pub returns-then-not-has-clause-says : goal.returns-then-not-has-clause-says
+returns-then-not-has-clause-says c =
     let size = opened c.args.table.now c.type_inv.table c.requires.0 in
     let r = c.relax.ensures in
     joins r.cells r.nearing
     (joined_pushed (mark c.args.marks.now) size c.args.i c.requires.1 c.requires.5 r (λ e. cc) c.source-from.result c.source-from.ensures.0 c.in-Better.is
     (omega (arith, c.source-from.ensures.1, size.states, c.args.queue.now.lined.waits_long)) c.push.ensures.1 c.push.ensures.3)
 
-pub returns-else-not-has : goal.returns-else-not-has
-returns-else-not-has c =
+pub returns-else-not-has-clause-says : goal.returns-else-not-has-clause-says
+returns-else-not-has-clause-says c =
     let r = c.relax.ensures in
     joins r.cells r.nearing
     (joined_waits (mark c.args.marks.now) (opened c.args.table.now c.type_inv.table c.requires.0) c.args.i c.requires.1 c.requires.5 r (λ e. cc)

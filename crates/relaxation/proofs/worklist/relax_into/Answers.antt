@@ -36,9 +36,9 @@ loop-link-smaller c = link_less c.requires.2 c.args.s (link_arc c.loop-link.inva
 
 pub loop-link-preserved : goal.loop-link-preserved
 loop-link-preserved c =
-    let r = c.relax_and_join.ensures in
+    let r = c.relax_and_join.ensures.says in
     relaxing_next c.requires.2 c.args.s c.loop-link.invariant (c.loop-link.link - 1) (link_arc c.loop-link.invariant.linked c.loop-link-test.true)
     r.cells r.nearing (r.joined (rw c.in_ok-relax_and_join.was refl))
 
-pub returns : goal.returns
-returns c = drains (relaxing_stop c.loop-link.invariant (omega (arith, c.loop-link-test.false))) c.loop-link.invariant.falls
+pub returns-clause-says : goal.returns-clause-says
+returns-clause-says c = drains (relaxing_stop c.loop-link.invariant (omega (arith, c.loop-link-test.false))) c.loop-link.invariant.falls
