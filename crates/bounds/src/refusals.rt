@@ -44,7 +44,7 @@ pub enum Refusal {
 }
 
 impl Refusal {
-    // The number that C gets.
+    // The number that C gets. A method and no `From`: its name says which number of a refusal this is.
     pub fn number(self) -> u32
         ensures { result ≡ number self }
     {

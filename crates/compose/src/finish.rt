@@ -6,6 +6,7 @@ ghost use Rattle.compose.specs.Finished.{key_finals, Finishable};
 use transducer::{FINAL_BYTES, Final, HEAD_BYTES, MAX_STATES, Refusal};
 
 // Writes the finals of `count` states, in order, behind the head, and answers how many they are, or that a weight is out of range.
+// Lattice, trim and codec write other finals of other states; what they share is `put_final`.
 pub fn put_finals(
     lcodes: &[u32; MAX_STATES],
     rcodes: &[u32; MAX_STATES],

@@ -18,6 +18,7 @@ fn sum_at_most(coming: i32, weight: i32, rest: i32, most: i64) -> bool
 }
 
 // Writes the arcs that are within the bound from `at` on, and their numbers to the front of `numbers`. Returns how many there are.
+// Trim `put_arcs` tests an arc by other arrays and writes another: a function for both would take two closures, and say of both what they answer.
 fn put_within(
     table: &[u8],
     first: usize,

@@ -10,6 +10,7 @@ use transducer::{Facts, MAX_STATES, Refusal, Shape};
 
 // The least cost to come from each state, `everywhere` or where the start leads, with the fewest labels at that cost and the fewest arcs with these; `costs`
 // begins with the empty paths' costs, `lens` with zeros.
+// `everywhere` is a bool and not a closure, since the contract says by it which states count.
 // Refuses where from such a state a cycle below zero lies before a final state.
 // Arcs most often lead to higher numbers, so that one sweep, the last arc first, most often settles all. Else the queue goes over all states first; only where
 // a path has too many arcs are those left out to which the start does not lead, if they may be.

@@ -12,7 +12,7 @@ use Rattle.explore.specs.Chain.{bucket_of, last_in, Chained}
 use Rattle.wire.proofs.Bool.{by_test, is_false}
 use Rattle.explore.proofs.Member.{At, Mem, at_length, at_get_or, get_d_at, at_there, there_mem, not_there_place, place_length}
 use Rattle.explore.proofs.Distinct.{place_at}
-use Rattle.explore.proofs.Chain.{eqb_decides, bucket_of_lt, last_in_le, last_in_bucket, last_in_last, once_distinct, stored_at}
+use Rattle.explore.proofs.Chain.{eqb_decides, last_in_le, last_in_bucket, last_in_last, once_distinct, stored_at}
 
 -- The number `next` is one more than the place of the last key of the bucket in front of `front`, or 0, and the key itself does not stand from `front` on.
 pub record Searching (key : ℕ) (xs : List ℕ) (next : ℕ) : Type 0 where
@@ -22,15 +22,6 @@ pub record Searching (key : ℕ) (xs : List ℕ) (next : ℕ) : Type 0 where
   pub passed : (i : ℕ) → front ≤ i → i < length xs → get_or xs i 0 ≡ key → ⊥
 
 module _ {xs states heads links : List ℕ} (chained : Chained xs states heads links) {key : ℕ} where
-  pub search_first : (b : ℕ) → b ≡ bucket_of key → Searching key xs (get_or heads b 0)
-  search_first b is =
-      record {
-        front = length xs;
-        within = omega arith;
-        leads = rw is (chained.heads_are (bucket_of key) (bucket_of_lt key));
-        passed = λ i p q e. omega arith;
-      }
-
   module _ {next : ℕ} (s : Searching key xs next) where
     pub search_le : next ≤ length xs
     search_le =

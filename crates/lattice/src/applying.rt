@@ -54,7 +54,7 @@ struct Operands<'a> {
     index: &'a [u16; MAX_STATES + 1],
 }
 
-// Takes the step of an arc to the state of a key.
+// Takes the step of an arc to the state of a key. An origin is one number here and two in compose `take_one`; what both share is in `explore`.
 // The buffers that a walk writes go one by one, as in composition: of a struct of `&mut` two fields cannot be lent to one call.
 fn take_step(
     a: Arc,
@@ -156,6 +156,7 @@ fn expand_state(
 }
 
 // Walks from the first state, until each state that was met is served or there are too many.
+// Compose walks in this way too: a function for both would take `expand_state` as a closure that writes five buffers, and say all its contract of the closure.
 fn walk_all(
     operands: &Operands,
     start: u32,

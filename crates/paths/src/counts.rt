@@ -60,6 +60,7 @@ fn count_open(
 }
 
 // Puts the states that are not marked and have no open arc on the stack. How many there are.
+// Reach `push_marked` has another test: a function that takes the test as a closure would say in its contract what the closure answers, and be no shorter.
 fn push_ready(
     states: usize,
     marks: &[bool; MAX_STATES],

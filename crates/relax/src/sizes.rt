@@ -10,6 +10,7 @@ ghost use Rattle.relax.specs.Tentative.{unpacked, labels_of, onward, least_cost}
 pub const UNREACHED: i32 = 2000000000;
 
 // A weight and the cost to come behind it.
+#[tactic(auto, unfolding(crate::specs::Tentative::onward))]
 pub fn sum(weight: i32, cost: i32) -> i32
     requires { (weight_good weight ≡ true) × AtMost least_cost cost }
     ensures { result ≡ onward weight cost }
@@ -22,6 +23,7 @@ pub fn sum(weight: i32, cost: i32) -> i32
 
 // Whether a cost and a size come before another. A size is 65,536 for each label and 1 for each arc, so that one comparison does for both.
 // A comparison of pairs would say the same, but was slower.
+#[tactic(auto, unfolding(crate::specs::Size::nearer, crate::specs::Tentative::unpacked))]
 pub fn comes_first(cost: i32, size: u32, other: i32, most: u32) -> bool
     ensures { result ≡ nearer cost (unpacked size) other (unpacked most) }
 {
@@ -35,6 +37,7 @@ pub fn comes_first(cost: i32, size: u32, other: i32, most: u32) -> bool
 }
 
 // The size of an arc: one arc, and one label unless its output is empty.
+#[tactic(auto, unfolding(crate::specs::Tentative::labels_of))]
 pub fn arc_size(output: u16) -> u32
     ensures { (result ≡ 1 + 65536 * labels_of output) × (result ≤ 65537) }
 {
@@ -45,6 +48,7 @@ pub fn arc_size(output: u16) -> u32
 }
 
 // How many arcs there are in a size.
+#[tactic(auto, unfolding(crate::specs::Tentative::unpacked))]
 pub fn arcs_of(size: u32) -> usize
     ensures { result ≡ (unpacked size).arcs }
 {

@@ -14,6 +14,7 @@ use relax::Change;
 const LAST: u16 = 65535;
 
 // Whether no arc makes a cost and a size better where each arc writes a label and none gives a cost below `bar`.
+#[tactic(auto, unfolding(relax::specs::Tentative::is_nearest, relax::specs::Tentative::unpacked))]
 fn is_nearest(bar: i32, cost: i32, size: u32) -> bool
     ensures { result ≡ is_nearest bar cost (unpacked size) }
 {
@@ -161,7 +162,7 @@ fn sweep(
     again
 }
 
-// A sweep in one of the two ways.
+// A sweep in one of the two ways. `plain` and `forward` are facts of the table, of which each way asks for another: a closure would have to carry that fact.
 pub fn sweep_once(
     table: &[u8],
     first: usize,

@@ -51,9 +51,6 @@ pub record Seeking (t u : Transducer) (filter from to i last k : ℕ) : Type 0 w
   pub same : begin_from t u filter from (to - from) (last - k) k ≡ begin_from t u filter from (to - from) (last - i) i
 
 module _ {t u : Transducer} {filter from to i last : ℕ} where
-  pub seeking_first : (k : ℕ) → k ≡ i → i ≤ last → Seeking t u filter from to i last k
-  seeking_first k e l = rw e (record { within = l; same = refl })
-
   pub seeking_alone : {k : ℕ} → k < last → (arc t k).output ≡ 0 → filter ≡ 0 → Seeking t u filter from to i last k
       → record { alone = true; i = k; j = 0 } ≡ begin_from t u filter from (to - from) (last - i) i
   seeking_alone {k} l e f s = sym (begin_alone t u filter from to last k l e f) ∙ s.same

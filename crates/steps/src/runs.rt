@@ -135,6 +135,7 @@ pub fn next_run(
 }
 
 // The run that begins there.
+#[tactic(auto, unfolding(crate::specs::Runs::run_at))]
 pub fn run_of(left: &[u8], lfirst: usize, at: Begin, last: usize, x: State) -> Run
     requires { AcceptedAt left.now lfirst × (at.i ≤ last) × (at.alone ≡ true → at.i < last) × (last ≤ length (decode left.now).arcs) }
     ensures { result ≡ run_at (decode left.now) last x at }
@@ -195,6 +196,7 @@ fn with_right(left: u16, j: u16) -> Origin
 }
 
 // The step of a run with right arc `j`.
+#[tactic(auto, unfolding(crate::specs::Runs::run_step))]
 pub fn step_of(run: Run, right: &[u8], rfirst: usize, j: usize) -> Step
     requires { AcceptedAt right.now rfirst × (run.alone ≡ false → j < length (decode right.now).arcs)
         × Bounded run.target × (weight_good run.weight ≡ true) }
@@ -222,6 +224,7 @@ pub fn step_of(run: Run, right: &[u8], rfirst: usize, j: usize) -> Step
 
 // The left and the right arc of an origin, 65,535 where that side stood still.
 // It is a match of three lines, as `right_origin` is: one function of both would be no plainer.
+#[tactic(auto, unfolding(crate::specs::Steps::left_origin))]
 pub fn left_origin(o: Origin) -> u16
     ensures { result ≡ left_origin o }
 {
@@ -232,6 +235,7 @@ pub fn left_origin(o: Origin) -> u16
     }
 }
 
+#[tactic(auto, unfolding(crate::specs::Steps::right_origin))]
 pub fn right_origin(o: Origin) -> u16
     ensures { result ≡ right_origin o }
 {

@@ -100,7 +100,7 @@ pub fn put_index(
     raise(states, index);
 }
 
-// A cost with a weight more.
+// A cost with a weight more. It stands as a function, since it asks that a sum of 64 bits stays exact, which `Add` could not ask.
 pub fn plus(cost: i64, weight: i32) -> i64
     requires { magnitude cost ≤ 2 ^ 62 }
     ensures { result ≡ plus cost weight }
@@ -108,7 +108,7 @@ pub fn plus(cost: i64, weight: i32) -> i64
     cost + weight as i64
 }
 
-// The code of a weight, a number from 1 on, and the weight of a code.
+// The code of a weight, a number from 1 on, and the weight of a code. They ask for a weight and a code in range, as `From` could not.
 fn code_of(weight: i32) -> u32
     requires { weight_good weight ≡ true }
     ensures { (result ≡ code_of weight) × (result ≤ max_code) }

@@ -208,7 +208,7 @@ pub fn fast_check(
     }
 }
 
-// The weight that is so much below zero.
+// The weight that is so much below zero. It asks how much, so that the difference is in range: `Neg` could not ask.
 fn minus(below: u32) -> i32
     requires { below ≤ weight_limit }
     ensures { result ≡ rebate below }
@@ -225,6 +225,7 @@ fn weight_in(bits: u32, below: u32) -> bool
 }
 
 // Source, input, output and target of the arc whose fields begin at `at`, as one number of eight bytes.
+// Two words that `wire` reads: `from_le_bytes` would list the eight bytes one by one.
 #[tactic(auto, unfolding(crate::specs::Check::eight))]
 fn fields_at(bytes: &[u8], at: usize) -> u64
     requires { at + 8 ≤ length bytes.now }
@@ -244,7 +245,7 @@ struct Run {
 }
 
 // The source of the arc at `place` if it passes each test but that of what is gathered: its weight is no more than `below` below zero and not too high, and its
-// source is not below `before`. The target is tested only if `each`.
+// source is not below `before`. The target is tested only if `each`: a bool and not a closure, since the contract says by it what is known of the targets.
 fn passing(bytes: &[u8], place: usize, n: u32, each: bool, before: u32, below: u32) -> Option<u32>
     requires { (place + arc_bytes ≤ length bytes.now) × (below ≤ weight_limit) }
     ensures { IfSome result (λ source. Passing bytes.now place n each before (rebate below) source) }

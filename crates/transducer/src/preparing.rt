@@ -6,6 +6,7 @@ ghost use Rattle.transducer.specs.Prepare.{Shaped, Prepared};
 use crate::accepted;
 
 // Where the arcs begin, the numbers of states, arcs and finals, and the start.
+// They are those of `Head`, which are written in 32 bits and go to C; these count places in memory.
 #[derive(Clone, Copy, Debug, PartialEq, Eq)]
 pub struct Shape {
     pub first: usize,
