@@ -10,7 +10,8 @@ pub struct Side<'a> {
     pub index: &'a [u16; INDEX_LEN],
 }
 
-// The two tables with the look-up of the right one's arcs; `no_any_input` may be true only if none of these is for any symbol.
+// The two tables with the look-up of the right one's arcs; `no_any_input` may be true only if none of these is for any symbol: a fact that validation tells, and
+// that contracts ask for by the bool.
 #[derive(Clone, Copy)]
 pub struct Sides<'a> {
     pub left: Side<'a>,

@@ -17,7 +17,7 @@ use transducer::{Arc, MAX_ARCS, MAX_STATES};
 // could name what is left behind by position alone.
 
 // The number that a state beyond the limit would have.
-// It is compared with the number that `explore::find` gives, which is no Option.
+// It is compared with a number of states and with what `explore::find` gives, neither of which is an Option.
 const FULL: usize = MAX_STATES;
 
 // Writes the origins of the arc of number `arcs`, where there is room for that arc.
@@ -57,7 +57,7 @@ fn record_step(
     explore::record_arc(table, w, a)
 }
 
-// Takes the step of a run of a left arc alone, from a state of number `source`.
+// Takes the step of a run of a left arc alone, from a state of number `source`. Lattice `take_step` has origins of one number; what both share is in `explore`.
 fn take_one(
     sides: &Sides<'_>,
     r: Run,

@@ -44,7 +44,7 @@ fn moved(symbol: u16) -> u32
     u32::from(symbol != 0)
 }
 
-// A string and the accepted transducer that it is applied to, with what is known of its arcs.
+// A string and the accepted transducer that it is applied to, with what is known of its arcs, which validation tells and contracts ask for by the bool.
 #[derive(Clone, Copy)]
 struct Operands<'a> {
     string: &'a [u16],
@@ -239,7 +239,7 @@ fn final_count(codes: &[u32; MAX_STATES], last: u32, states: &[u32], count: usiz
         .count()
 }
 
-// Writes the finals of the first `count` states, in order, behind the head.
+// Writes the finals of the first `count` states, in order, behind the head. Compose, trim and codec write other finals; what they share is `put_final`.
 fn put_finals(codes: &[u32; MAX_STATES], last: u32, states: &[u32], count: usize, table: &mut [u8])
     requires { (count ≤ length states.now) × (count ≤ max_states)
         × (arcs_at (length (key_finals codes.now last (take count states.now))) ≤ length table.old) × SmallCodes codes.now }

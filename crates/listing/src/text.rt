@@ -34,7 +34,7 @@ pub fn put_decimal(out: &mut [u8], at: usize, value: u64) -> usize
     put_byte(out, last, b'0' + (value % 10) as u8)
 }
 
-// Writes a cost: a minus sign where it is below 0, and its digits.
+// Writes a cost: a minus sign where it is below 0, and its digits. There is no heap, so that both go straight into the buffer and no String is made.
 pub fn put_cost(out: &mut [u8], at: usize, cost: i64) -> usize
     requires { at + length (cost_text cost) ≤ length out.old }
     ensures { Wrote out.old out.new at result (cost_text cost) }

@@ -11,6 +11,7 @@ use crate::{arcs, cells};
 use transducer::{MAX_ARCS, MAX_STATES};
 
 // Puts the arcs in chains, `heads` being zeros: at a state the cell of its last arc, at an arc the cell of the one before it.
+// `by_target` keeps numbers of two bytes alone: one function of both would write two kinds of cells, and be no plainer.
 fn chain(
     table: &[u8],
     first: usize,

@@ -123,6 +123,7 @@ pub fn drain(
     reach::by_target(table, first, arcs, &mut heads, &mut links);
     let mut queue = StateQueue::new();
     relax_all(table, first, states, arcs, marks, costs, lens, &mut queue)?;
+    // What is served may join the queue again, so there is no range: the queue is served until it is empty.
     while let Some(s) = queue.pop() {
         relax_into(
             table, first, states, s, &heads, &links, marks, costs, lens, &mut queue,

@@ -42,7 +42,7 @@ fn along(right: &[u8], rfirst: usize, chain: &[u16], head: u16, q: u16, label: u
 }
 
 // Puts the right arcs in chains, from the last to the first; `next_same_label` leads from each arc to the next one that leaves
-// the same state and reads the same label.
+// the same state and reads the same label. There is no heap, so that the chains are arrays of links.
 pub fn put_chains(
     right: &[u8],
     rfirst: usize,

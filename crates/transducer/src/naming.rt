@@ -21,6 +21,7 @@ fn no_any_among(bytes: &[u8], at: usize, count: usize) -> bool
 }
 
 // Whether no arc of accepted bytes is for any symbol. If validation has told so, which is `known`, no arc is asked.
+// It is a bool, since the contract says by it what is known of the arcs.
 pub fn no_any_input(bytes: &[u8], known: bool) -> bool
     requires { (refusal bytes.now ≡ 0) × (known ≡ true → has_no_any_input (decode bytes.now) ≡ true) }
     ensures { result ≡ has_no_any_input (decode bytes.now) }

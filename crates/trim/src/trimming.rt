@@ -15,7 +15,7 @@ ghost use Rattle.trim.specs.TrimEntry.{TrimSays, trim_refusal};
 use crate::renumber;
 use transducer::{Arc, Final, Refusal};
 
-// Writes the finals that are kept behind the head. Answers how many.
+// Writes the finals that are kept behind the head. Answers how many. Compose, lattice and codec write other finals; what they share is `put_final`.
 fn put_finals(
     bytes: &[u8],
     finals: usize,
@@ -46,6 +46,7 @@ fn put_finals(
 }
 
 // Writes the arcs that are kept from `at` on, and their numbers to the front of `origins`. Answers how many.
+// Derived `put_within` tests an arc by other arrays and writes it unchanged, as is said there.
 fn put_arcs(
     bytes: &[u8],
     first: usize,
@@ -92,7 +93,7 @@ fn new_number(index: &[u16; transducer::MAX_STATES + 1], state: u16) -> u16
 }
 
 // Writes what trimming leaves of accepted bytes, and for each arc the number that it had. Answers the length in bytes. `all_accessible` tells
-// that each state is known to be accessible.
+// that each state is known to be accessible: a bool, since the contract asks by it for that fact.
 pub fn trim_into(table: &[u8], all_accessible: bool, out: &mut [u8], origins: &mut [u16]) -> usize
     requires { (refusal table.now ≡ 0) × (max_bytes ≤ length out.old) × (max_arcs ≤ length origins.old)
         × (all_accessible ≡ true → AllAccessible (decode table.now)) }
