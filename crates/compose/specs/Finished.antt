@@ -47,8 +47,8 @@ pub record WalkedThrough (left right : List ℕ) (w : Walk) (arcs origins states
   pub told : WalkTold 2 (key_walk (decode left) (decode right)) w arcs origins states
   pub few_arcs : w.arcs ≤ max_arcs
 
--- What an attempt leaves that has room for some finals: the answer, unless there is none and it is to be made again, which is not so where there is
--- room for 1,024.
+-- What an attempt leaves that has room for `room` finals. If it has an answer, that is the answer of composition; if it has none, composition is done again.
+-- With room for 1,024 finals it has one.
 pub record Attempted (left right : List ℕ) (room : ℕ) (r : Option (Result ℕ Refusal)) (a a' b b' c c' : List ℕ) : Type 0 where
   pub says : IfSome r (λ answer. ComposeSays left right (built_refusal (composed (decode left) (decode right)).result) (written answer) a a' b b' c c')
   pub enough : max_states ≤ room → is_some r ≡ true

@@ -23,7 +23,7 @@ fn told(cost: i32) -> i64
     }
 }
 
-// Copies the costs of so many states to the first cells.
+// Copies the costs of the states below `states` to the first cells.
 fn copy(states: usize, costs: &[i32], cells: &mut [i64])
     requires { (states ≤ max_states) × (states ≤ length costs.now) × (max_states ≤ length cells.old) }
     ensures { Copied states costs.now cells.old cells.new }
@@ -33,7 +33,7 @@ fn copy(states: usize, costs: &[i32], cells: &mut [i64])
     }
 }
 
-// Puts the costs of so many states into 1,024 cells, none past the last state, and zeros behind the 1,024.
+// Puts the costs of the states below `states` into 1,024 cells, "no path" in the cells behind these, and zeros behind the 1,024.
 pub fn put(states: usize, costs: &[i32], cells: &mut [i64])
     requires { (states ≤ max_states) × (states ≤ length costs.now) × (max_states ≤ length cells.old) }
     ensures { cells.new ≡ signed_filled (length cells.old) (places max_states 0 1 (cost_or_none states costs.now)) }

@@ -146,7 +146,7 @@ pub record WalkSays (width : ℕ) (b : Sofar) (w : Walk) (table table' origins o
   pub origins_kept : length origins' ≡ length origins
   pub states_kept : length states' ≡ length states
 
--- Some finals, written from 12 on, and the answer: how many they are, or 13 where a weight is out of range.
+-- Some finals, written from 12 on, and the answer: how many they are, or 13 if a weight is out of range.
 pub record FinalsStored (fs : List Final) (r : Result ℕ Refusal) (table table' : List ℕ) : Type 0 where
   pub answer : r ≡ cond (every (λ f. weight_good f.weight) fs) (Ok (length fs)) (Err Refusal.Sums)
   pub stored : table' ≡ sets table head_bytes (final_records fs)

@@ -14,15 +14,14 @@ pub fn empty_paths(table: &[u8], finals: usize) -> [Count; MAX_STATES]
 {
     let mut counts = [Count { value: 0 }; MAX_STATES];
     for i in 0..finals {
-        // The record of final `i` stands where the arcs would begin behind so many finals.
+        // The record of final `i` stands where the arcs would begin if there were `i` finals.
         let f = transducer::load_final(table, transducer::arcs_at(i));
         counts[f.state as usize] = Count { value: 1 };
     }
     counts
 }
 
-// The same by the final codes of so many states.
-// Where the codes are known the records are not read again.
+// The counts of the empty paths from the states below `states`, by their final codes: if the codes are known, the records are not read again.
 pub fn empty_by_codes(table: &[u8], states: usize, codes: &[u32; MAX_STATES]) -> [Count; MAX_STATES]
     requires { FinalsByState (decode table.now) codes.now × (states ≤ max_states) }
     ensures { EmptyPaths (decode table.now) states result }

@@ -19,7 +19,7 @@ pub fn is_small(table: &[u8]) -> bool
     shape.states <= FEW_STATES
 }
 
-// Puts UNREACHED for so many states into an array of zeros.
+// Puts UNREACHED for each of the states below `states` into an array of zeros.
 fn no_costs(states: usize, costs: &mut [i32])
     requires { Cleared no_weight states costs.old }
     ensures { NoCosts states states costs.new }

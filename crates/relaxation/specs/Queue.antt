@@ -50,7 +50,7 @@ pub record Joined (t : Transducer) (m : ℕ → Bool) (i : ℕ) (cs : List Weigh
       → (waiting waits' (arc t x).target ≡ true) ⊎ NoBetter t cs' ls' x
   pub falls : to_do t cs' ls' many' ≤ to_do t cs ls many
 
--- The same, unless a path had too many arcs: from a marked state a cycle below zero lies on an accepting path.
+-- What joining answers: `Joined`, or a refusal if a path had too many arcs. Then a cycle below zero lies on an accepting path from a marked state.
 pub record Joins {A E : Type 0} (t : Transducer) (m : ℕ → Bool) (i : ℕ) (cs : List Weight) (ls : Sizes) (waits : List Bool) (many : ℕ) (cs' : List Weight)
     (ls' : Sizes) (waits' : List Bool) (many' : ℕ) (r : Result A E) : Type 0 where
   pub cells : Cells t.states cs' ls'

@@ -5,7 +5,7 @@ ghost use Rattle.relaxation.specs.Queue.{cell, waiting, NoneWaits, Queue};
 
 use transducer::MAX_STATES;
 
-// A ring of 1,024 cells in which so many states wait from its head on, and whether each state waits.
+// A ring of 1,024 cells, in which `count` states wait, the first of them in the cell `head`; and whether each state waits.
 #[derive(Drop)]
 pub struct StateQueue {
     ring: [u16; MAX_STATES],

@@ -3,7 +3,7 @@ ghost use Rattle.std.specs.Prelude.{◌≡◌, ◌≤◌, length};
 ghost use Rattle.transducer.specs.Format.{decode};
 ghost use Rattle.transducer.specs.Accepted.{AcceptedAt, arcs_below};
 
-// So many arcs are passed over at once while that is not too far.
+// How many arcs are passed over at once, as long as that is not too far.
 const STRIDE: usize = 32;
 
 // Goes back by strides while that passes over arcs of state `s` or higher ones only. Where it stops is what is sought, so that a range by steps is no plainer.

@@ -21,7 +21,7 @@ fn is_nearest(bar: i32, cost: i32, size: u32) -> bool
     (cost <= bar) & (size <= 65537)
 }
 
-// Whether none of so many costs is below zero.
+// Whether no cost of the states below `states` is below zero.
 fn costs_rise(states: usize, costs: &[i32]) -> bool
     requires { states ≤ length costs.now }
     ensures { result ≡ true → (s : ℕ) → s < states → AtMost no_weight (cost_at costs.now s) }
@@ -93,8 +93,8 @@ fn sweep_state(
     false
 }
 
-// The same as a sweep where each arc leads to a higher state and has no weight below `least`: it goes by states, last state first. None of a state's arcs
-// gives a cost below the least one of the states above it and `least`.
+// What `sweep` does, for a table in which each arc leads to a higher state and has no weight below `least`: it goes by states, last state first.
+// None of a state's arcs gives a cost below the least one of the states above it and `least`.
 fn sweep_states(
     table: &[u8],
     first: usize,

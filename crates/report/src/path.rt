@@ -43,7 +43,7 @@ pub fn put_labels(
     }
 }
 
-// What is answered of a path of this cost, with so many arcs and labels.
+// What is answered of a path: its cost, and how many arcs and labels it has.
 pub fn answer(cost: i64, arcs: usize, labels: usize) -> PathNumbers
     requires { (arcs ≤ max_path) × (labels ≤ max_path) }
     ensures { result ≡ record { cost = cost; arcs = arcs; labels = labels } }

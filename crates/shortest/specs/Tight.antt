@@ -33,7 +33,7 @@ unfoldable pub first_tight : Transducer → (c : ℕ → Weight) → (l : ℕ �
 first_tight t c l s =
     first_giving (arcs_below (s + 1) t.arcs - arcs_below s t.arcs) t c l s (arcs_below s t.arcs)
 
--- The arcs of a state begin there, and end in front of the other place, which is not behind the last arc of all.
+-- The arcs of state `s` begin at arc `from` and end at or before `to`, which is at most the number of arcs.
 pub record HasArcs (t : Transducer) (s from to : ℕ) : Type 0 where
   pub from_is : from ≡ arcs_below s t.arcs
   pub to_high : arcs_below (s + 1) t.arcs ≤ to

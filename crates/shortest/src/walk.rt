@@ -55,7 +55,7 @@ fn first_giving(
     to
 }
 
-// A path of up to so many arcs is walked without an index, as that takes longer to clear and to fill than to seek a few arcs.
+// A path of up to 12 arcs is walked without an index, as that takes longer to clear and to fill than to seek a few arcs.
 const SHORT: usize = 12;
 
 // Where the arcs of state `s` begin, and where they end or a place behind that: by the first-arc index, or from an arc that is `near`, as far as there are

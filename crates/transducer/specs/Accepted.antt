@@ -13,7 +13,7 @@ use Rattle.transducer.specs.Weight.{AtMost, code_of}
 abbrev pub head_in : List ℕ → Head
 head_in bs = record { states = head_states bs; arcs = head_arcs bs; finals = head_finals bs; start = head_start bs }
 
--- The same numbers as an answer that is no refusal.
+-- These numbers, as an answer that is no refusal.
 unfoldable pub header_of : List ℕ → Header
 header_of bs =
     record { refusal = 0; states = head_states bs; arcs = head_arcs bs; finals = head_finals bs; start = head_start bs }

@@ -52,7 +52,7 @@ fn mark_each(
     }
 }
 
-// Marks a block of arcs. Sources never fall: where the first and the last have the same, so have all between, and the last mark stays.
+// Marks a block of arcs. Sources never fall: if the first and the last arc have one source, all between have it too, and the last mark stays.
 fn mark_block(bytes: &[u8], first: usize, from: usize, index: &mut [u16; bounds::INDEX_LEN])
     requires { AcceptedAt bytes.now first × (from + 128 ≤ length (decode bytes.now).arcs)
         × EndsMarked (take from (decode bytes.now).arcs) index.old }

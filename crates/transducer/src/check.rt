@@ -208,7 +208,7 @@ pub fn fast_check(
     }
 }
 
-// The weight that is so much below zero. It asks how much, so that the difference is in range: `Neg` could not ask.
+// Minus `below`, as a weight. It asks for a limit of `below`, so that the difference is in range: `Neg` could not ask.
 fn minus(below: u32) -> i32
     requires { below ≤ weight_limit }
     ensures { result ≡ rebate below }
@@ -216,7 +216,7 @@ fn minus(below: u32) -> i32
     0 - below as i32
 }
 
-// Whether these are the bits of a weight that is at most so much below zero, and not too high. One comparison, as it is made at each arc.
+// Whether these are the bits of a weight that is not under minus `below`, and not too high. One comparison, as it is made at each arc.
 fn weight_in(bits: u32, below: u32) -> bool
     requires { below ≤ weight_limit }
     ensures { result ≡ true → Between (rebate below) (to_z w32 bits) max_weight }

@@ -44,7 +44,8 @@ pub fn put_u16(out: &mut [u8], at: usize, value: u16)
     out[at..at + 2].copy_from_slice(&value.to_le_bytes());
 }
 
-// Stores a number in the four bytes from `at`. `to_le_bytes` is a method of each type and no trait has it, so that one generic function would need a trait of its own.
+// Stores a number in the four bytes from `at`.
+// `to_le_bytes` is a method of each type and no trait has it, so that one generic function would need a trait of its own.
 #[tactic(auto, using(crate::proofs::Low::low_is_bytes))]
 pub fn put_u32(out: &mut [u8], at: usize, value: u32)
     requires { at + 3 < length out.old }
