@@ -17,7 +17,7 @@ KIT = set()
 METHODS = {
     *("len", "get", "iter", "all", "filter", "count", "rev", "copied", "copy_from_slice"),
     *("is_some", "unwrap", "unwrap_or"),
-    *("from", "from_le_bytes", "max", "min", "wrapping_add", "wrapping_sub", "is_power_of_two", "cast_signed", "cast_unsigned", "to_le_bytes"),
+    *("from", "from_le_bytes", "max", "min", "wrapping_add", "wrapping_sub", "is_power_of_two", "cast_signed", "cast_unsigned"),
 }
 
 

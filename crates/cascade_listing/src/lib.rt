@@ -20,8 +20,8 @@ fn refuse_odd(left: &[u8], right: &[u8], out: &mut [u8]) -> Listing
         (refused_text (or_else (tables_refusal left.now right.now) 9)) }
 {
     match cascade::ensure_both_accepted(left, right) {
-        Ok(()) => listing::refuse_into(Refusal::Symbols, out),
-        Err(refusal) => listing::refuse_into(refusal, out),
+        Ok(()) => listing::put_refusal(Refusal::Symbols, out),
+        Err(refusal) => listing::put_refusal(refusal, out),
     }
 }
 
@@ -49,7 +49,7 @@ fn list_cascade(left: &[u8], right: &[u8], bytes: &[u8], out: &mut [u8]) -> List
     );
     match made {
         Ok(len) => listing::list_into(&table[..len as usize], out),
-        Err(refusal) => listing::refuse_into(refusal, out),
+        Err(refusal) => listing::put_refusal(refusal, out),
     }
 }
 

@@ -12,7 +12,7 @@ use Rattle.std.proofs.lemmas.Option.{IfSome_then}
 use Rattle.wire.specs.Bytes.{cleared}
 use Rattle.transducer.specs.declared.Final.{Final}
 use Rattle.transducer.specs.Answer.{Written, Refusal, written}
-use Rattle.std.specs.Prelude.{Result, Ok, Err}
+use Rattle.std.specs.Prelude.{Result, is_ok}
 use Rattle.transducer.specs.Format.{arcs_at, max_arcs, max_bytes, max_origins, max_states, Transducer, Good, refusal, decode}
 use Rattle.transducer.specs.Encode.{head_record, final_records, encode}
 use Rattle.transducer.specs.Each.{has_no_any_input, any_refusal}
@@ -24,7 +24,7 @@ use Rattle.explore.specs.Explore.{built_refusal}
 use Rattle.explore.specs.Walk.{WalkTold, FinalsStored, RefusedWith}
 use Rattle.explore.proofs.EncodeStored.{filled_front}
 use Rattle.explore.proofs.ExploredKeys.{Keying}
-use Rattle.explore.proofs.PutFinals.{finals_count, finals_good, finals_overflow}
+use Rattle.explore.proofs.PutFinals.{finals_good, finals_overflow}
 use Rattle.explore.proofs.LeftBehind.{built_late, early_keeps, late_keeps, says_kept, says_zeroed, behind_written, behind_same}
 use Rattle.explore.proofs.WalkTold.{
   told_11,
@@ -192,9 +192,10 @@ module _ (left right : List ℕ) (tg : Good (decode left)) (ug : Good (decode ri
             (λ x h. pack_final t u ls rs lby rby x (within_bounded t u tg ug x h))
             (λ x h e. pack_weight t u ls rs lby rby tg ug x (within_bounded t u tg ug x h) e)
 
-        module _ (f : Result ℕ Refusal) (t1 : List ℕ) (put : FinalsStored (key_finals ls rs (take w.states states)) f table t1) where
-          finals_put : FinalsStored z.finals f table t1
-          finals_put = subst (λ (fs : List Final). FinalsStored fs f table t1) finals_are put
+        module _ {A : Type 0} (finals : ℕ) (f : Result A Refusal) (t1 : List ℕ)
+            (put : FinalsStored (key_finals ls rs (take w.states states)) finals f table t1) where
+          finals_put : FinalsStored z.finals finals f table t1
+          finals_put = subst (λ (fs : List Final). FinalsStored fs finals f table t1) finals_are put
 
           pub finals_kept : length t1 ≡ length table
           finals_kept = ap length finals_put.stored ∙ length-sets table 12 (final_records z.finals)
@@ -205,47 +206,43 @@ module _ (left right : List ℕ) (tg : Good (decode left)) (ug : Good (decode ri
           says_13_arcs r a' b' c' overflow z' =
               says_13 r t1 a' b' c' (told_13_arcs keying (final_state t u) (state_weight t u) told few_arcs overflow) finals_kept z'
 
-          pub says_13_finals : (r : Written) (a' b' c' : List ℕ) (e : Refusal) → f ≡ Err e → RefusedWith 13 r t1 a' origins b' states c'
+          pub says_13_finals : (r : Written) (a' b' c' : List ℕ) → is_ok f ≡ false → RefusedWith 13 r t1 a' origins b' states c'
               → Says r table a' origins b' states c'
           unfolding composed
-          says_13_finals r a' b' c' e is z' =
+          says_13_finals r a' b' c' is z' =
               says_13 r t1 a' b' c'
-              (told_13_finals keying (final_state t u) (state_weight t u) told few_arcs (finals_overflow finals_put e is)) finals_kept z'
+              (told_13_finals keying (final_state t u) (state_weight t u) told few_arcs (finals_overflow finals_put is)) finals_kept z'
 
-          module _ (finals : ℕ) (is : f ≡ Ok finals) where
-            count_is : finals ≡ length z.finals
-            count_is = finals_count finals_put finals is
+          pub writable : Writable w finals
+          unfolding composed
+          writable =
+              record {
+                finals_fit = omega (arith, finals_put.count_is, told_finals keying (final_state t u) (state_weight t u) told);
+                states = omega (arith, told.states_are, told.few);
+                arcs = few_arcs;
+              }
 
-            pub writable : Writable w finals
-            unfolding composed
-            writable =
-                record {
-                  finals_fit = omega (arith, count_is, told_finals keying (final_state t u) (state_weight t u) told);
-                  states = omega (arith, told.states_are, told.few);
-                  arcs = few_arcs;
-                }
-
-            pub says_written : (from : ℕ) (t2 t3 t4 o1 s1 : List ℕ) → w.overflow ≡ 0 → max_bytes ≤ length table
-                → drop from table ≡ held → arcs_at finals ≤ from
-                → t2 ≡ sets t1 (arcs_at finals) (take (16 * w.arcs) (drop from t1))
-                → t3 ≡ sets t2 0 (head_record w.states w.arcs finals 0)
-                → t4 ≡ cleared (arcs_at finals + 16 * w.arcs) t3
-                → o1 ≡ cleared (2 * w.arcs) origins → s1 ≡ cleared 0 states
-                → Says (record { refusal = 0; len = arcs_at finals + 16 * w.arcs }) table t4 origins o1 states s1
-            unfolding composed unless origin_pairs
-            says_written from t2 t3 t4 o1 s1 cheap room lent front moved headed clear8 clear16 clear32 =
-                let fits = writable in
-                let no : built_refusal z ≡ 0 =
-                told_0 keying (final_state t u) (state_weight t u) told few_arcs cheap (finals_good finals_put finals is) in
-                record {
-                  refusal_is = sym no;
-                  len_is = rw no (sym (length_written keying (final_state t u) (state_weight t u) told few_arcs finals count_is));
-                  table =
-                      table_written keying (final_state t u) (state_weight t u) told few_arcs table from lent (omega (arith, count_is)) finals
-                      t1 t2 t3 t4 count_is (omega (arith, fits.finals_fit, fits.arcs)) finals_put.stored moved headed clear8
-                      ∙ sym (behind_written table (encode z) (built_refusal z) no);
-                  origins =
-                      origins_written keying (final_state t u) (state_weight t u) told few_arcs two_origins o1 clear16
-                      ∙ sym (behind_written origins (origin_pairs (composed t u).steps) (built_refusal z) no);
-                  work = filled_front [] states s1 0 refl refl clear32 ∙ sym (behind_written states [] (built_refusal z) no);
-                }
+          pub says_written : (from : ℕ) (t2 t3 t4 o1 s1 : List ℕ) → w.overflow ≡ 0 → is_ok f ≡ true → max_bytes ≤ length table
+              → drop from table ≡ held → arcs_at finals ≤ from
+              → t2 ≡ sets t1 (arcs_at finals) (take (16 * w.arcs) (drop from t1))
+              → t3 ≡ sets t2 0 (head_record w.states w.arcs finals 0)
+              → t4 ≡ cleared (arcs_at finals + 16 * w.arcs) t3
+              → o1 ≡ cleared (2 * w.arcs) origins → s1 ≡ cleared 0 states
+              → Says (record { refusal = 0; len = arcs_at finals + 16 * w.arcs }) table t4 origins o1 states s1
+          unfolding composed unless origin_pairs
+          says_written from t2 t3 t4 o1 s1 cheap light room lent front moved headed clear8 clear16 clear32 =
+              let fits = writable in
+              let no : built_refusal z ≡ 0 =
+              told_0 keying (final_state t u) (state_weight t u) told few_arcs cheap (finals_good finals_put light) in
+              record {
+                refusal_is = sym no;
+                len_is = rw no (sym (length_written keying (final_state t u) (state_weight t u) told few_arcs finals finals_put.count_is));
+                table =
+                    table_written keying (final_state t u) (state_weight t u) told few_arcs table from lent (omega (arith, finals_put.count_is)) finals
+                    t1 t2 t3 t4 finals_put.count_is (omega (arith, fits.finals_fit, fits.arcs)) finals_put.stored moved headed clear8
+                    ∙ sym (behind_written table (encode z) (built_refusal z) no);
+                origins =
+                    origins_written keying (final_state t u) (state_weight t u) told few_arcs two_origins o1 clear16
+                    ∙ sym (behind_written origins (origin_pairs (composed t u).steps) (built_refusal z) no);
+                work = filled_front [] states s1 0 refl refl clear32 ∙ sym (behind_written states [] (built_refusal z) no);
+              }

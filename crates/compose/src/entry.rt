@@ -338,10 +338,11 @@ fn write_out(
 {
     let count = w.states;
     let arcs = w.arcs;
-    let finals = match finish::put_finals(lcodes, rcodes, states, count, table) {
-        Ok(finals) if w.overflow == 0 => finals,
+    let (finals, answer) = finish::put_finals(lcodes, rcodes, states, count, table);
+    match answer {
+        Ok(()) if w.overflow == 0 => {}
         _ => return Some(explore::refuse(table, origins, states, Refusal::Sums)),
-    };
+    }
     if room < finals {
         return None;
     }

@@ -5,7 +5,7 @@ ghost use Rattle.compose.specs.Finished.{key_finals, Finishable};
 
 use transducer::{FINAL_BYTES, Final, HEAD_BYTES, MAX_STATES, Refusal};
 
-// Writes the finals of `count` states, in order, behind the head, and answers how many they are, or that a weight is out of range.
+// Writes the finals of `count` states, in order, behind the head, and answers how many they are, and whether a weight is out of range.
 // Lattice, trim and codec write other finals of other states; what they share is `put_final`.
 pub fn put_finals(
     lcodes: &[u32; MAX_STATES],
@@ -13,13 +13,13 @@ pub fn put_finals(
     states: &[u32],
     count: usize,
     table: &mut [u8],
-) -> Result<usize, Refusal>
+) -> (usize, Result<(), Refusal>)
     requires { Finishable lcodes.now rcodes.now states.now count table.old }
-    ensures { FinalsStored (key_finals lcodes.now rcodes.now (take count states.now)) result
+    ensures { FinalsStored (key_finals lcodes.now rcodes.now (take count states.now)) result.0 result.1
         table.old table.new }
 {
     let mut finals = 0;
-    // `FinalsStored` has all finals written in both answers, so a weight out of range is kept until the loop ends.
+    // `FinalsStored` has all finals written and counted in both answers, so a weight out of range is kept until the loop ends.
     let mut overflow = false;
     for s in 0..count {
         let x = steps::unpack(states[s]);
@@ -37,7 +37,7 @@ pub fn put_finals(
         }
     }
     if overflow {
-        return Err(Refusal::Sums);
+        return (finals, Err(Refusal::Sums));
     }
-    Ok(finals)
+    (finals, Ok(()))
 }

@@ -1,7 +1,7 @@
 -- The finals of stored keys written one behind the other: what stands after one key more. Assumes nothing.
 use mathlib.Core.Path.{◌≡◌, refl, sym, ap, ◌∙◌}
 use mathlib.Core.Bool.{Bool, true, false, ◌||◌, not}
-use Rattle.std.specs.Prelude.{Result, Ok, Err, cond}
+use Rattle.std.specs.Prelude.{Result, is_ok}
 use mathlib.Core.List.{List, [], ◌∷◌, ◌++◌, append-nil}
 use Prim.Native.Nat.{ℕ, suc, ◌+◌, ◌*◌, ◌≤◌, ◌<◌}
 use native.Mathlib.Numerals.{add-one}
@@ -31,24 +31,12 @@ pub record Finishing (final : ℕ → Bool) (weight : ℕ → Weight) (states : 
   pub stored : table ≡ sets table₀ 12 (final_records (finals_from final weight 0 (take s states)))
 
 -- What an answer tells of the finals that it was given for.
+module _ {A : Type 0} {fs : List Final} {count : ℕ} {r : Result A Refusal} {table table' : List ℕ} (put : FinalsStored fs count r table table') where
+  pub finals_good : is_ok r ≡ true → not (every (λ f. weight_good f.weight) fs) ≡ false
+  finals_good is = rw (sym put.light ∙ is) refl
 
-ok_only : (b : Bool) (k n : ℕ) (e : Refusal) → Ok n ≡ cond b (Ok k) (Err e) → (n ≡ k) × (not b ≡ false)
-ok_only true k n e is = (cc, refl)
-ok_only false k n e is = cc
-
-err_only : (b : Bool) (k : ℕ) (d e : Refusal) → Err e ≡ cond b (Ok k) (Err d) → not b ≡ true
-err_only true k d e is = cc
-err_only false k d e is = refl
-
-module _ {fs : List Final} {r : Result ℕ Refusal} {table table' : List ℕ} (put : FinalsStored fs r table table') where
-  pub finals_count : (n : ℕ) → r ≡ Ok n → n ≡ length fs
-  finals_count n is = (ok_only (every (λ f. weight_good f.weight) fs) _ _ _ (sym is ∙ put.answer)).0
-
-  pub finals_good : (n : ℕ) → r ≡ Ok n → not (every (λ f. weight_good f.weight) fs) ≡ false
-  finals_good n is = (ok_only (every (λ f. weight_good f.weight) fs) _ _ _ (sym is ∙ put.answer)).1
-
-  pub finals_overflow : (e : Refusal) → r ≡ Err e → not (every (λ f. weight_good f.weight) fs) ≡ true
-  finals_overflow e is = err_only (every (λ f. weight_good f.weight) fs) _ _ _ (sym is ∙ put.answer)
+  pub finals_overflow : is_ok r ≡ false → not (every (λ f. weight_good f.weight) fs) ≡ true
+  finals_overflow is = rw (sym put.light ∙ is) refl
 
 module _ (final : ℕ → Bool) (weight : ℕ → Weight) (states : List ℕ) where
   pub finishing_first : (count : ℕ) (table : List ℕ) → Finishing final weight states count table table 0 false 0

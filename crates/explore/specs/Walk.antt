@@ -1,6 +1,6 @@
 -- The walk from a first state by keys: states stand as numbers, and arcs as they are written, with their origins; over any function that
 -- gives the steps of a key. Assumes nothing: these are definitions.
-use Rattle.std.specs.Prelude.{◌≡◌, Bool, false, ◌||◌, not, cond, Result, Ok, Err, List, [], ◌∷◌, ◌++◌, ℕ, zero, suc, ◌+◌, ◌*◌, ◌≤◌, ◌<◌, min, ltb, leb, eqb, length, get_or, take}
+use Rattle.std.specs.Prelude.{◌≡◌, Bool, false, ◌||◌, not, cond, Result, is_ok, IsOkUnless, List, [], ◌∷◌, ◌++◌, ℕ, zero, suc, ◌+◌, ◌*◌, ◌≤◌, ◌<◌, min, ltb, leb, eqb, length, get_or, take}
 use Rattle.std.proofs.lemmas.List.Edits.{sets}
 use Rattle.wire.specs.Bytes.{every, filled}
 use Rattle.transducer.specs.declared.Arc.{Arc}
@@ -146,9 +146,11 @@ pub record WalkSays (width : ℕ) (b : Sofar) (w : Walk) (table table' origins o
   pub origins_kept : length origins' ≡ length origins
   pub states_kept : length states' ≡ length states
 
--- Some finals, written from 12 on, and the answer: how many they are, or 13 if a weight is out of range.
-pub record FinalsStored (fs : List Final) (r : Result ℕ Refusal) (table table' : List ℕ) : Type 0 where
-  pub answer : r ≡ cond (every (λ f. weight_good f.weight) fs) (Ok (length fs)) (Err Refusal.Sums)
+-- Some finals, written from 12 on, how many they are, and the answer: 13 if a weight is out of range.
+pub record FinalsStored {A : Type 0} (fs : List Final) (count : ℕ) (r : Result A Refusal) (table table' : List ℕ) : Type 0 where
+  pub count_is : count ≡ length fs
+  pub light : is_ok r ≡ every (λ f. weight_good f.weight) fs
+  pub refused : IsOkUnless r Refusal.Sums
   pub stored : table' ≡ sets table head_bytes (final_records fs)
 
 -- Each of three buffers is all zeros.

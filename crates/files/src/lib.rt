@@ -37,7 +37,9 @@ pub fn read_full<R: Read>(input: &mut R, bytes: &mut [u8]) -> usize
 }
 
 // Reads a file from its start into `bytes`, and gives what of them it filled; a missing file counts as empty.
-fn load<'a>(rt: &impl Files, path: &str, bytes: &'a mut [u8]) -> &'a [u8] {
+fn load<'a>(rt: &impl Files, path: &str, bytes: &'a mut [u8]) -> &'a [u8]
+    ensures { length result.now ≤ length bytes.entry.now }
+{
     let count = match fs::open(rt, path) {
         Ok(mut file) => read_full(&mut file, bytes),
         Err(_) => 0,

@@ -18,7 +18,7 @@ fn list_applied(table: &[u8], bytes: &[u8], out: &mut [u8]) -> Listing
         (applied_text (decode table.now) bytes.now) }
 {
     if bytes.len() % 2 != 0 {
-        return lines::refuse_into(Refusal::Symbols, out);
+        return lines::put_refusal(Refusal::Symbols, out);
     }
     let mut string = [0u16; code::MOST_LOADED];
     let count = code::load_labels(bytes, &mut string);
@@ -34,7 +34,7 @@ fn list_applied(table: &[u8], bytes: &[u8], out: &mut [u8]) -> Listing
     );
     match applied {
         Ok(len) => lines::list_into(&lattice[..len as usize], out),
-        Err(refusal) => lines::refuse_into(refusal, out),
+        Err(refusal) => lines::put_refusal(refusal, out),
     }
 }
 
@@ -51,7 +51,7 @@ fn list_composed(left: &[u8], right: &[u8], bytes: &[u8], out: &mut [u8]) -> Lis
     let composed = compose::compose(left, right, &mut table, &mut origins, &mut states);
     match composed {
         Ok(len) => list_applied(&table[..len as usize], bytes, out),
-        Err(refusal) => lines::refuse_into(refusal, out),
+        Err(refusal) => lines::put_refusal(refusal, out),
     }
 }
 

@@ -8,7 +8,7 @@ mod text;
 
 pub use code::{MOST_LOADED, load_labels};
 pub use entry::{LEAST_ROOM, listing as list};
-pub use lines::{list_into, put_refused, refuse_into};
+pub use lines::{list_into, put_refusal, refuse_into};
 use transducer::Refusal;
 
 // How long the text of a listing is, and the refusal that it says, if it says one and lists nothing.

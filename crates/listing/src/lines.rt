@@ -127,8 +127,7 @@ pub fn list_into(table: &[u8], out: &mut [u8]) -> Listing
 }
 
 // Says a refusal by its number, whatever number it is: its text from the front of `out`, zeros behind. Returns the length of the text.
-// It takes any number, as the call did before there was an enum of refusals.
-pub fn put_refused(number: u32, out: &mut [u8]) -> u32
+pub fn refuse_into(number: u32, out: &mut [u8]) -> u32
     requires { least_room ≤ length out.old }
     ensures { Whole out.old out.new (record { refusal = 0; len = result; said = number }) number (refused_text number) }
 {
@@ -140,11 +139,11 @@ pub fn put_refused(number: u32, out: &mut [u8]) -> u32
 }
 
 // Says a refusal: its text from the front of `out`, zeros behind.
-pub fn refuse_into(refusal: Refusal, out: &mut [u8]) -> Listing
+pub fn put_refusal(refusal: Refusal, out: &mut [u8]) -> Listing
     requires { least_room ≤ length out.old }
     ensures { Whole out.old out.new (listed_of result) (number refusal) (refused_text (number refusal)) }
 {
-    let len = put_refused(refusal.number(), out);
+    let len = refuse_into(refusal.number(), out);
     Listing {
         len,
         said: Some(refusal),

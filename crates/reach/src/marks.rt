@@ -1,5 +1,5 @@
 // The accessible and the coaccessible states: marks from the start, and back from the final states.
-ghost use Rattle.std.specs.Prelude.{◌≡◌, true, length, MatchOption};
+ghost use Rattle.std.specs.Prelude.{◌≡◌, true, length};
 ghost use Rattle.transducer.specs.Format.{max_states, refusal, decode, head_finals};
 ghost use Rattle.transducer.specs.Path.{is_final};
 ghost use Rattle.transducer.specs.Accepted.{AcceptedAt};
@@ -10,28 +10,23 @@ ghost use Rattle.reach.specs.Stack.{Chained};
 use crate::{stack, sweep};
 use transducer::{FINAL_BYTES, HEAD_BYTES, MAX_ARCS, MAX_STATES};
 
-// Spreads marks until no more are to come: one sweep is enough where few arcs lead to lower states, and needs no chains. What a sweep leaves is spread
-// along `chains`, or along chains made for it where none are given.
+// Spreads marks until no more are to come: one sweep is enough where few arcs lead to lower states, and needs no chains.
 fn settle(
     table: &[u8],
     first: usize,
     states: usize,
     arcs: usize,
     back: bool,
-    chains: Option<(&[u32; MAX_STATES], &[u32; MAX_ARCS])>,
     marks: &mut [bool; MAX_STATES],
 )
     requires { AcceptedAt table.now first × (states ≡ (decode table.now).states) × (arcs ≡ length (decode table.now).arcs)
-        × MatchOption chains (Unit {0}) (λ c. Chained (decode table.now) back c.0.now c.1.now) × (length marks.old ≡ max_states) }
+        × (length marks.old ≡ max_states) }
     ensures { Closure (decode table.now) back marks.old marks.new }
 {
     if !sweep::sweep(table, first, arcs, back, marks) {
         return;
     }
-    match chains {
-        Some((heads, next)) => stack::spread_chained(table, states, back, heads, next, marks),
-        None => stack::spread_all(table, first, states, arcs, back, marks),
-    }
+    stack::spread_all(table, first, states, arcs, back, marks);
 }
 
 // The accessible states.
@@ -48,7 +43,7 @@ pub fn accessible(
 {
     let mut marks = [false; MAX_STATES];
     marks[start] = true;
-    settle(table, first, states, arcs, false, None, &mut marks);
+    settle(table, first, states, arcs, false, &mut marks);
     marks
 }
 
@@ -78,12 +73,13 @@ pub fn coaccessible(
     ensures { Marked (coaccessible (decode table.now).states (decode table.now)) result }
 {
     let mut marks = final_marks(table, finals);
-    settle(table, first, states, arcs, true, None, &mut marks);
+    settle(table, first, states, arcs, true, &mut marks);
     marks
 }
 
 // The coaccessible states, the arcs standing in chains by their targets.
-// Counting has chains to give, and trimming has none.
+// Counting has chains to give, and trimming has none. It does not go through `settle`, whose frame has room for chains of its own: counting would need half as
+// much stack again.
 pub fn coaccessible_chained(
     table: &[u8],
     first: usize,
@@ -98,14 +94,9 @@ pub fn coaccessible_chained(
     ensures { Marked (coaccessible (decode table.now).states (decode table.now)) result }
 {
     let mut marks = final_marks(table, finals);
-    settle(
-        table,
-        first,
-        states,
-        arcs,
-        true,
-        Some((heads, next)),
-        &mut marks,
-    );
+    if !sweep::sweep(table, first, arcs, true, &mut marks) {
+        return marks;
+    }
+    stack::spread_chained(table, states, true, heads, next, &mut marks);
     marks
 }

@@ -35,23 +35,27 @@ pub fn i32_at(bytes: &[u8], at: usize) -> i32
     u32_at(bytes, at).cast_signed()
 }
 
-// Stores a number in the two bytes from `at`.
+// Stores a number in the two bytes from `at`, by a shift and a mask: the library's `to_le_bytes` divides, and no arc may be divided for.
 #[tactic(auto, unfolding(crate::specs::Bytes::low))]
 pub fn put_u16(out: &mut [u8], at: usize, value: u16)
     requires { at + 1 < length out.old }
     ensures { out.new ≡ sets out.old at (low 2 value) }
 {
-    out[at..at + 2].copy_from_slice(&value.to_le_bytes());
+    out[at..at + 2].copy_from_slice(&[(value & 255) as u8, (value >> 8) as u8]);
 }
 
-// Stores a number in the four bytes from `at`.
-// `to_le_bytes` is a method of each type and no trait has it, so that one generic function would need a trait of its own.
-#[tactic(auto, using(crate::proofs::Low::low_is_bytes))]
+// Stores a number in the four bytes from `at`, by shifts and masks too.
+// Shifts are operators of each type and no trait has them, so that one generic function would need a trait of its own.
 pub fn put_u32(out: &mut [u8], at: usize, value: u32)
     requires { at + 3 < length out.old }
     ensures { out.new ≡ sets out.old at (low 4 value) }
 {
-    out[at..at + 4].copy_from_slice(&value.to_le_bytes());
+    out[at..at + 4].copy_from_slice(&[
+        (value & 255) as u8,
+        ((value >> 8) & 255) as u8,
+        ((value >> 16) & 255) as u8,
+        (value >> 24) as u8,
+    ]);
 }
 
 // Stores a signed number in the four bytes from `at`.

@@ -70,4 +70,4 @@ returns-in-Err c =
     let left : Bytes x.left.now = λ i. (c.type_inv.left i).fits in
     let right : Bytes x.right.now = λ i. (c.type_inv.right i).fits in
     call_refused (calling x.left.now x.right.now x.bytes.now _ left right c.if-bytes-ne0.false c.load_labels-count.ensures.labels c.in-Err.ensures)
-    (number_some c.in-Err.refusal) c.refuse_into.ensures
+    (number_some c.in-Err.refusal) c.put_refusal.ensures

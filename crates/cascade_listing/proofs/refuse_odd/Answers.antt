@@ -6,9 +6,9 @@ use Rattle.cascade_listing.proofs.Steps.{tables_first, nine_last}
 use Rattle.cascade_listing.proofs.refuse_odd.Goals as goal
 
 pub returns-in-Ok : goal.returns-in-Ok
-returns-in-Ok c = nine_last (tables_refusal c.args.left.now c.args.right.now) c.in-Ok.ensures c.refuse_into.ensures
+returns-in-Ok c = nine_last (tables_refusal c.args.left.now c.args.right.now) c.in-Ok.ensures c.put_refusal.ensures
 
 pub returns-in-Err : goal.returns-in-Err
 returns-in-Err c =
     let e = c.in-Err.refusal in
-    tables_first (tables_refusal c.args.left.now c.args.right.now) (number e) c.in-Err.ensures (number_some e) c.refuse_into-in-Err.ensures
+    tables_first (tables_refusal c.args.left.now c.args.right.now) (number e) c.in-Err.ensures (number_some e) c.put_refusal-in-Err.ensures

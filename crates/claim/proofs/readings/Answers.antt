@@ -64,20 +64,16 @@ count_string-requires c =
       pairs_long = omega (arith, length-replicate {A = ℕ} max_states 0);
     }
 
-pub returns-in_err-counted : goal.returns-in_err-counted
-returns-in_err-counted c =
+pub returns-in-Ok : goal.returns-in-Ok
+returns-in-Ok c =
     let x = c.args in
     let left : Bytes x.left.now = λ i. (c.type_inv.left i).fits in
     let right : Bytes x.right.now = λ i. (c.type_inv.right i).fits in
-    let e = c.in_err-counted.field-0.0 in
-    let is : c.from_residual-in_err-counted.result ≡ Err e = search rules in
-    let says : ReadingsSays x.left.now x.right.now x.string.now (counted (Err e)) =
-    says_counted left right (composed x.left.now x.right.now c.in_ok-size.ensures) refl c.in_err-counted.ensures in
-    rw is says
+    says_counted left right (composed x.left.now x.right.now c.in_ok-size.ensures) refl c.in-Ok.ensures
 
-pub returns : goal.returns
-returns c =
+pub returns-in-Err : goal.returns-in-Err
+returns-in-Err c =
     let x = c.args in
     let left : Bytes x.left.now = λ i. (c.type_inv.left i).fits in
     let right : Bytes x.right.now = λ i. (c.type_inv.right i).fits in
-    says_counted left right (composed x.left.now x.right.now c.in_ok-size.ensures) refl c.in_ok-counted.ensures
+    says_counted left right (composed x.left.now x.right.now c.in_ok-size.ensures) refl c.in-Err.ensures

@@ -7,7 +7,7 @@ use Rattle.listing.proofs.Steps.{odd_refused, applying, apply_refused, lattice_f
 use Rattle.listing.proofs.entry.list_applied.Goals as goal
 
 pub returns-then-bytes-ne0 : goal.returns-then-bytes-ne0
-returns-then-bytes-ne0 c = odd_refused (decode c.args.table.now) c.args.bytes.now c.if-bytes-ne0.true c.refuse_into.ensures
+returns-then-bytes-ne0 c = odd_refused (decode c.args.table.now) c.args.bytes.now c.if-bytes-ne0.true c.put_refusal.ensures
 
 pub slice_bounds-lattice-end : goal.slice_bounds-lattice-end
 slice_bounds-lattice-end c =
@@ -31,4 +31,4 @@ returns-in-Ok c =
 pub returns-in-Err : goal.returns-in-Err
 returns-in-Err c =
     apply_refused (applying c.type_inv.table c.requires.0 c.if-bytes-ne0.false c.load_labels-count.ensures.labels c.in-Err.ensures)
-    (number_some c.in-Err.refusal) c.refuse_into-in-Err.ensures
+    (number_some c.in-Err.refusal) c.put_refusal-in-Err.ensures

@@ -21,4 +21,4 @@ returns-in-Ok c = table_listed c.args.bytes.now (composing c.type_inv.left c.typ
 
 pub returns-in-Err : goal.returns-in-Err
 returns-in-Err c =
-    compose_refused c.args.bytes.now (composing c.type_inv.left c.type_inv.right c.in-Err.ensures) (number_some c.in-Err.refusal) c.refuse_into.ensures
+    compose_refused c.args.bytes.now (composing c.type_inv.left c.type_inv.right c.in-Err.ensures) (number_some c.in-Err.refusal) c.put_refusal.ensures

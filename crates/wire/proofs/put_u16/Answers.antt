@@ -1,0 +1,10 @@
+use Rattle.std.proofs.Common.{◌+◌, ◌-◌, ◌/◌, List, ℕ, [], ◌∷◌, bit_and, rules, arith}
+use Rattle.wire.proofs.Low.{low_two_masked, put_mid_sets}
+use Rattle.wire.proofs.put_u16.Goals as goal
+
+pub returns : goal.returns
+returns c =
+    let v = c.args.value in
+    let bytes : List ℕ = bit_and v 255 ∷ v / 256 ∷ [] in
+    rw (low_two_masked v (omega (arith, c.ranges.value)))
+    (put_mid_sets c.args.at (c.args.at + 2 - c.args.at) c.args.out.now c.copy_from_slice.new.self bytes (omega arith) (omega arith) (search rules))
