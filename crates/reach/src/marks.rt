@@ -77,9 +77,29 @@ pub fn coaccessible(
     marks
 }
 
+// Spreads marks back as `settle` does, the arcs standing in chains by their targets.
+// Tried as one function with `settle`, whose chains were an Option: its frame has room for chains of its own, and counting took half as much stack again.
+fn settle_chained(
+    table: &[u8],
+    first: usize,
+    states: usize,
+    arcs: usize,
+    heads: &[u32; MAX_STATES],
+    next: &[u32; MAX_ARCS],
+    marks: &mut [bool; MAX_STATES],
+)
+    requires { AcceptedAt table.now first × (states ≡ (decode table.now).states) × (arcs ≡ length (decode table.now).arcs)
+        × Chained (decode table.now) true heads.now next.now × (length marks.old ≡ max_states) }
+    ensures { Closure (decode table.now) true marks.old marks.new }
+{
+    if !sweep::sweep(table, first, arcs, true, marks) {
+        return;
+    }
+    stack::spread_chained(table, states, true, heads, next, marks);
+}
+
 // The coaccessible states, the arcs standing in chains by their targets.
-// Counting has chains to give, and trimming has none. It does not go through `settle`, whose frame has room for chains of its own: counting would need half as
-// much stack again.
+// Counting has chains to give, and trimming has none.
 pub fn coaccessible_chained(
     table: &[u8],
     first: usize,
@@ -94,9 +114,6 @@ pub fn coaccessible_chained(
     ensures { Marked (coaccessible (decode table.now).states (decode table.now)) result }
 {
     let mut marks = final_marks(table, finals);
-    if !sweep::sweep(table, first, arcs, true, &mut marks) {
-        return marks;
-    }
-    stack::spread_chained(table, states, true, heads, next, &mut marks);
+    settle_chained(table, first, states, arcs, heads, next, &mut marks);
     marks
 }
