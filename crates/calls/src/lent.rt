@@ -17,7 +17,8 @@ pub const DIRTY_COST: i64 = 6510615555426900570;
 // At this room each buffer is lent at its least length; at a buffer's number that one is one short; otherwise all is lent.
 const EXACT: u8 = 9;
 
-// What is lent of a buffer: a front of it, and all of one that has no cells behind its least length. The cases of crates/limits/stdin name the short one by a byte, which may not change, so that buffers have numbers here.
+// What is lent of a buffer: a front of it, and all of a buffer of at most `SPARE` cells. The cases of crates/limits/stdin name the short buffer by a byte,
+// which may not change, so that buffers have numbers here.
 pub fn lend<T>(room: u8, buffer: u8, all: &mut [T]) -> &mut [T]
     ensures within { length result.now ≤ length all.entry.now }
     ensures front { result.now ≡ take (length result.now) all.entry.now }

@@ -19,7 +19,7 @@ pub fn readings(left: &[u8], right: &[u8], string: &[u16]) -> Result<u32, Refusa
     let mut lattice = [0u8; transducer::MAX_BYTES];
     let mut arcs = [0u16; transducer::MAX_ARCS];
     let mut pairs = [0u32; transducer::MAX_STATES];
-    // A match and no `?`, so that a must-fail edit can turn what is answered where the string is refused.
+    // It is a match and no `?`, so that a must-fail edit can turn what is answered if the string is refused.
     match lookup::count_string(
         string,
         &table[..size],

@@ -6,7 +6,7 @@ use native.Mathlib.Omega.{arith}
 use lib.ListN.{length, get_or, set, take, drop, length-drop, take-append-drop}
 use lib.Seq.{sets, sets-eq, drop-set-lt, drop-drop, get_or-drop, take-add, take-suc, take-suc-set, length-take-le}
 use borrow.Rule.Slice.PartMut.{put_mid}
-use Rattle.wire.proofs.Places.{sets_append}
+use Rattle.wire.proofs.Places.{sets_append, put_mid_sets}
 
 -- Stores before a place change nothing from that place on.
 pub drop_sets_before : (n : ℕ) (l : List ℕ) (i : ℕ) (vs : List ℕ) → i + length vs ≤ n → drop n (sets l i vs) ≡ drop n l
@@ -28,7 +28,7 @@ pub record_moved : (table bytes : List ℕ) (from to n k : ℕ) → from + n ≤
     → put_mid to k table bytes ≡ sets table to (take n (drop from table))
 record_moved table bytes from to n k read write same is =
     let many : length (take n (drop from table)) ≡ n = length-take-le n (drop from table) (omega (arith, length-drop from table)) in
-    rw (is, same, sets-eq (take n (drop from table)) table to (omega (arith, many)), many, drop-drop n to table, append_assoc (take to table))
+    put_mid_sets to k table bytes (take n (drop from table)) (omega (arith, many)) (same ∙ sym many) is
 
 -- One record more is moved.
 pub moved_next : (table₀ table table' : List ℕ) (from first j : ℕ) → first ≤ from → from + 16 * suc j ≤ length table₀

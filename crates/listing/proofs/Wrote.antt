@@ -1,14 +1,13 @@
 -- Texts written one behind the other. Assumes nothing.
 use mathlib.Core.Path.{◌≡◌, refl, sym, ◌∙◌}
-use mathlib.Core.List.{List, [], ◌++◌, append_assoc}
+use mathlib.Core.List.{List, [], ◌++◌}
 use Prim.Native.Nat.{ℕ, ◌+◌, ◌≤◌}
 use native.Mathlib.Omega.{arith}
 use lib.ListN.{length, length-append}
 use lib.Seq.{sets-eq}
 use borrow.Rule.Slice.PartMut.{put_mid}
-use Rattle.std.proofs.lemmas.List.{drop-drop}
 use Rattle.wire.specs.Bytes.{cleared, filled}
-use Rattle.wire.proofs.Places.{sets_append, cleared_front}
+use Rattle.wire.proofs.Places.{sets_append, put_mid_sets, cleared_front}
 use Rattle.listing.specs.Text.{least_room, Wrote, Whole}
 
 pub wrote_none : (out : List ℕ) (at : ℕ) → Wrote out out at at []
@@ -24,7 +23,7 @@ wrote_then {a} {b} {c} {at} {mid} {end} {xs} {ys} p q =
 -- A text copied to a part of what it is written in.
 pub wrote_part : (out text part : List ℕ) (at n : ℕ) → at + length text ≤ length out → part ≡ text → n ≡ length text
     → Wrote out (put_mid at n out part) at (at + length text) text
-wrote_part out text part at n fits same long = record { ends = refl; bytes = rw (same, long, sets-eq text out at fits, drop-drop (length text) at out, append_assoc) }
+wrote_part out text part at n fits same long = record { ends = refl; bytes = put_mid_sets at n out part text fits long same }
 
 -- A text at the front with zeros behind.
 wrote_front : {a b : List ℕ} {end : ℕ} {xs : List ℕ} → Wrote a b 0 end xs → length xs ≤ length a → cleared end b ≡ filled (length a) xs

@@ -10,7 +10,8 @@ ghost use Rattle.reach.specs.Stack.{Chained};
 use crate::{stack, sweep};
 use transducer::{FINAL_BYTES, HEAD_BYTES, MAX_ARCS, MAX_STATES};
 
-// Spreads marks until no more are to come: one sweep is enough where few arcs lead to lower states, and needs no chains.
+// Spreads marks until no more are to come: one sweep is enough if few arcs lead to lower states, and needs no chains. What it leaves is spread along chains
+// that are made for it.
 fn settle(
     table: &[u8],
     first: usize,
@@ -77,8 +78,9 @@ pub fn coaccessible(
     marks
 }
 
-// Spreads marks back as `settle` does, the arcs standing in chains by their targets.
-// Tried as one function with `settle`, whose chains were an Option: its frame has room for chains of its own, and counting took half as much stack again.
+// Spreads marks back along the chains that the caller has made of the arcs by their targets, until no more marks are to come.
+// One function for this and `settle`, to which the chains were handed as an Option, was tried: its frame has room for the chains that `settle` makes, even if
+// none are made, and counting then took half as much stack again.
 fn settle_chained(
     table: &[u8],
     first: usize,

@@ -8,9 +8,7 @@ use native.Mathlib.Omega.{arith}
 use lib.Dec.{lit<}
 use lib.ListN.{length, get_or, drop}
 use lib.Bits.{bit_and, and_mask}
-use lib.Seq.{get_or-drop, drop-append_seam, drop-cons, drop-drop}
-use borrow.Rule.Slice.PartMut.{put_mid}
-use Rattle.std.proofs.lemmas.List.Edits.{sets, sets-eq}
+use lib.Seq.{get_or-drop, drop-append_seam, drop-cons}
 use Rattle.std.proofs.Common.{Fits, w8}
 use Rattle.wire.specs.Bytes.{Bytes, two, four, low}
 
@@ -77,7 +75,7 @@ four_low xs ys v h =
     let here : four (drop (length xs) (xs ++ low 4 v ++ ys)) 0 ≡ four (xs ++ low 4 v ++ ys) (length xs + 0) = four_drop (xs ++ low 4 v ++ ys) (length xs) 0 in
     sym (rw add-zero at here) ∙ ap (λ (l : List ℕ). four l 0) rest ∙ four_low_front v ys h
 
--- The bytes that shifts and masks make of a number.
+-- The lowest bytes of a number are what shifts by bytes and masks of 255 make of it.
 pub low_two_masked : (v : ℕ) → v < 65536 → low 2 v ≡ bit_and v 255 ∷ v / 256 ∷ []
 unfolding low
 low_two_masked v h =
@@ -95,11 +93,6 @@ low_four_masked v h =
     let second : bit_and (v / 256) 255 ≡ v / 256 % 256 = and_mask (v / 256) 8 in
     let last : bit_and (v / 65536) 255 ≡ v / 65536 % 256 = and_mask (v / 65536) 8 in
     rw (third, fourth, high, first, second, last)
-
--- Bytes copied to a part of a slice are set there.
-pub put_mid_sets : (at k : ℕ) (out new bytes : List ℕ) → at + length bytes ≤ length out → k ≡ length bytes → new ≡ bytes
-    → put_mid at k out new ≡ sets out at bytes
-put_mid_sets at k out new bytes h e same = rw (sets-eq bytes out at h, append_assoc, drop-drop, e, same)
 
 -- two and four, written back
 

@@ -1,12 +1,13 @@
 -- Laws of `places`, `every`, `sets`, `padded` and `filled`. Assumes nothing.
 use mathlib.Core.Path.{◌≡◌, refl, sym, ap, ◌∙◌}
 use mathlib.Core.Bool.{Bool, true, false, ◌&&◌, ◌||◌, not, and_assoc}
-use mathlib.Core.List.{List, [], ◌∷◌, ◌++◌, map}
+use mathlib.Core.List.{List, [], ◌∷◌, ◌++◌, map, append_assoc}
 use Prim.Native.Nat.{ℕ, zero, suc, ◌+◌, ◌*◌, ◌-◌, ◌≤◌, ◌<◌}
 use native.Mathlib.Nat.{not-suc-le-zero, le_of_suc-le-suc, add-zero, mul-suc, mul-zero}
 use native.Mathlib.Omega.{arith}
 use lib.ListN.{length, get_or, set, take, drop, replicate, length-append, length-replicate, length-drop}
-use lib.Seq.{sets, take_at, take-append_seam}
+use lib.Seq.{sets, sets-eq, take_at, take-append_seam, drop-drop}
+use borrow.Rule.Slice.PartMut.{put_mid}
 use Rattle.wire.specs.Bytes.{places, every, padded, emptied, filled, cleared}
 use Rattle.wire.proofs.Bool.{and-true, true_and}
 
@@ -92,6 +93,10 @@ sets_append l i [] ys = ap (λ (k : ℕ). sets l k ys) (sym (add-zero i))
 sets_append l i (x ∷ xs) ys =
     let e : suc i + length xs ≡ i + suc (length xs) = omega arith in
     sets_append (set l i x) (suc i) xs ys ∙ ap (λ (k : ℕ). sets (sets (set l i x) (suc i) xs) k ys) e
+
+-- If a part of a list is replaced by a list of its length, that list is set there.
+pub put_mid_sets : (at k : ℕ) (out part xs : List ℕ) → at + length xs ≤ length out → k ≡ length xs → part ≡ xs → put_mid at k out part ≡ sets out at xs
+put_mid_sets at k out part xs h e same = rw (sets-eq xs out at h, append_assoc, drop-drop, e, same)
 
 -- padded
 

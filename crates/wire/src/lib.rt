@@ -35,8 +35,8 @@ pub fn i32_at(bytes: &[u8], at: usize) -> i32
     u32_at(bytes, at).cast_signed()
 }
 
-// Stores a number in the two bytes from `at`, by a shift and a mask: the library's `to_le_bytes` divides, and no arc may be divided for.
-#[tactic(auto, unfolding(crate::specs::Bytes::low))]
+// Stores a number in the two bytes from `at`, by a shift and a mask. Composing and applying store each arc by it and are to run without division; the library's
+// `to_le_bytes` divides.
 pub fn put_u16(out: &mut [u8], at: usize, value: u16)
     requires { at + 1 < length out.old }
     ensures { out.new ≡ sets out.old at (low 2 value) }
@@ -44,8 +44,8 @@ pub fn put_u16(out: &mut [u8], at: usize, value: u16)
     out[at..at + 2].copy_from_slice(&[(value & 255) as u8, (value >> 8) as u8]);
 }
 
-// Stores a number in the four bytes from `at`, by shifts and masks too.
-// Shifts are operators of each type and no trait has them, so that one generic function would need a trait of its own.
+// Stores a number in the four bytes from `at`, by shifts and masks for the reason that `put_u16` gives.
+// Each size has its own shifts and its own definition, so that one generic function would be no plainer.
 pub fn put_u32(out: &mut [u8], at: usize, value: u32)
     requires { at + 3 < length out.old }
     ensures { out.new ≡ sets out.old at (low 4 value) }

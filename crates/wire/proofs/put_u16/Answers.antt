@@ -1,5 +1,6 @@
 use Rattle.std.proofs.Common.{◌+◌, ◌-◌, ◌/◌, List, ℕ, [], ◌∷◌, bit_and, rules, arith}
-use Rattle.wire.proofs.Low.{low_two_masked, put_mid_sets}
+use Rattle.wire.proofs.Low.{low_two_masked}
+use Rattle.wire.proofs.Places.{put_mid_sets}
 use Rattle.wire.proofs.put_u16.Goals as goal
 
 pub returns : goal.returns
